@@ -1,0 +1,41 @@
+/// A field of a packet's key, by its name in ovs-fields(7), in the order of the key.
+///
+/// `NwSrc` and `NwDst` also hold the addresses of ARP, `NwProto` its operation, and `TpSrc` and `TpDst` the type
+/// and code of ICMP and ICMPv6.
+#[derive(Clone, Copy, Debug, PartialEq, Eq)]
+pub enum FieldId {
+    InPort,
+    Metadata,
+    Reg0,
+    Reg1,
+    Reg2,
+    Reg3,
+    Reg4,
+    Reg5,
+    Reg6,
+    Reg7,
+    Reg8,
+    Reg9,
+    Reg10,
+    Reg11,
+    Reg12,
+    Reg13,
+    Reg14,
+    Reg15,
+    DlSrc,
+    DlDst,
+    DlType,
+    VlanTci,
+    NwSrc,
+    NwDst,
+    Ipv6Src,
+    Ipv6Dst,
+    NwProto,
+    NwTos,
+    NwTtl,
+    IpFrag,
+    ArpSha,
+    ArpTha,
+    TpSrc,
+    TpDst,
+}

@@ -1,0 +1,13 @@
+//! Rules, edits and versions of the flow tables, after ovs-ofctl(8).
+//!
+//! A *rule* has a match, a priority and actions, and stands in a table. *Edits* add, change and remove rules; version
+//! v of the tables is what the first v edits make of none, and a rule has the number of the edit that added it.
+//!
+//! - `Rules`: matches, rules, and the *winner* of a table for a key: the matching rule of the greatest priority, of
+//!   equal ones that of the least number.
+//! - `Edits`: what each kind of edit does, and the versions.
+#![tactic(auto)]
+
+mod edit_word;
+
+pub use edit_word::EditWord;
