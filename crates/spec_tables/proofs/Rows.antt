@@ -1,0 +1,169 @@
+-- Rows: winners, and the versions that edits make.
+use Rattle.std.proofs.Common.{◌≡◌, ℕ, List, [], ◌∷◌, map, Option, Some, None, refl}
+use Rattle.spec_keys.specs.declared.field_id.FieldId.TheVariants as field
+use Rattle.spec_keys.specs.Keys.{none, masked, same, joined}
+use Rattle.spec_actions.specs.declared.action.OfAction.{OfAction}
+use Rattle.spec_actions.specs.declared.action.OfAction.TheVariants.{Output}
+use Rattle.spec_tables.specs.declared.edit_word.EditWord.{EditWord}
+use Rattle.spec_tables.specs.declared.edit_word.EditWord.TheVariants.{Add, Modify, ModifyStrict, Delete, DeleteStrict}
+use Rattle.spec_tables.specs.Rules.{Rule, rules_in, winner}
+use Rattle.spec_tables.specs.Edits.{Edit, version}
+use Rattle.spec_tables.proofs.Packets.{Stated, is, begins, key_of, mask_of, match_of}
+
+-- ---- winners
+
+abbrev frame : List ℕ
+frame = key_of (is field.InPort 1 ∷ is field.DlSrc 1 ∷ is field.DlDst 2 ∷ is field.DlType 0x88b5 ∷ [])
+
+abbrev rule : ℕ → ℕ → List Stated → Rule
+rule number priority stated = record { number = number; table = 0; priority = priority; cookie = 0; matching = match_of stated; actions = Output number ∷ [] }
+
+-- the number of the rule that wins
+unfoldable won : List Rule → Option ℕ
+unfolding none masked same key_of mask_of winner
+won rules = number (winner rules frame)
+  where
+    number : Option Rule → Option ℕ
+    number None = None
+    number (Some r) = Some r.number
+
+abbrev at_port_1 : ℕ → ℕ → Rule
+at_port_1 number priority = rule number priority (is field.InPort 1 ∷ [])
+
+abbrev to_address_2 : ℕ → ℕ → Rule
+to_address_2 number priority = rule number priority (is field.DlDst 2 ∷ [])
+
+of_equal_priorities_the_least_number_wins :
+    (won (at_port_1 1 5 ∷ to_address_2 2 5 ∷ []) ≡ Some 1) × (won (to_address_2 2 5 ∷ at_port_1 1 5 ∷ []) ≡ Some 1)
+unfolding won
+of_equal_priorities_the_least_number_wins = (refl, refl)
+
+the_greatest_priority_wins :
+    (won (at_port_1 1 5 ∷ to_address_2 2 6 ∷ []) ≡ Some 2) × (won (to_address_2 2 6 ∷ at_port_1 1 5 ∷ []) ≡ Some 2)
+unfolding won
+the_greatest_priority_wins = (refl, refl)
+
+a_rule_that_does_not_match_wins_at_no_priority : won (rule 1 65535 (is field.InPort 2 ∷ []) ∷ at_port_1 2 0 ∷ []) ≡ Some 2
+unfolding won
+a_rule_that_does_not_match_wins_at_no_priority = refl
+
+a_match_tests_the_bits_of_its_mask_alone : won (rule 1 0 (begins field.DlType 0x8800 8 ∷ []) ∷ []) ≡ Some 1
+unfolding won
+a_match_tests_the_bits_of_its_mask_alone = refl
+
+where_none_matches_none_wins : (won (rule 1 5 (is field.InPort 2 ∷ []) ∷ []) ≡ None) × (won [] ≡ None)
+unfolding won
+where_none_matches_none_wins = (refl, refl)
+
+-- ---- versions
+
+abbrev edit : EditWord → List Stated → ℕ → Edit
+edit word stated port = record { word = word; table = None; priority = 32768; cookie = None; matching = match_of stated; actions = Output port ∷ [] }
+
+-- a rule as rows show it
+record Live : Type 0 where
+  number : ℕ
+  table : ℕ
+  priority : ℕ
+  cookie : ℕ
+  actions : List OfAction
+
+unfoldable live : List Edit → ℕ → List Live
+unfolding none masked same joined key_of mask_of version
+live edits v = map (λ r. record { number = r.number; table = r.table; priority = r.priority; cookie = r.cookie; actions = r.actions }) (version edits v)
+
+-- a rule of table 0, the usual priority and no cookie, with one output
+abbrev sends : ℕ → ℕ → Live
+sends number port = record { number = number; table = 0; priority = 32768; cookie = 0; actions = Output port ∷ [] }
+
+abbrev port_1 : List Stated
+port_1 = is field.InPort 1 ∷ []
+
+abbrev port_1_to_2 : List Stated
+port_1_to_2 = is field.InPort 1 ∷ is field.DlDst 2 ∷ []
+
+abbrev five_edits : List Edit
+five_edits = edit Add port_1 2 ∷ edit Add port_1_to_2 3 ∷ edit Modify port_1 4 ∷ edit DeleteStrict port_1 0
+    ∷ edit Add port_1_to_2 5 ∷ []
+
+version_0_has_no_rules : live five_edits 0 ≡ []
+unfolding live
+version_0_has_no_rules = refl
+
+a_rule_has_the_number_of_the_edit_that_added_it : live five_edits 2 ≡ sends 1 2 ∷ sends 2 3 ∷ []
+unfolding live
+a_rule_has_the_number_of_the_edit_that_added_it = refl
+
+a_loose_modify_reaches_more_specific_rules_and_keeps_their_numbers : live five_edits 3 ≡ sends 1 4 ∷ sends 2 4 ∷ []
+unfolding live
+a_loose_modify_reaches_more_specific_rules_and_keeps_their_numbers = refl
+
+a_strict_delete_takes_the_rule_of_its_match_alone : live five_edits 4 ≡ sends 2 4 ∷ []
+unfolding live
+a_strict_delete_takes_the_rule_of_its_match_alone = refl
+
+an_add_of_the_same_match_and_priority_replaces : live five_edits 5 ≡ sends 5 5 ∷ []
+unfolding live
+an_add_of_the_same_match_and_priority_replaces = refl
+
+a_strict_modify_changes_the_rule_of_its_match_alone :
+    live (edit Add port_1 2 ∷ edit Add port_1_to_2 3 ∷ edit ModifyStrict port_1 4 ∷ []) 3 ≡ sends 1 4 ∷ sends 2 3 ∷ []
+unfolding live
+a_strict_modify_changes_the_rule_of_its_match_alone = refl
+
+a_loose_delete_reaches_more_specific_rules_and_no_wider_ones :
+    (live (edit Add port_1 2 ∷ edit Add port_1_to_2 3 ∷ edit Delete port_1 0 ∷ []) 3 ≡ [])
+    × (live (edit Add port_1 2 ∷ edit Add port_1_to_2 3 ∷ edit Delete port_1_to_2 0 ∷ []) 3 ≡ sends 1 2 ∷ [])
+unfolding live
+a_loose_delete_reaches_more_specific_rules_and_no_wider_ones = (refl, refl)
+
+-- the same edit at another priority, in another table, or with a cookie
+abbrev at_priority : ℕ → Edit → Edit
+at_priority p e = record e { priority = p }
+
+abbrev in_table : ℕ → Edit → Edit
+in_table t e = record e { table = Some t }
+
+abbrev with_cookie : ℕ → Edit → Edit
+with_cookie c e = record e { cookie = Some c }
+
+an_add_of_another_priority_replaces_nothing :
+    live (edit Add port_1 2 ∷ at_priority 7 (edit Add port_1 3) ∷ []) 2 ≡ sends 1 2
+    ∷ record { number = 2; table = 0; priority = 7; cookie = 0; actions = Output 3 ∷ [] } ∷ []
+unfolding live
+an_add_of_another_priority_replaces_nothing = refl
+
+the_loose_words_do_not_mind_priorities_and_the_strict_ones_do :
+    (live (edit Add port_1 2 ∷ at_priority 7 (edit Modify port_1 4) ∷ []) 2 ≡ sends 1 4 ∷ [])
+    × (live (edit Add port_1 2 ∷ at_priority 7 (edit ModifyStrict port_1 4) ∷ []) 2 ≡ sends 1 2 ∷ [])
+unfolding live
+the_loose_words_do_not_mind_priorities_and_the_strict_ones_do = (refl, refl)
+
+abbrev in_table_3 : Live
+in_table_3 = record { number = 1; table = 3; priority = 32768; cookie = 0; actions = Output 2 ∷ [] }
+
+a_loose_word_without_a_table_reaches_all_tables_and_a_strict_one_table_0 :
+    (live (in_table 3 (edit Add port_1 2) ∷ edit Delete port_1 0 ∷ []) 2 ≡ [])
+    × (live (in_table 3 (edit Add port_1 2) ∷ edit DeleteStrict port_1 0 ∷ []) 2 ≡ in_table_3 ∷ [])
+unfolding live
+a_loose_word_without_a_table_reaches_all_tables_and_a_strict_one_table_0 = (refl, refl)
+
+a_word_with_a_table_reaches_that_table_alone :
+    live (in_table 3 (edit Add port_1 2) ∷ in_table 2 (edit Delete port_1 0) ∷ []) 2 ≡ in_table_3 ∷ []
+unfolding live
+a_word_with_a_table_reaches_that_table_alone = refl
+
+abbrev cookie_9 : ℕ → Live
+cookie_9 port = record { number = 1; table = 0; priority = 32768; cookie = 9; actions = Output port ∷ [] }
+
+a_modify_without_a_cookie_keeps_that_of_the_rule :
+    (live (with_cookie 9 (edit Add port_1 2) ∷ edit Modify port_1 4 ∷ []) 2 ≡ cookie_9 4 ∷ [])
+    × (live (edit Add port_1 2 ∷ with_cookie 9 (edit Modify port_1 4) ∷ []) 2 ≡ cookie_9 4 ∷ [])
+unfolding live
+a_modify_without_a_cookie_keeps_that_of_the_rule = (refl, refl)
+
+-- ---- tables
+
+a_table_has_its_own_rules :
+    map (λ r. r.number) (rules_in 1 (at_port_1 1 5 ∷ record (at_port_1 2 5) { table = 1 } ∷ at_port_1 3 5 ∷ [])) ≡ 2 ∷ []
+a_table_has_its_own_rules = refl
