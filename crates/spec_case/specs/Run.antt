@@ -1,0 +1,34 @@
+-- What the words and the files of one run give.
+use Rattle.std.specs.Prelude.{ℕ, ◌==◌, Bool, if◌then◌else◌, List, [], ◌∷◌}
+use Rattle.std.specs.List.{list_any}
+use Rattle.spec_pcap.specs.Pcap.{Frame, Capture, frame_number}
+use Rattle.spec_tables.specs.Edits.{Edit}
+
+-- a point in time before which an edit is not seen: its time in nanoseconds, and how many edits stand before it
+pub record Sync : Type 0 where
+  pub time : ℕ
+  pub after : ℕ
+
+-- the ports in the order of the words, the edits and the sync points of their tables, and the trace of each port
+pub record Run : Type 0 where
+  pub ports : List ℕ
+  pub edits : List Edit
+  pub syncs : List Sync
+  pub traces : List Capture
+
+-- the frames of a port's trace
+unfoldable pub frames_in : List ℕ → List Capture → ℕ → List Frame
+frames_in [] traces port = []
+frames_in (p ∷ ps) [] port = []
+frames_in (p ∷ ps) (t ∷ ts) port = if p == port then t.frames else frames_in ps ts port
+
+abbrev pub frames_of : Run → ℕ → List Frame
+frames_of run port = frames_in run.ports run.traces port
+
+-- the frame at a place of a port's trace
+abbrev pub frame_at : Run → ℕ → ℕ → Frame
+frame_at run port place = frame_number (frames_of run port) place
+
+-- whether a trace of the run has times in nanoseconds
+abbrev pub is_nanos : Run → Bool
+is_nanos run = list_any (λ (t : Capture). t.nanos) run.traces

@@ -1,0 +1,121 @@
+-- Worked rows: words and small files, the verdict on them, what is opened, and the files that come out.
+use Rattle.std.specs.Prelude.{◌≡◌, ℕ, false, nat_eq, if◌then◌else◌, List, [], ◌∷◌, ◌++◌, take, replicate, Option, Some, None, Result, Ok, Err, codes, refl}
+use Rattle.std.specs.Cmp.Lexicographic.{pointwise}
+use Rattle.std.specs.Fmt.{digits}
+use Rattle.spec_base.specs.Bytes.{big_endian_at, little_endian_at}
+use Rattle.spec_keys.specs.Keys.{none, masked, same, joined, only_at}
+use Rattle.spec_pcap.specs.Pcap.{Frame, capture_of, frames_from, header, record_header, file_of}
+use Rattle.spec_tables.specs.Rules.{winner}
+use Rattle.spec_tables.specs.Edits.{version}
+use Rattle.spec_text.specs.Numbers.{digits_upto, decimal_upto, number_upto, octet, octet_before_colon, mac}
+use Rattle.spec_text.specs.Words.{port_number, port_word, new_port, port_words, command_of}
+use Rattle.spec_text.specs.Script.{flow_port, with_priority, with_in_port, with_dl_dst, with_item, output_of, outputs_of, actions_of, flow_of, edit_of, with_line, with_lines, edits_of}
+use Rattle.spec_frames.specs.Key.{key_of}
+use Rattle.spec_case.specs.Run.{frames_in}
+use Rattle.spec_case.specs.Arrivals.{arrivals_at, arrivals_in, put_in_order, in_order}
+use Rattle.spec_xlate.specs.Commit.{commit, commit_fields, commit_field}
+use Rattle.spec_xlate.specs.Tags.{commit_tags, outer_tags}
+use Rattle.spec_xlate.specs.Translation.{emit, emit_all, committed, output, act, run, look, last_state, pipe}
+use Rattle.spec_exec.specs.Sent.{sent}
+use Rattle.spec_run.specs.Verdict.{Files, Refusal, NotBuilt, Missing, Accepted, command_in, edits_in, file_in, traces_behind, verdict, traces_opened, files_opened}
+use Rattle.spec_run.specs.Outputs.{File, files_of}
+use Rattle.spec_run.specs.Statuses.{read_fault_text}
+
+abbrev words : List (List ℕ)
+words = codes "e" ∷ codes "o" ∷ codes "1=a" ∷ codes "2=" ∷ []
+
+-- 60 bytes from 00:00:00:00:00:01 to 00:00:00:00:00:02, of the type 0x88b5 for local experiments (IEEE 802)
+abbrev frame : Frame
+frame = record { time = 1000000000; bytes = 0 ∷ 0 ∷ 0 ∷ 0 ∷ 0 ∷ 2 ∷ 0 ∷ 0 ∷ 0 ∷ 0 ∷ 0 ∷ 1 ∷ 0x88 ∷ 0xb5 ∷ replicate 46 0 }
+
+abbrev trace : List ℕ
+trace = file_of false (frame ∷ [])
+
+-- a file `e` and a file `a`, where they are there
+abbrev files : Option (List ℕ) → Option (List ℕ) → Files
+files e a name = if pointwise nat_eq name (codes "e") then e else (if pointwise nat_eq name (codes "a") then a else None)
+
+-- what becomes of a run with such files
+unfoldable outcome : List (List ℕ) → Option (List ℕ) → Option (List ℕ) → Result (List File) Refusal
+unfolding command_in edits_in file_in traces_behind verdict capture_of frames_from little_endian_at digits_upto decimal_upto number_upto octet octet_before_colon mac port_number port_word new_port port_words command_of flow_port with_priority with_in_port with_dl_dst with_item output_of outputs_of actions_of flow_of edit_of with_line with_lines edits_of files_of version winner none masked same joined big_endian_at key_of frames_in arrivals_at arrivals_in put_in_order in_order sent pipe last_state look run act output committed emit emit_all commit commit_fields commit_field commit_tags outer_tags header record_header only_at digits
+outcome words e a = files_in (verdict words (files e a))
+  where
+    files_in : Result Accepted Refusal → Result (List File) Refusal
+    files_in (Ok accepted) = Ok (files_of accepted)
+    files_in (Err refusal) = Err refusal
+
+-- what the edits `e` make of that frame
+abbrev done_with : List ℕ → Result (List File) Refusal
+done_with e = outcome words (Some e) (Some trace)
+
+-- the files of the two ports
+abbrev sends : List Frame → List Frame → Result (List File) Refusal
+sends at_1 at_2 = Ok ((codes "o.p1.pcap", file_of false at_1) ∷ (codes "o.p2.pcap", file_of false at_2) ∷ [])
+
+-- ---- what is sent
+
+a_frame_goes_out_at_the_port_of_its_rule : done_with (codes "in_port=1,actions=2") ≡ sends [] (frame ∷ [])
+unfolding outcome
+a_frame_goes_out_at_the_port_of_its_rule = refl
+
+each_output_sends_the_frame : done_with (codes "actions=2,2") ≡ sends [] (frame ∷ frame ∷ [])
+unfolding outcome
+each_output_sends_the_frame = refl
+
+a_frame_never_goes_out_where_it_came_in : done_with (codes "actions=1") ≡ sends [] []
+unfolding outcome
+a_frame_never_goes_out_where_it_came_in = refl
+
+a_port_that_the_switch_lacks_sends_nothing : done_with (codes "actions=3") ≡ sends [] []
+unfolding outcome
+a_port_that_the_switch_lacks_sends_nothing = refl
+
+where_no_rule_matches_nothing_is_sent : done_with (codes "in_port=2,actions=2") ≡ sends [] []
+unfolding outcome
+where_no_rule_matches_nothing_is_sent = refl
+
+the_greatest_priority_wins : done_with (codes "priority=1,actions=2" ++ 10 ∷ codes "priority=2,actions=drop") ≡ sends [] []
+unfolding outcome
+the_greatest_priority_wins = refl
+
+of_equal_priorities_the_rule_added_first_wins :
+    done_with (codes "in_port=1,actions=2" ++ 10 ∷ codes "dl_dst=0:0:0:0:0:2,actions=drop") ≡ sends [] (frame ∷ [])
+unfolding outcome
+of_equal_priorities_the_rule_added_first_wins = refl
+
+an_add_replaces_the_rule_of_its_match_and_priority : done_with (codes "actions=drop" ++ 10 ∷ codes "actions=2") ≡ sends [] (frame ∷ [])
+unfolding outcome
+an_add_replaces_the_rule_of_its_match_and_priority = refl
+
+-- ---- what is refused
+
+refused_words_come_first : outcome (codes "e" ∷ []) None None ≡ Err (NotBuilt (codes "words"))
+unfolding outcome
+refused_words_come_first = refl
+
+the_edits_come_before_the_traces :
+    (outcome words None None ≡ Err (Missing (codes "e"))) × (outcome words (Some (codes "actions")) None ≡ Err (NotBuilt (codes "e")))
+unfolding outcome
+the_edits_come_before_the_traces = (refl, refl)
+
+a_trace_that_is_missing_or_cut_is_refused :
+    (outcome words (Some []) None ≡ Err (Missing (codes "a"))) × (outcome words (Some []) (Some (take 99 trace)) ≡ Err (NotBuilt (codes "a")))
+unfolding outcome
+a_trace_that_is_missing_or_cut_is_refused = (refl, refl)
+
+-- ---- what is opened
+
+unfoldable opened : Option (List ℕ) → Option (List ℕ) → List (List ℕ)
+unfolding files_opened traces_opened command_in edits_in file_in traces_behind verdict capture_of frames_from little_endian_at digits_upto decimal_upto number_upto octet octet_before_colon mac port_number port_word new_port port_words command_of flow_port with_priority with_in_port with_dl_dst with_item output_of outputs_of actions_of flow_of edit_of with_line with_lines edits_of
+opened e a = files_opened words (files e a)
+
+nothing_is_opened_behind_a_refusal :
+    (opened None (Some trace) ≡ codes "e" ∷ []) × ((opened (Some (codes "actions")) (Some trace) ≡ codes "e" ∷ [])
+    × (opened (Some []) None ≡ codes "e" ∷ codes "a" ∷ []))
+unfolding opened
+nothing_is_opened_behind_a_refusal = (refl, (refl, refl))
+
+-- ---- what is printed
+
+the_text_of_a_read_fault : read_fault_text (codes "a") ≡ codes "read fault: a" ++ 10 ∷ []
+the_text_of_a_read_fault = refl

@@ -1,0 +1,3 @@
+pub mod Verdict
+pub mod Outputs
+pub mod Statuses

@@ -1,0 +1,122 @@
+-- What becomes of a run before anything is written. The words come first, then the file of edits, then the traces in the
+-- order of the words; the first input that is refused decides.
+use Rattle.std.specs.Prelude.{ℕ, ◌-◌, nat_lt, false, if◌then◌else◌, List, [], ◌∷◌, ◌++◌, length, map, Option, None, Result, Ok, Err, codes}
+use Rattle.std.specs.Option.{option_map, ok_or}
+use Rattle.spec_pcap.specs.Pcap.{Capture, capture_of}
+use Rattle.spec_tables.specs.Edits.{Edit}
+use Rattle.spec_case.specs.Run.{Run}
+use Rattle.spec_text.specs.Words.{PortWord, Command, command_of, has_trace}
+use Rattle.spec_text.specs.Script.{edits_of}
+
+-- the bytes of a file by its name, where there is one
+abbrev pub Files : Type 0
+Files = List ℕ → Option (List ℕ)
+
+-- Why there is no run: an input, by name, whose form isn't built, or a file that isn't there.
+pub data Refusal : Type 0 where
+  NotBuilt : List ℕ → Refusal
+  Missing : List ℕ → Refusal
+
+-- a command, and the run that its files give
+pub record Accepted : Type 0 where
+  pub command : Command
+  pub run : Run
+
+infixl 10 ◌>>=◌
+abbrev pub ◌>>=◌ : {A B : Type 0} → Result A Refusal → (A → Result B Refusal) → Result B Refusal
+Ok a >>= f = f a
+Err e >>= f = Err e
+
+-- ---- the words and the edits
+
+-- the name under which refused words are told
+abbrev pub words_name : List ℕ
+words_name = codes "words"
+
+unfoldable pub command_in : List (List ℕ) → Result Command Refusal
+command_in words = ok_or (command_of words) (NotBuilt words_name)
+
+-- the bytes of a file that has to be there
+abbrev pub bytes_in : Files → List ℕ → Result (List ℕ) Refusal
+bytes_in files name = ok_or (files name) (Missing name)
+
+unfoldable pub edits_in : Files → List ℕ → Result (List Edit) Refusal
+edits_in files name = bytes_in files name >>= (λ bytes. ok_or (edits_of bytes) (NotBuilt name))
+
+-- ---- the traces
+
+-- the most bytes of all traces, and the most frames
+abbrev pub most_trace_bytes : ℕ
+most_trace_bytes = 268435456
+
+abbrev pub most_frames : ℕ
+most_frames = 131072
+
+-- a trace, and the bytes of its file
+pub record TraceFile : Type 0 where
+  pub size : ℕ
+  pub capture : Capture
+
+-- a port without a trace
+abbrev pub no_trace : TraceFile
+no_trace = record { size = 0; capture = record { nanos = false; frames = [] } }
+
+-- a file of at most so many bytes and frames
+abbrev pub trace_within : ℕ → ℕ → List ℕ → Option TraceFile
+trace_within bytes_left frames_left bytes =
+    if nat_lt bytes_left (length bytes) then None
+    else option_map (λ capture. record { size = length bytes; capture = capture }) (capture_of frames_left bytes)
+
+-- the trace of a file, for which so much room is left
+unfoldable pub file_in : Files → ℕ → ℕ → List ℕ → Result TraceFile Refusal
+file_in files bytes_left frames_left name =
+    bytes_in files name >>= (λ bytes. ok_or (trace_within bytes_left frames_left bytes) (NotBuilt name))
+
+-- the trace of a port, if it has one
+abbrev pub trace_in : Files → ℕ → ℕ → PortWord → Result TraceFile Refusal
+trace_in files bytes_left frames_left w = if has_trace w then file_in files bytes_left frames_left w.file else Ok no_trace
+
+-- the traces of ports, behind those of the ports before them. Each takes of the room that those before it left.
+unfoldable pub traces_behind : Files → List Capture → ℕ → ℕ → List PortWord → Result (List Capture) Refusal
+traces_behind files before bytes_left frames_left [] = Ok before
+traces_behind files before bytes_left frames_left (w ∷ ws) =
+    trace_in files bytes_left frames_left w
+    >>= (λ t. traces_behind files (before ++ t.capture ∷ []) (bytes_left - t.size) (frames_left - length t.capture.frames) ws)
+
+abbrev pub traces_in : Files → List PortWord → Result (List Capture) Refusal
+traces_in files ports = traces_behind files [] most_trace_bytes most_frames ports
+
+-- ---- the whole
+
+abbrev pub run_of : Command → List Edit → List Capture → Run
+run_of command edits traces = record { ports = map (λ (w : PortWord). w.port) command.ports; edits = edits; syncs = []; traces = traces }
+
+unfoldable pub verdict : List (List ℕ) → Files → Result Accepted Refusal
+verdict words files =
+    command_in words
+    >>= (λ command. edits_in files command.edits
+    >>= (λ edits. traces_in files command.ports
+    >>= (λ traces. Ok (record { command = command; run = run_of command edits traces }))))
+
+-- ---- what is opened
+
+-- what follows where a stage was passed
+abbrev pub if_passed : {A : Type 0} → Result A Refusal → (A → List (List ℕ)) → List (List ℕ)
+if_passed (Ok a) names = names a
+if_passed (Err e) names = []
+
+-- the name of a port's trace, if it has one
+abbrev pub trace_names : PortWord → List (List ℕ)
+trace_names w = if has_trace w then w.file ∷ [] else []
+
+-- the traces that are opened, each only where none before it is refused
+unfoldable pub traces_opened : Files → ℕ → ℕ → List PortWord → List (List ℕ)
+traces_opened files bytes_left frames_left [] = []
+traces_opened files bytes_left frames_left (w ∷ ws) =
+    trace_names w
+    ++ if_passed (trace_in files bytes_left frames_left w) (λ t. traces_opened files (bytes_left - t.size) (frames_left - length t.capture.frames) ws)
+
+-- the files that are opened in reading, each only where none before it is refused
+unfoldable pub files_opened : List (List ℕ) → Files → List (List ℕ)
+files_opened words files =
+    if_passed (command_in words) (λ command. command.edits ∷ if_passed (edits_in files command.edits) (λ _. traces_opened files most_trace_bytes most_frames command.ports))

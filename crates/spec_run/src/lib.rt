@@ -1,0 +1,9 @@
+//! What a whole run of the switch is: the verdict on its words and files, and what it writes.
+//!
+//! - `Verdict`: the first refusal in the order of reading, or the run that the words and the files give.
+//! - `Outputs`: the files that a run writes, by name and byte.
+//! - `Statuses`: the exit statuses and the texts that go with them.
+//!
+//! Whoever reads these, the specification crates below them and the contract of `run_switch` knows what is claimed of
+//! the switch, and needs to read no body.
+#![tactic(auto)]
