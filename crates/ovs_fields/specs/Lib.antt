@@ -1,0 +1,4 @@
+pub mod Equality
+pub mod Lists
+pub mod Packed
+pub mod Runs

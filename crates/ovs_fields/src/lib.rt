@@ -1,0 +1,53 @@
+//! Keys and masks of packets.
+//!
+//! A packet is classified by its *key*, a number for each of the 34 fields that ovs-fields(7) describes and the table
+//! of `spec_keys` lists. A *mask* has a bit for each bit of a key, and says which of them count: a rule is a key
+//! under a mask, and so is an entry of the caches. All that finds a rule or an entry asks this crate whether two keys
+//! agree, and hashes them here.
+//!
+//! # What is promised
+//!
+//! Contracts see a key and a mask as lists of 34 numbers, `numbers k` and `bits m` (specs/Packed.antt), in the words
+//! of `spec_keys`.
+//!
+//! - Each number is within the width of its field. The types keep this: `k.is_key` and `m.is_key` are the facts
+//!   `IsKey (numbers k)` and `IsKey (bits m)`, at hand for every `Key` and `Mask`.
+//! - `set` changes one field and `add` adds bits to one, and the other fields stay.
+//! - `agree`, `covers` and `and` answer by bits, exactly as the definitions `agree`, `covers` and `common_bits` do. Two
+//!   keys are equal, as are two masks, exactly where their lists are.
+//! - `key_hash` is the 64-bit FNV-1a of the fields' bytes, for every key.
+//! - No call takes memory, and none can fail.
+//!
+//! # How
+//!
+//! A key has 160 bytes, since every lookup reads keys: each field stands in the least integer type that holds it, and
+//! the widest come first, so that nothing is lost between them. `agree` and `covers` test all the fields and then
+//! decide, without a branch for each. That is fewer than a hundred instructions over vectors, and costs the same
+//! whichever field differs.
+//!
+//! FNV-1a multiplies once for each byte, and each multiplication waits for the one before. A key has 150 bytes, and
+//! most of them are 0: metadata and the registers in the key of every frame, and the addresses of the protocols that
+//! the frame doesn't carry. A byte of 0 changes nothing before its multiplication, so a run of n such bytes
+//! multiplies by the prime to the power of n. Three runs are tested and hashed by one multiplication: metadata with
+//! the registers, the IPv6 addresses and the hardware addresses of ARP. An IPv4 frame is left with 37 of the 150.
+//!
+//! # What is left to others
+//!
+//! Which key a frame has, the names by which flows speak of fields or of their parts, and the printed forms.
+#![tactic(auto)]
+
+mod bitwise;
+mod fields;
+mod hash;
+mod key;
+mod mask;
+mod table;
+#[cfg(test)]
+mod tests;
+
+pub use bitwise::{agree, and, covers};
+pub use hash::key_hash;
+pub use key::Key;
+pub use mask::Mask;
+pub use spec_keys::FieldId;
+pub use table::{stage, width};
