@@ -1,0 +1,5 @@
+pub mod Fronts
+pub mod Refusals
+pub mod Whole
+pub mod Places
+pub mod Rows

@@ -1,0 +1,71 @@
+-- What reading a whole file answers where opening it was refused: `from` says that the answer is made of the
+-- refusal.
+use Rattle.std.proofs.Common.{◌≡◌, ℕ, List, Result, Err, sym, ap, ◌∙◌, refl, inl, inr}
+use Rattle.std.specs.Prelude.{IfErr, IsErrOf, IsErrAnd}
+use Rattle.std.proofs.lemmas.Result.{err_from_is_err_and}
+use Rattle.edge_io.specs.declared.outside.Failed.{Failed}
+use Rattle.edge_io.specs.declared.outside.Failed.TheVariants as failed
+use Rattle.edge_io.specs.declared.outside.InUse.{InUse}
+use Rattle.edge_io.specs.declared.outside.InUse.TheVariants.{Nothing}
+use Rattle.edge_io.specs.declared.reading.ReadFault.{ReadFault}
+use Rattle.edge_io.specs.declared.reading.ReadFault.TheVariants.{Over}
+use Rattle.edge_io.specs.Shelf.{Told, HasCause, Opens}
+use Rattle.edge_io.specs.ReadAll.{read_fault_of, in_use_after, ReadCause, OnlyRead, Names}
+
+abbrev IsFrom : {T : Type 0} → Failed → Result T ReadFault → Type 0
+IsFrom f r = IsErrAnd r (λ e. e ≡ read_fault_of f)
+
+answer : {T : Type 0} (r : Result T ReadFault) (f : Failed) → IsFrom f r → r ≡ Err (read_fault_of f)
+answer r f from = let p = err_from_is_err_and r from in p.1 ∙ ap Err p.2
+
+pub not_over : {T : Type 0} (r : Result T ReadFault) (f : Failed) → IsFrom f r → ¬ IsErrOf r Over
+not_over r failed.Fault from over = let e = sym (answer r failed.Fault from) ∙ over in cc
+not_over r failed.OutOfMemory from over = let e = sym (answer r failed.OutOfMemory from) ∙ over in cc
+
+pub nothing_in_use : {T : Type 0} (r : Result T ReadFault) (now : InUse) (f : Failed) → IsFrom f r →
+    now ≡ Nothing → IfErr r (λ e. now ≡ in_use_after e)
+nothing_in_use r now failed.Fault from none = rw (answer r failed.Fault from) none
+nothing_in_use r now failed.OutOfMemory from none = rw (answer r failed.OutOfMemory from) none
+
+pub only_read : {U : Type 0} (before after : Told) (name : List ℕ) (f : Failed) →
+    Opens {T = U} before after name (Err f) → OnlyRead before after
+only_read before after name failed.Fault opens = rw (opens.fault refl) refl
+only_read before after name failed.OutOfMemory opens = rw (opens.no_memory refl) refl
+
+pub names : {T U : Type 0} (before after : Told) (name : List ℕ) (r : Result T ReadFault) (f : Failed) →
+    IsFrom f r → Opens {T = U} before after name (Err f) → Names before.last after.last name r
+names before after name r failed.Fault from opens =
+    let e = answer r failed.Fault from in
+    let named : after.last ≡ name = ap (λ (t : Told). t.last) (opens.fault refl) in
+    record { ok = rw e tt; fault = λ _. named; over = λ _. named; no_memory = λ _. inl named }
+names before after name r failed.OutOfMemory from opens =
+    let e = answer r failed.OutOfMemory from in
+    record {
+      ok = rw e tt;
+      fault = λ h. let x = sym e ∙ h in cc;
+      over = λ h. absurd (not_over r failed.OutOfMemory from h);
+      no_memory = λ _. inr (ap (λ (t : Told). t.last) (opens.no_memory refl));
+    }
+
+pub cause : {T U : Type 0} (a b c d : ℕ) (r : Result T ReadFault) (f : Failed) → IsFrom f r →
+    HasCause {T = U} a b c d (Err f) → ReadCause a b c d r
+cause a b c d r failed.Fault from has =
+    let e = answer r failed.Fault from in
+    record {
+      later = has.later;
+      failed = λ _. has.failed refl;
+      no_memory = λ h. let x = sym e ∙ h in cc;
+      over = λ h. absurd (not_over r failed.Fault from h);
+      ok = rw e tt;
+      other = has.other;
+    }
+cause a b c d r failed.OutOfMemory from has =
+    let e = answer r failed.OutOfMemory from in
+    record {
+      later = has.later;
+      failed = λ h. let x = sym e ∙ h in cc;
+      no_memory = λ _. has.no_memory refl;
+      over = λ _. has.no_memory refl;
+      ok = rw e tt;
+      other = has.other;
+    }

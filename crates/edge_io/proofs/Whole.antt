@@ -1,0 +1,40 @@
+-- Reading a whole file: `opened` says what opening it told, `read` what reading it to its end and closing it did.
+use Rattle.std.proofs.Common.{◌≡◌, ℕ, ◌<◌, ◌≤◌, List, [], length, Result, Ok, Err, Option, Some, Vec, Global, vec_len, sym, ap, ◌∙◌, inl, arith}
+use Rattle.std.specs.Prelude.{IfOk, OnOk, IsOk}
+use Rattle.std.proofs.lemmas.Result.{on_ok_weaker}
+use Rattle.edge_io.specs.declared.reading.ReadFault.{ReadFault}
+use Rattle.edge_io.specs.Shelf.{Told}
+use Rattle.edge_io.specs.ReadAll.{was_read, Names}
+
+pub bytes : (contents : Option (List ℕ)) (left : List ℕ) (r : Result (Vec ℕ Global) ReadFault) →
+    contents ≡ Some left → IfOk r (λ v. v.items ≡ left) → IfOk r (λ v. contents ≡ Some v.items)
+bytes contents left (Ok v) found e = found ∙ ap Some (sym e)
+bytes contents left (Err f) found e = tt
+
+pub not_ok : (left : List ℕ) (max : ℕ) (r : Result (Vec ℕ Global) ReadFault) →
+    IfOk r (λ v. v.items ≡ left) → IfOk r (λ v. vec_len v ≤ max) → max < length left → ¬ IsOk r
+not_ok left max (Ok v) e bound long ok = let n = ap length e in omega arith
+not_ok left max (Err f) e bound long ok = cc
+
+on_ok : {T E P : Type 0} (r : Result T E) → P → OnOk r P
+on_ok (Ok v) p = p
+on_ok (Err e) p = tt
+
+module _ {T : Type 0} (before mid after : Told) (name : List ℕ) (r : Result T ReadFault)
+    (opened : mid ≡ record before { left = mid.left; last = name })
+    (read : after ≡ record mid { left = after.left }) where
+  closed : after.left ≡ [] → after ≡ was_read before name
+  closed none =
+      let ended : record mid { left = after.left } ≡ record mid { left = [] } =
+      ap (λ (x : List ℕ). let t : Told = record mid { left = x } in t) none in
+      let began : record mid { left = [] } ≡ was_read before name =
+      ap (λ (x : Told). let t : Told = record x { left = [] } in t) opened in
+      read ∙ (ended ∙ began)
+
+  pub told : OnOk r (after.left ≡ []) → OnOk r (after ≡ was_read before name)
+  told none = on_ok_weaker r closed none
+
+  pub names : Names before.last after.last name r
+  names =
+      let named : after.last ≡ name = ap (λ (t : Told). t.last) read ∙ ap (λ (t : Told). t.last) opened in
+      record { ok = on_ok r named; fault = λ _. named; over = λ _. named; no_memory = λ _. inl named }

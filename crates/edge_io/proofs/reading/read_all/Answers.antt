@@ -1,0 +1,55 @@
+use Rattle.edge_io.proofs.Refusals as refusals
+use Rattle.edge_io.proofs.Whole as whole
+use Rattle.edge_io.proofs.reading.read_all.Goals as goal
+
+pub returns-in_err-open_file-clause-in_use_after : goal.returns-in_err-open_file-clause-in_use_after
+returns-in_err-open_file-clause-in_use_after g c =
+    refusals.nothing_in_use _ _ c.in_err-open_file.field-0.0 c.from_residual-in_err-open_file.ensures.1
+    c.in_err-open_file.ensures.refused
+
+pub returns-in_err-open_file-clause-over : goal.returns-in_err-open_file-clause-over
+returns-in_err-open_file-clause-over g c = λ t over.
+    absurd (refusals.not_over _ c.in_err-open_file.field-0.0 c.from_residual-in_err-open_file.ensures.1 over)
+
+pub returns-in_err-open_file-clause-within : goal.returns-in_err-open_file-clause-within
+returns-in_err-open_file-clause-within g c = λ t short.
+    refusals.not_over _ c.in_err-open_file.field-0.0 c.from_residual-in_err-open_file.ensures.1
+
+pub returns-in_err-open_file-clause-only_read : goal.returns-in_err-open_file-clause-only_read
+returns-in_err-open_file-clause-only_read g c = λ t.
+    refusals.only_read _ _ c.args.name.now c.in_err-open_file.field-0.0 (c.in_err-open_file.ensures.told t)
+
+pub returns-in_err-open_file-clause-named : goal.returns-in_err-open_file-clause-named
+returns-in_err-open_file-clause-named g c = λ t.
+    refusals.names _ _ c.args.name.now _ c.in_err-open_file.field-0.0 c.from_residual-in_err-open_file.ensures.1
+    (c.in_err-open_file.ensures.told t)
+
+pub returns-in_err-open_file-clause-cause : goal.returns-in_err-open_file-clause-cause
+returns-in_err-open_file-clause-cause g c =
+    refusals.cause _ _ _ _ _ c.in_err-open_file.field-0.0 c.from_residual-in_err-open_file.ensures.1
+    c.in_err-open_file.ensures.cause
+
+pub returns-clause-bytes : goal.returns-clause-bytes
+returns-clause-bytes g c = λ t.
+    whole.bytes _ _ c.read_opened.result (c.in_ok-open_file.ensures.told t).found (c.read_opened.ensures.bytes t)
+
+pub returns-clause-over : goal.returns-clause-over
+returns-clause-over g c = λ t over.
+    rw (c.in_ok-open_file.ensures.told t).found (c.read_opened.ensures.over t over)
+
+pub returns-clause-too_long : goal.returns-clause-too_long
+returns-clause-too_long g c = λ t long.
+    let more = rw (c.in_ok-open_file.ensures.told t).found at long in
+    whole.not_ok _ c.args.max c.read_opened.result (c.read_opened.ensures.bytes t) c.read_opened.ensures.bound more
+
+pub returns-clause-told : goal.returns-clause-told
+returns-clause-told g c = λ t.
+    whole.told (g.S.Shelf.told c.args.shelf.now) (g.S.Shelf.told c.open_file.new.self)
+    (g.S.Shelf.told c.read_opened.new.shelf) c.args.name.now c.read_opened.result
+    (c.in_ok-open_file.ensures.told t).ok (c.read_opened.ensures.told t) (c.read_opened.ensures.left t)
+
+pub returns-clause-named : goal.returns-clause-named
+returns-clause-named g c = λ t.
+    whole.names (g.S.Shelf.told c.args.shelf.now) (g.S.Shelf.told c.open_file.new.self)
+    (g.S.Shelf.told c.read_opened.new.shelf) c.args.name.now c.read_opened.result
+    (c.in_ok-open_file.ensures.told t).ok (c.read_opened.ensures.told t)

@@ -1,0 +1,7 @@
+pub mod Shelf
+pub mod Sink
+pub mod ReadAll
+pub mod Stored
+pub mod Slots
+pub mod Memory
+pub mod Real

@@ -1,0 +1,15 @@
+-- The real shelf: which file is in use, and what stands where nothing is told.
+use Rattle.std.specs.Prelude.{None}
+use Rattle.edge_io.specs.declared.outside.InUse.{InUse}
+use Rattle.edge_io.specs.declared.outside.InUse.TheVariants as in_use
+use Rattle.edge_io.specs.declared.real.Slot.{Slot}
+use Rattle.edge_io.specs.declared.real.Slot.TheVariants.{Empty, Opened, Created}
+use Rattle.edge_io.specs.Shelf.{Told, untouched}
+
+abbrev pub use_of : {F : Type 0} → Slot F → InUse
+use_of Empty = in_use.Nothing
+use_of (Opened file) = in_use.Opened
+use_of (Created writer) = in_use.Created
+
+abbrev pub untold : Told
+untold = untouched (λ _. None)

@@ -1,0 +1,172 @@
+ghost use Rattle.std.specs.Prelude.{◌≡◌, ◌≢◌, ℕ, ◌+◌, ◌<◌, ◌≤◌, Bool, List, length, min, IsTrue, OnOk, OnErr, IfOk};
+ghost use Rattle.spec_base.specs.Counts.{Rose};
+ghost use Rattle.edge_io.specs.declared.outside.Failed.TheVariants.{OutOfMemory};
+ghost use Rattle.edge_io.specs.declared.outside.InUse.{InUse};
+ghost use Rattle.edge_io.specs.Shelf.{Told, HasCause, Opens, Reads, Creates, Writes, released, closed};
+ghost use Rattle.edge_io.specs.Sink.{Says};
+
+use std::alloc::AllocError;
+
+/// Why a call of the outside was refused.
+#[derive(Clone, Copy, Debug, PartialEq, Eq)]
+pub enum Failed {
+    /// The outside failed, and the count of the call rose.
+    Fault,
+    /// There was no memory. No count rose, and no byte was taken.
+    OutOfMemory,
+}
+
+impl From<AllocError> for Failed {
+    ghost from_gives = { λ _ e. e ≡ OutOfMemory };
+
+    fn from(_: AllocError) -> Failed {
+        Failed::OutOfMemory
+    }
+}
+
+/// Which file of a shelf is in use.
+#[derive(Clone, Copy, Debug, PartialEq, Eq)]
+pub enum InUse {
+    /// None is.
+    Nothing,
+    /// One that is read.
+    Opened,
+    /// One that is written.
+    Created,
+}
+
+/// Files by name, of which at most one is in use.
+///
+/// # Errors
+///
+/// Each call may answer `Fault`, where its own count rose in the call, or `OutOfMemory`. The other
+/// count stays, and every answer but `Fault` leaves both.
+pub trait Shelf {
+    /// Whether this kind of shelf tells its bytes.
+    ghost tells: { Bool };
+
+    /// What it tells.
+    ghost told: { Self → Told };
+
+    /// Which file is in use.
+    ghost in_use: { Self → InUse };
+
+    /// How often `open_file`, `read` and the close of an opened file have failed, in 64 bits.
+    ghost reading: { Self → ℕ };
+
+    /// How often `create_file`, `write` and the close of a created file have failed, in 64 bits.
+    ghost writing: { Self → ℕ };
+
+    /// Opens the file of a name, to be read from its front.
+    fn open_file(&mut self, name: &str) -> Result<(), Failed>
+        requires { in_use self.old ≡ InUse.Nothing }
+        ensures opened { OnOk result (in_use self.new ≡ InUse.Opened) }
+        ensures refused { OnErr result (in_use self.new ≡ InUse.Nothing) }
+        ensures told { IsTrue tells → Opens (told self.old) (told self.new) name.now result }
+        ensures cause { HasCause (reading self.old) (reading self.new)
+            (writing self.old) (writing self.new) result };
+
+    /// Reads the next bytes of the opened file to the front of `into`, and answers how many. A read
+    /// of 0 bytes into a slice that isn't empty is the end of the file.
+    fn read(&mut self, into: &mut [u8]) -> Result<usize, Failed>
+        requires { in_use self.old ≡ InUse.Opened }
+        ensures in_use { in_use self.new ≡ InUse.Opened }
+        ensures bound { IfOk result (λ n. n ≤ length into.new) }
+        ensures told { IsTrue tells → Reads (told self.old) (told self.new) into.new result }
+        ensures cause { HasCause (reading self.old) (reading self.new)
+            (writing self.old) (writing self.new) result };
+
+    /// Creates an empty file of a name, to be written.
+    fn create_file(&mut self, name: &str) -> Result<(), Failed>
+        requires { in_use self.old ≡ InUse.Nothing }
+        ensures created { OnOk result (in_use self.new ≡ InUse.Created) }
+        ensures refused { OnErr result (in_use self.new ≡ InUse.Nothing) }
+        ensures told { IsTrue tells → Creates (told self.old) (told self.new) name.now result }
+        ensures cause { HasCause (writing self.old) (writing self.new)
+            (reading self.old) (reading self.new) result };
+
+    /// Writes bytes from the front of these to the created file, and answers how many: at least one,
+    /// where there is one.
+    fn write(&mut self, bytes: &[u8]) -> Result<usize, Failed>
+        requires { in_use self.old ≡ InUse.Created }
+        ensures in_use { in_use self.new ≡ InUse.Created }
+        ensures bound { IfOk result (λ n. n ≤ length bytes.now) }
+        ensures some { IfOk result (λ n. 0 < length bytes.now → 0 < n) }
+        ensures told { IsTrue tells → Writes (told self.old) (told self.new) bytes.now result }
+        ensures cause { HasCause (writing self.old) (writing self.new)
+            (reading self.old) (reading self.new) result };
+
+    /// Closes the file that is in use. It is closed whatever the answer is, and a created one keeps
+    /// the bytes that were written.
+    fn close_file(&mut self) -> Result<(), Failed>
+        requires { in_use self.old ≢ InUse.Nothing }
+        ensures in_use { in_use self.new ≡ InUse.Nothing }
+
+        // An opened file.
+        ensures told_opened { IsTrue tells → in_use self.old ≡ InUse.Opened →
+            told self.new ≡ released (told self.old) }
+        ensures cause_opened { in_use self.old ≡ InUse.Opened →
+            HasCause (reading self.old) (reading self.new) (writing self.old) (writing self.new) result }
+
+        // A created file.
+        ensures told_created { IsTrue tells → in_use self.old ≡ InUse.Created →
+            told self.new ≡ closed (told self.old) }
+        ensures cause_created { in_use self.old ≡ InUse.Created →
+            HasCause (writing self.old) (writing self.new) (reading self.old) (reading self.new) result };
+}
+
+/// Where text is written.
+///
+/// # Errors
+///
+/// `write` may answer `Fault`, where the count rose in the call, or `OutOfMemory`.
+pub trait Sink {
+    /// Whether this kind of sink tells its bytes.
+    ghost tells: { Bool };
+
+    /// The bytes that were written.
+    ghost written: { Self → List ℕ };
+
+    /// How often writing has failed, in 64 bits.
+    ghost faults: { Self → ℕ };
+
+    /// Writes bytes from the front of these, and answers how many: at least one, where there is one.
+    fn write(&mut self, bytes: &[u8]) -> Result<usize, Failed>
+        ensures bound { IfOk result (λ n. n ≤ length bytes.now) }
+        ensures some { IfOk result (λ n. 0 < length bytes.now → 0 < n) }
+        ensures told { IsTrue tells → Says (written self.old) (written self.new) bytes.now result }
+
+        // A sink has one count. In the place of another stands a count that never changes.
+        ensures cause { HasCause (faults self.old) (faults self.new) 0 0 result };
+}
+
+/// A point of a run at which threads can be held, so that a test picks their order.
+///
+/// Ports are from 1 to 65,279. Places of frames in a trace and numbers of entries are from 1.
+#[derive(Clone, Copy, Debug, PartialEq, Eq)]
+pub enum Point {
+    /// Before a batch of frames of this ingress port is looked up.
+    Batch { port: u16 },
+    /// After the upcall of the port's frame at this place was translated, before it is settled.
+    Upcall { port: u16, place: u32 },
+    /// After this entry of the port's cache was translated again, before it is kept or changed.
+    Check { port: u16, entry: u32 },
+}
+
+/// Who is told of each point that a thread comes to, and may hold the thread there.
+///
+/// It promises nothing, and changes nothing of the run.
+pub trait Gate {
+    fn pass(&self, point: Point);
+}
+
+/// Counts a failed call, up to the greatest number of 64 bits.
+pub(crate) fn counted_fault(count: &mut u64) -> Failed
+    ensures fault { result ≡ Failed.Fault }
+    ensures counted { count.new ≡ min (count.old + 1) u64.MAX }
+    ensures later { count.old ≤ count.new }
+    ensures rose { Rose count.old count.new }
+{
+    *count = count.saturating_add(1);
+    Failed::Fault
+}

@@ -1,0 +1,154 @@
+ghost use Rattle.std.specs.Prelude.{◌≡◌, ℕ, [], ◌+◌, ◌<◌, ◌≤◌, ◌++◌, length, Some, IsTrue, OnOk, IfOk, IfErr, IsOk, IsSomeAnd, IsErrOf, vec_len};
+ghost use Rattle.edge_io.specs.declared.reading.ReadFault.TheVariants.{OutOfMemory};
+ghost use Rattle.edge_io.specs.Shelf.{Told};
+ghost use Rattle.edge_io.specs.ReadAll.{read_fault_of, in_use_after, was_read, ReadCause, OnlyRead, Names};
+
+use crate::{Failed, InUse, Shelf};
+use std::alloc::{AllocError, Global};
+
+/// How many bytes are asked for at once.
+const PIECE: usize = 256 * 1024;
+
+/// Why a file was not read.
+#[derive(Clone, Copy, Debug, PartialEq, Eq)]
+pub enum ReadFault {
+    /// The shelf failed, and its count of reading rose.
+    Fault,
+    /// The file has more bytes than were allowed.
+    Over,
+    /// There was no memory.
+    OutOfMemory,
+}
+
+impl From<Failed> for ReadFault {
+    ghost from_gives = { λ f e. e ≡ read_fault_of f };
+
+    fn from(f: Failed) -> ReadFault {
+        match f {
+            Failed::Fault => ReadFault::Fault,
+            Failed::OutOfMemory => ReadFault::OutOfMemory,
+        }
+    }
+}
+
+impl From<AllocError> for ReadFault {
+    ghost from_gives = { λ _ e. e ≡ OutOfMemory };
+
+    fn from(_: AllocError) -> ReadFault {
+        ReadFault::OutOfMemory
+    }
+}
+
+// Reads to the end of the opened file, a piece at a time, or until there are more bytes than `max`.
+fn read_rest<S: Shelf>(
+    alloc: Global,
+    shelf: &mut S,
+    piece: &mut [u8],
+    max: usize,
+) -> Result<Vec<u8>, ReadFault>
+    requires in_use { S.in_use shelf.old ≡ InUse.Opened }
+    requires room { 0 < length piece.old }
+    ensures in_use { S.in_use shelf.new ≡ InUse.Opened }
+    ensures bound { IfOk result (λ v. vec_len v ≤ max) }
+    ensures bytes { IsTrue S.tells → IfOk result (λ v. v.items ≡ (S.told shelf.old).left) }
+    ensures over { IsTrue S.tells → IsErrOf result ReadFault.Over →
+        max < length (S.told shelf.old).left }
+    ensures told { IsTrue S.tells →
+        S.told shelf.new ≡ record (S.told shelf.old) { left = (S.told shelf.new).left } }
+    ensures cause { ReadCause (S.reading shelf.old) (S.reading shelf.new)
+        (S.writing shelf.old) (S.writing shelf.new) result }
+{
+    let mut bytes = Vec::new(alloc);
+    'pieces: while bytes.len() <= max {
+        let n = shelf.read(piece)?;
+        if n == 0 {
+            return Ok(bytes);
+        }
+        bytes.extend_from_slice(&piece[..n])?;
+    }
+    Err(ReadFault::Over)
+}
+
+// Reads the opened file to its end and closes it.
+fn read_opened<S: Shelf>(
+    alloc: Global,
+    shelf: &mut S,
+    piece: &mut [u8],
+    max: usize,
+) -> Result<Vec<u8>, ReadFault>
+    requires in_use { S.in_use shelf.old ≡ InUse.Opened }
+    requires room { 0 < length piece.old }
+    ensures in_use { OnOk result (S.in_use shelf.new ≡ InUse.Nothing) }
+    ensures in_use_after { IfErr result (λ e. S.in_use shelf.new ≡ in_use_after e) }
+    ensures bound { IfOk result (λ v. vec_len v ≤ max) }
+    ensures bytes { IsTrue S.tells → IfOk result (λ v. v.items ≡ (S.told shelf.old).left) }
+    ensures over { IsTrue S.tells → IsErrOf result ReadFault.Over →
+        max < length (S.told shelf.old).left }
+    ensures told { IsTrue S.tells →
+        S.told shelf.new ≡ record (S.told shelf.old) { left = (S.told shelf.new).left } }
+    ensures left { IsTrue S.tells → OnOk result ((S.told shelf.new).left ≡ []) }
+    ensures cause { ReadCause (S.reading shelf.old) (S.reading shelf.new)
+        (S.writing shelf.old) (S.writing shelf.new) result }
+{
+    match read_rest(alloc, shelf, piece, max) {
+        Ok(bytes) => {
+            shelf.close_file()?;
+            Ok(bytes)
+        }
+        Err(ReadFault::Over) => Err(ReadFault::Over),
+        Err(ReadFault::Fault) => {
+            let _ = shelf.close_file();
+            Err(ReadFault::Fault)
+        }
+        Err(ReadFault::OutOfMemory) => {
+            shelf.close_file()?;
+            Err(ReadFault::OutOfMemory)
+        }
+    }
+}
+
+/// Opens a file, reads it to its end and closes it.
+///
+/// # Errors
+///
+/// - `Fault` where a call of the shelf failed; the count of reading rose.
+/// - `Over` exactly where the file has more than `max` bytes and nothing failed before that was found.
+///   The file is still open then: closing it could fail, and hide what was found.
+/// - `OutOfMemory` where there was no memory.
+pub fn read_all<S: Shelf>(
+    alloc: Global,
+    shelf: &mut S,
+    name: &str,
+    max: usize,
+) -> Result<Vec<u8>, ReadFault>
+    requires { S.in_use shelf.old ≡ InUse.Nothing }
+    ensures in_use { OnOk result (S.in_use shelf.new ≡ InUse.Nothing) }
+    ensures in_use_after { IfErr result (λ e. S.in_use shelf.new ≡ in_use_after e) }
+
+    // The bytes are those of the file.
+    ensures bound { IfOk result (λ v. vec_len v ≤ max) }
+    ensures bytes { IsTrue S.tells →
+        IfOk result (λ v. (S.told shelf.old).holds name.now ≡ Some v.items) }
+
+    // A file is refused for its length exactly where it has more than max bytes.
+    ensures over { IsTrue S.tells → IsErrOf result ReadFault.Over →
+        IsSomeAnd ((S.told shelf.old).holds name.now) (λ b. max < length b) }
+    ensures within { IsTrue S.tells →
+        IsSomeAnd ((S.told shelf.old).holds name.now) (λ b. length b ≤ max) →
+        ¬ IsErrOf result ReadFault.Over }
+    ensures too_long { IsTrue S.tells →
+        IsSomeAnd ((S.told shelf.old).holds name.now) (λ b. max < length b) → ¬ IsOk result }
+
+    // Nothing else that the shelf tells is changed.
+    ensures told { IsTrue S.tells →
+        OnOk result (S.told shelf.new ≡ was_read (S.told shelf.old) name.now) }
+    ensures only_read { IsTrue S.tells → OnlyRead (S.told shelf.old) (S.told shelf.new) }
+    ensures named { IsTrue S.tells →
+        Names (S.told shelf.old).last (S.told shelf.new).last name.now result }
+    ensures cause { ReadCause (S.reading shelf.old) (S.reading shelf.new)
+        (S.writing shelf.old) (S.writing shelf.new) result }
+{
+    let mut piece = vec![in alloc; 0; PIECE]?;
+    shelf.open_file(name)?;
+    read_opened(alloc, shelf, &mut piece, max)
+}
