@@ -1,0 +1,4 @@
+pub mod Walk
+pub mod Captures
+pub mod Fronts
+pub mod RoundTripLaws

@@ -1,0 +1,163 @@
+-- Reading a file that was written, record by record.
+use Rattle.std.proofs.Common.{◌≡◌, ℕ, zero, suc, ◌+◌, ◌*◌, ◌/◌, ◌%◌, ◌^◌, ◌<◌, ◌≤◌, Bool, true, false, List, [], ◌∷◌, ◌++◌, length, take, drop, Some, refl, sym, ap, ◌∙◌, append_assoc, arith}
+use Rattle.std.specs.Prelude.{◌==◌, ◌&&◌}
+use Rattle.std.specs.List.{flat_map}
+use Rattle.std.proofs.Math.Seq.{drop-append-add, drop-append_seam, take-append_seam}
+use Rattle.std.proofs.lemmas.List.Elements.{recursion_from_All}
+use Rattle.std.proofs.lemmas.List.{get_or-append-add, length-append, append-nil}
+use Rattle.std.specs.List.{AllByRecursion}
+use Rattle.std.proofs.lemmas.Bool.{le-leb, lt-ltb, ne_eqb, eq-eqb}
+use Rattle.std.proofs.lemmas.Nat.{from_le_bytes-to_le_bytes_4}
+use Rattle.spec_base.specs.Bytes.{little_endian_at}
+use Rattle.spec_pcap.specs.Pcap.{Frame, second, snap_length, header_length, record_header_length, header, record_header, record_of, file_of, is_header, is_record, frame_at, captured_at, behind, frames_from}
+use Rattle.pcap_io.specs.RoundTrip.{IsKept, WrittenIsRead}
+use Rattle.pcap_io.proofs.Walk.{preceded, frames_from-end, frames_from-record}
+use Rattle.pcap_io.proofs.Captures.{capture_of-frames}
+
+-- a number behind a front is the number in the rest
+little_endian_at-append : (n : ℕ) (front rest : List ℕ) (at : ℕ)
+    → little_endian_at n (front ++ rest) (length front + at) ≡ little_endian_at n rest at
+unfolding little_endian_at
+little_endian_at-append zero front rest at = refl
+little_endian_at-append (suc n) front rest at =
+    let next : length front + at + 1 ≡ length front + (at + 1) = omega arith in
+    rw (get_or-append-add front rest at 0, next, little_endian_at-append n front rest (at + 1)) refl
+
+-- ---- the header of a record, in microseconds
+
+abbrev head_of : ℕ → ℕ → List ℕ
+head_of time len = record_header false time len
+
+seconds_there : (time len : ℕ) (rest : List ℕ) → time / second < 2 ^ 32 → little_endian_at 4 (head_of time len ++ rest) 0 ≡ time / second
+unfolding little_endian_at record_header
+seconds_there time len rest fits = omega (arith, from_le_bytes-to_le_bytes_4 (time / second) fits)
+
+fraction_there : (time len : ℕ) (rest : List ℕ) → little_endian_at 4 (head_of time len ++ rest) 4 ≡ time % second / 1000
+unfolding little_endian_at record_header
+fraction_there time len rest =
+    let fits : time % second / 1000 < 2 ^ 32 = omega arith in
+    omega (arith, from_le_bytes-to_le_bytes_4 (time % second / 1000) fits)
+
+captured_there : (time len : ℕ) (rest : List ℕ) → len < 2 ^ 32 → little_endian_at 4 (head_of time len ++ rest) 8 ≡ len
+unfolding little_endian_at record_header
+captured_there time len rest fits = omega (arith, from_le_bytes-to_le_bytes_4 len fits)
+
+length-head_of : (time len : ℕ) → length (head_of time len) ≡ record_header_length
+unfolding record_header
+length-head_of time len = refl
+
+-- the tests of a record, all passed
+all_passed : (a b c d : Bool) → a ≡ true → b ≡ true → c ≡ true → d ≡ true → (a && (b && (c && d))) ≡ true
+all_passed a b c d is_a is_b is_c is_d = rw (is_a, is_b, is_c, is_d) refl
+
+-- ---- behind a front stands the record of a frame, and then the rest of a file
+
+module _ (front : List ℕ) (frame : Frame) (rest : List ℕ) where
+  abbrev len : ℕ
+  len = length frame.bytes
+
+  abbrev head : List ℕ
+  head = head_of frame.time len
+
+  abbrev file : List ℕ
+  file = front ++ (head ++ (frame.bytes ++ rest))
+
+  abbrev place : ℕ
+  place = length front
+
+  length-head : length head ≡ record_header_length
+  length-head = length-head_of frame.time len
+
+  length-file : length file ≡ place + (record_header_length + (len + length rest))
+  length-file =
+      let in_record = length-append head (frame.bytes ++ rest) in
+      omega (arith, length-append front (head ++ (frame.bytes ++ rest)), in_record, length-append frame.bytes rest, length-head)
+
+  seconds_is : IsKept frame → little_endian_at 4 file place ≡ frame.time / second
+  seconds_is kept =
+      let here : place ≡ place + 0 = omega arith in
+      ap (little_endian_at 4 file) here ∙ little_endian_at-append 4 front (head ++ (frame.bytes ++ rest)) 0
+      ∙ seconds_there frame.time len (frame.bytes ++ rest) kept.seconds
+
+  fraction_is : little_endian_at 4 file (place + 4) ≡ frame.time % second / 1000
+  fraction_is =
+      little_endian_at-append 4 front (head ++ (frame.bytes ++ rest)) 4 ∙ fraction_there frame.time len (frame.bytes ++ rest)
+
+  captured_is : IsKept frame → captured_at file place ≡ len
+  captured_is kept =
+      little_endian_at-append 4 front (head ++ (frame.bytes ++ rest)) 8
+      ∙ captured_there frame.time len (frame.bytes ++ rest) (omega (arith, kept.len))
+
+  bytes_is : take len (drop (place + record_header_length) file) ≡ frame.bytes
+  bytes_is =
+      let behind_head : drop record_header_length (head ++ (frame.bytes ++ rest)) ≡ frame.bytes ++ rest =
+      ap (λ (n : ℕ). drop n (head ++ (frame.bytes ++ rest))) (sym length-head) ∙ drop-append_seam head (frame.bytes ++ rest) in
+      let behind_front = drop-append-add front (head ++ (frame.bytes ++ rest)) record_header_length in
+      ap (take len) (behind_front ∙ behind_head) ∙ take-append_seam frame.bytes rest
+
+  frame_is : IsKept frame → frame_at false file place ≡ frame
+  frame_is kept =
+      let time_is : little_endian_at 4 file place * second + little_endian_at 4 file (place + 4) * 1000 ≡ frame.time =
+      rw (seconds_is kept, fraction_is) (omega (arith, kept.micros)) in
+      let bytes_are : take (captured_at file place) (drop (place + record_header_length) file) ≡ frame.bytes =
+      rw (captured_is kept) bytes_is in
+      λ i. record { time = time_is i; bytes = bytes_are i }
+
+  behind_is : IsKept frame → behind file place ≡ place + (record_header_length + len)
+  behind_is kept = omega (arith, captured_is kept)
+
+  record_is : IsKept frame → is_record false file place ≡ true
+  record_is kept =
+      let header_in : place + record_header_length ≤ length file = omega (arith, length-file) in
+      let short : captured_at file place ≤ snap_length = omega (arith, captured_is kept, kept.len) in
+      let bytes_in : behind file place ≤ length file = omega (arith, length-file, behind_is kept) in
+      let below : little_endian_at 4 file (place + 4) * 1000 < second = omega (arith, fraction_is) in
+      all_passed _ _ _ _ (le-leb _ _ header_in) (le-leb _ _ short) (le-leb _ _ bytes_in) (lt-ltb _ _ below)
+
+  more_is : (place == length file) ≡ false
+  more_is = ne_eqb place (length file) (λ e. omega (arith, length-file))
+
+  -- the file, with the record in front of the rest
+  file_is : front ++ (record_of false frame ++ rest) ≡ file
+  file_is = ap (λ (bytes : List ℕ). front ++ bytes) (append_assoc head frame.bytes rest)
+
+  next_is : IsKept frame → length (front ++ record_of false frame) ≡ behind file place
+  next_is kept =
+      let in_record = length-append head frame.bytes in
+      omega (arith, length-append front (record_of false frame), in_record, length-head, behind_is kept)
+
+-- ---- all the records of a file
+
+written : (front : List ℕ) (frames : List Frame) (room : ℕ) → AllByRecursion IsKept frames → length frames ≤ room
+    → frames_from false room (front ++ flat_map (record_of false) frames) (length front) ≡ Some frames
+written front [] room kept fits =
+    frames_from-end false (front ++ []) room (length front) (eq-eqb _ _ (ap length (sym (append-nil front))))
+written front (frame ∷ frames) zero kept fits = absurd (omega (arith, fits))
+written front (frame ∷ frames) (suc room) kept fits =
+    let rest = flat_map (record_of false) frames in
+    let all = file front frame rest in
+    let at = length front in
+    let passed : (front ++ record_of false frame) ++ rest ≡ all = append_assoc front (record_of false frame) rest ∙ file_is front frame rest in
+    let others = written (front ++ record_of false frame) frames room kept.1 (omega (arith, fits)) in
+    let others_there : frames_from false room all (behind all at) ≡ Some frames = rw (passed, next_is front frame rest kept.0) at others in
+    ap (λ (bytes : List ℕ). frames_from false (suc room) bytes at) (file_is front frame rest)
+    ∙ frames_from-record false all room at (more_is front frame rest) (record_is front frame rest kept.0)
+    ∙ ap (preceded (frame_at false all at)) others_there
+    ∙ ap (λ (first : Frame). Some (first ∷ frames)) (frame_is front frame rest kept.0)
+
+-- ---- the header of a file
+
+length-header : length (header false) ≡ header_length
+unfolding header
+length-header = refl
+
+header_is : (rest : List ℕ) → is_header (header false ++ rest) ≡ true
+unfolding header little_endian_at
+header_is rest =
+    let long : header_length ≤ length (header false ++ rest) = omega (arith, length-append (header false) rest) in
+    rw (le-leb header_length (length (header false ++ rest)) long) refl
+
+pub written_is_read : WrittenIsRead
+written_is_read frames room kept fits =
+    let records = written (header false) frames room (recursion_from_All IsKept frames kept) fits in
+    capture_of-frames room (file_of false frames) (Some frames) (header_is (flat_map (record_of false) frames)) (rw (← length-header) records)
