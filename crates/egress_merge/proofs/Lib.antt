@@ -1,0 +1,3 @@
+pub mod InOrder
+mod Rows
+pub mod StableSorts
