@@ -1,0 +1,53 @@
+-- The stages of the verdict, from what was read.
+use Rattle.std.proofs.Common.{◌≡◌, ℕ, ◌<◌, ◌≤◌, true, false, List, length, Option, Some, None, refl, arith}
+use Rattle.std.specs.Prelude.{IsSomeAnd, nat_lt, Ok, Err}
+use Rattle.std.proofs.lemmas.Bool.Decides.{nat_tests}
+use Rattle.spec_pcap.specs.Pcap.{Capture, capture_of}
+use Rattle.spec_tables.specs.Edits.{Edit}
+use Rattle.spec_text.specs.Script.{edits_of}
+use Rattle.spec_run.specs.Verdict.{Files, NotBuilt, edits_in, file_in}
+
+past : (n limit : ℕ) → limit < n → nat_lt limit n ≡ true
+past n limit lt = grind (arith, nat_tests)
+
+within : (n limit : ℕ) → n ≤ limit → nat_lt limit n ≡ false
+within n limit le = grind (arith, nat_tests)
+
+-- ---- the edits
+
+pub edits_too_long : (files : Files) (name : List ℕ) → IsSomeAnd (files name) (λ b. 33554432 < length b) → edits_in files name ≡ Err (NotBuilt name)
+unfolding edits_in edits_of
+edits_too_long files name long = over (files name) refl long
+  where
+    over : (o : Option (List ℕ)) → files name ≡ o → IsSomeAnd o (λ b. 33554432 < length b) → edits_in files name ≡ Err (NotBuilt name)
+    over None e long = absurd long
+    over (Some bytes) e long = rw (e, past (length bytes) 33554432 long) refl
+
+pub edits_read : (files : Files) (name bytes : List ℕ) (edits : List Edit) → files name ≡ Some bytes → edits_of bytes ≡ Some edits → edits_in files name ≡ Ok edits
+unfolding edits_in
+edits_read files name bytes edits held read = rw (held, read) refl
+
+pub edits_not_built : (files : Files) (name bytes : List ℕ) → files name ≡ Some bytes → edits_of bytes ≡ None → edits_in files name ≡ Err (NotBuilt name)
+unfolding edits_in
+edits_not_built files name bytes held read = rw (held, read) refl
+
+-- ---- a trace
+
+pub trace_too_long : (files : Files) (bytes_left frames_left : ℕ) (name : List ℕ) → IsSomeAnd (files name) (λ b. bytes_left < length b)
+    → file_in files bytes_left frames_left name ≡ Err (NotBuilt name)
+unfolding file_in
+trace_too_long files bytes_left frames_left name long = over (files name) refl long
+  where
+    over : (o : Option (List ℕ)) → files name ≡ o → IsSomeAnd o (λ b. bytes_left < length b) → file_in files bytes_left frames_left name ≡ Err (NotBuilt name)
+    over None e long = absurd long
+    over (Some bytes) e long = rw (e, past (length bytes) bytes_left long) refl
+
+pub trace_read : (files : Files) (bytes_left frames_left : ℕ) (name bytes : List ℕ) (size : ℕ) (capture : Capture) → files name ≡ Some bytes → size ≡ length bytes → size ≤ bytes_left
+    → capture_of frames_left bytes ≡ Some capture → file_in files bytes_left frames_left name ≡ Ok (record { size = size; capture = capture })
+unfolding file_in
+trace_read files bytes_left frames_left name bytes size capture held is le read = rw (is, held, within (length bytes) bytes_left (rw is at le), read) refl
+
+pub trace_not_built : (files : Files) (bytes_left frames_left : ℕ) (name bytes : List ℕ) → files name ≡ Some bytes → length bytes ≤ bytes_left
+    → capture_of frames_left bytes ≡ None → file_in files bytes_left frames_left name ≡ Err (NotBuilt name)
+unfolding file_in
+trace_not_built files bytes_left frames_left name bytes held le read = rw (held, within (length bytes) bytes_left le, read) refl

@@ -1,0 +1,55 @@
+-- The run that was read, and what a call makes of it.
+use Rattle.std.specs.Prelude.{◌≡◌, ℕ, ◌⊎◌, List, [], map, Ok, Err, Contains}
+use Rattle.spec_case.specs.Run.{Run}
+use Rattle.spec_run.specs.Verdict as verdicts
+use Rattle.spec_run.specs.Outputs.{File, port_file, files_of}
+use Rattle.spec_run.specs.Statuses.{PrintsFront, not_built_text}
+use Rattle.edge_io.specs.declared.outside.InUse.{InUse}
+use Rattle.edge_io.specs.Shelf.{Told}
+use Rattle.edge_io.specs.ReadAll.{OnlyRead}
+use Rattle.switch_app.specs.declared.flow.Flow.{Flow}
+use Rattle.switch_app.specs.declared.input.Input.{Input}
+use Rattle.switch_app.specs.declared.refusal.Refusal.{Refusal}
+use Rattle.switch_app.specs.declared.refusal.Refusal.TheVariants.{NotBuilt, ReadFault, WriteFault, OutOfMemory}
+use Rattle.switch_app.specs.ScriptViews.{flows_view}
+use Rattle.switch_app.specs.InputViews.{ports_of, captures_of}
+use Rattle.switch_app.specs.Written.{written, IsCutShort}
+use Rattle.switch_app.specs.Refused.{name_in}
+
+abbrev pub run_view : List Flow → List Input → Run
+run_view flows inputs = record { ports = ports_of inputs; edits = flows_view flows; syncs = []; traces = captures_of inputs }
+
+-- the files that this run writes
+abbrev pub files_for : List ℕ → List Flow → List Input → List File
+files_for out flows inputs = map (port_file out (run_view flows inputs)) (ports_of inputs)
+
+-- The verdict accepted the run, whose files were written as far as a front of this one.
+pub record IsCutRun (words : List (List ℕ)) (files : verdicts.Files) (before now : List File) (name : List ℕ) : Type 0 where
+  pub accepted : verdicts.Accepted
+  pub is_verdict : verdicts.verdict words files ≡ Ok accepted
+  pub file : File
+  pub cut : IsCutShort (files_of accepted) file before now
+  pub named : name ≡ file.0
+
+-- The verdict accepted the run, whose files were written as far as a front of one.
+abbrev pub IsPartOfRun : List (List ℕ) → verdicts.Files → List File → List File → Type 0
+IsPartOfRun words files before now = (name : List ℕ) × IsCutRun words files before now name
+
+-- What stands after a refusal, and why it came.
+abbrev pub Leaves : List (List ℕ) → Told → Told → InUse → Refusal → Type 0
+Leaves words before now in_use (NotBuilt what) =
+    (verdicts.verdict words before.holds ≡ Err (verdicts.NotBuilt what.now)) × OnlyRead before now
+Leaves words before now in_use (ReadFault name) =
+    Contains (verdicts.files_opened words before.holds) name.now × (now.last ≡ name.now) × OnlyRead before now
+Leaves words before now in_use (WriteFault name) =
+    IsCutRun words before.holds before.done (written in_use now) now.last × (now.last ≡ name_in (WriteFault name))
+Leaves words before now in_use OutOfMemory = OnlyRead before now ⊎ IsPartOfRun words before.holds before.done (written in_use now)
+
+-- The verdict is that an input has a form that isn't built.
+abbrev pub IsNotBuilt : List (List ℕ) → verdicts.Files → Type 0
+IsNotBuilt words files = (what : List ℕ) × (verdicts.verdict words files ≡ Err (verdicts.NotBuilt what))
+
+-- That input is told, or a front of the text that tells it.
+abbrev pub PrintsNotBuilt : List (List ℕ) → verdicts.Files → List ℕ → List ℕ → Type 0
+PrintsNotBuilt words files before now =
+    (what : List ℕ) × (verdicts.verdict words files ≡ Err (verdicts.NotBuilt what)) × PrintsFront before now (not_built_text what)

@@ -1,0 +1,149 @@
+ghost use Rattle.std.specs.Prelude.{◌≡◌, ◌<◌, ◌≤◌, ◌-◌, length, List, [], map, Ok, Contains, IsTrue, OnOk, IfOk, IfErr, vec_len};
+ghost use Rattle.edge_io.specs.declared.outside.InUse.TheVariants.{Nothing};
+ghost use Rattle.edge_io.specs.ReadAll.{OnlyRead};
+ghost use Rattle.spec_run.specs.Verdict.{edits_in, file_in, trace_in, traces_in, trace_names, traces_opened, most_trace_bytes, most_frames};
+ghost use Rattle.switch_app.specs.WordViews.{port_view, ports_view};
+ghost use Rattle.switch_app.specs.ScriptViews.{flows_view};
+ghost use Rattle.switch_app.specs.InputViews.{ports_of, captures_of};
+ghost use Rattle.switch_app.specs.ReadingViews.{trace_view};
+ghost use Rattle.switch_app.specs.Refused.{Explains, RunCause, is_read_fault, name_in};
+
+use crate::fault::FormFault;
+use crate::flow::Flow;
+use crate::input::Input;
+use crate::refusal::Refusal;
+use crate::script::{self, MOST_EDITS};
+use crate::words::PortWord;
+use edge_io::{ReadFault, Shelf, read_all};
+use pcap_io::{PcapFault, Trace, read_trace};
+use std::alloc::Global;
+
+// The most bytes and frames of all traces.
+const MOST_TRACE_BYTES: usize = 268_435_456;
+
+const MOST_FRAMES: usize = 131_072;
+
+/// Reads the file of edits.
+pub fn read_edits<'a, S: Shelf>(
+    alloc: Global,
+    shelf: &mut S,
+    name: &'a str,
+) -> Result<Vec<Flow>, Refusal<'a>>
+    requires { S.in_use shelf.old ≡ Nothing }
+    ensures in_use { OnOk result (S.in_use shelf.new ≡ Nothing) }
+    ensures ok { IsTrue S.tells → IfOk result (λ flows. edits_in (S.told shelf.old).holds name.now ≡ Ok (flows_view flows.items)) }
+    ensures count { IfOk result (λ flows. vec_len flows ≤ MOST_EDITS) }
+    ensures err { IsTrue S.tells → IfErr result (Explains (edits_in (S.told shelf.old).holds name.now)) }
+    ensures fault { IfErr result (λ r. IsTrue (is_read_fault r) → name_in r ≡ name.now) }
+    ensures named { IsTrue S.tells → IfErr result (λ r. IsTrue (is_read_fault r) → (S.told shelf.new).last ≡ name.now) }
+    ensures told { IsTrue S.tells → OnlyRead (S.told shelf.old) (S.told shelf.new) }
+    ensures cause { RunCause (S.reading shelf.old) (S.reading shelf.new) (S.writing shelf.old) (S.writing shelf.new) result }
+{
+    match read_all(alloc, shelf, name, script::MOST_BYTES) {
+        Err(ReadFault::Fault) => Err(Refusal::ReadFault { name }),
+        Err(ReadFault::Over) => Err(Refusal::NotBuilt { what: name }),
+        Err(ReadFault::OutOfMemory) => Err(Refusal::OutOfMemory),
+        Ok(bytes) => match script::read_edits(alloc, &bytes) {
+            Ok(flows) => Ok(flows),
+            Err(FormFault::NotBuilt) => Err(Refusal::NotBuilt { what: name }),
+            Err(FormFault::OutOfMemory) => Err(Refusal::OutOfMemory),
+        },
+    }
+}
+
+/// A trace, and the bytes of its file.
+#[derive(Drop)]
+pub struct TraceFile {
+    pub size: usize,
+    pub trace: Trace,
+}
+
+// Reads a trace for which so much room is left.
+fn read_trace_file<'a, S: Shelf>(
+    alloc: Global,
+    shelf: &mut S,
+    name: &'a str,
+    bytes_left: usize,
+    frames_left: usize,
+) -> Result<TraceFile, Refusal<'a>>
+    requires { S.in_use shelf.old ≡ Nothing }
+    ensures in_use { OnOk result (S.in_use shelf.new ≡ Nothing) }
+    ensures ok { IsTrue S.tells → IfOk result (λ t. file_in (S.told shelf.old).holds bytes_left frames_left name.now ≡ Ok (trace_view t)) }
+    ensures count { IfOk result (λ t. length t.trace.frames ≤ frames_left) }
+    ensures size { IfOk result (λ t. t.size ≤ bytes_left) }
+    ensures err { IsTrue S.tells → IfErr result (Explains (file_in (S.told shelf.old).holds bytes_left frames_left name.now)) }
+    ensures fault { IfErr result (λ r. IsTrue (is_read_fault r) → name_in r ≡ name.now) }
+    ensures named { IsTrue S.tells → IfErr result (λ r. IsTrue (is_read_fault r) → (S.told shelf.new).last ≡ name.now) }
+    ensures told { IsTrue S.tells → OnlyRead (S.told shelf.old) (S.told shelf.new) }
+    ensures cause { RunCause (S.reading shelf.old) (S.reading shelf.new) (S.writing shelf.old) (S.writing shelf.new) result }
+{
+    match read_all(alloc, shelf, name, bytes_left) {
+        Err(ReadFault::Fault) => Err(Refusal::ReadFault { name }),
+        Err(ReadFault::Over) => Err(Refusal::NotBuilt { what: name }),
+        Err(ReadFault::OutOfMemory) => Err(Refusal::OutOfMemory),
+        Ok(bytes) => {
+            let size = bytes.len();
+            match read_trace(alloc, bytes, frames_left) {
+                Ok(trace) => Ok(TraceFile { size, trace }),
+                Err(PcapFault::NotBuilt) => Err(Refusal::NotBuilt { what: name }),
+                Err(PcapFault::OutOfMemory) => Err(Refusal::OutOfMemory),
+            }
+        }
+    }
+}
+
+// Reads the trace of a port, if it has one.
+fn read_port_trace<'a, S: Shelf>(
+    alloc: Global,
+    shelf: &mut S,
+    w: &PortWord<'a>,
+    bytes_left: usize,
+    frames_left: usize,
+) -> Result<TraceFile, Refusal<'a>>
+    requires { S.in_use shelf.old ≡ Nothing }
+    ensures in_use { OnOk result (S.in_use shelf.new ≡ Nothing) }
+    ensures ok { IsTrue S.tells → IfOk result (λ t. trace_in (S.told shelf.old).holds bytes_left frames_left (port_view w.now) ≡ Ok (trace_view t)) }
+    ensures count { IfOk result (λ t. length t.trace.frames ≤ frames_left) }
+    ensures size { IfOk result (λ t. t.size ≤ bytes_left) }
+    ensures err { IsTrue S.tells → IfErr result (Explains (trace_in (S.told shelf.old).holds bytes_left frames_left (port_view w.now))) }
+    ensures fault { IfErr result (λ r. IsTrue (is_read_fault r) → Contains (trace_names (port_view w.now)) (name_in r)) }
+    ensures named { IsTrue S.tells → IfErr result (λ r. IsTrue (is_read_fault r) → (S.told shelf.new).last ≡ name_in r) }
+    ensures told { IsTrue S.tells → OnlyRead (S.told shelf.old) (S.told shelf.new) }
+    ensures cause { RunCause (S.reading shelf.old) (S.reading shelf.new) (S.writing shelf.old) (S.writing shelf.new) result }
+{
+    if w.file.is_empty() {
+        return Ok(TraceFile {
+            size: 0,
+            trace: Trace::empty(alloc),
+        });
+    }
+    read_trace_file(alloc, shelf, w.file, bytes_left, frames_left)
+}
+
+/// Reads the traces of the ports. Each takes of the room that those before it left.
+pub fn read_inputs<'a, S: Shelf>(
+    alloc: Global,
+    shelf: &mut S,
+    ports: &[PortWord<'a>],
+) -> Result<Vec<Input>, Refusal<'a>>
+    requires { S.in_use shelf.old ≡ Nothing }
+    ensures in_use { OnOk result (S.in_use shelf.new ≡ Nothing) }
+    ensures ports { IfOk result (λ inputs. ports_of inputs.items ≡ map (λ w. w.port) (ports_view ports.now)) }
+    ensures ok { IsTrue S.tells → IfOk result (λ inputs. traces_in (S.told shelf.old).holds (ports_view ports.now) ≡ Ok (captures_of inputs.items)) }
+    ensures err { IsTrue S.tells → IfErr result (Explains (traces_in (S.told shelf.old).holds (ports_view ports.now))) }
+    ensures named { IsTrue S.tells → IfErr result (λ r. IsTrue (is_read_fault r) → (S.told shelf.new).last ≡ name_in r) }
+    ensures opened { IsTrue S.tells → IfErr result (λ r. IsTrue (is_read_fault r) → Contains (traces_opened (S.told shelf.old).holds most_trace_bytes most_frames (ports_view ports.now)) (name_in r)) }
+    ensures told { IsTrue S.tells → OnlyRead (S.told shelf.old) (S.told shelf.new) }
+    ensures cause { RunCause (S.reading shelf.old) (S.reading shelf.new) (S.writing shelf.old) (S.writing shelf.new) result }
+{
+    let mut inputs = Vec::new(alloc);
+    let mut bytes_left = MOST_TRACE_BYTES;
+    let mut frames_left = MOST_FRAMES;
+    'ports: for w in ports {
+        let read = read_port_trace(alloc, shelf, w, bytes_left, frames_left)?;
+        bytes_left -= read.size;
+        frames_left -= read.trace.len();
+        inputs.push(Input::new(w.port, read.trace))?;
+    }
+    Ok(inputs)
+}
