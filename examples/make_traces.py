@@ -1,0 +1,172 @@
+#!/usr/bin/env python3
+"""Makes the traces of the examples.
+
+    python3 make_traces.py [FOLDER]
+
+writes FOLDER/EXAMPLE/NAME.pcap for each example, and takes the folder of this script where none is given. The same
+bytes come at each run: nothing is random, and no clock is read. The traces in the repository were made so.
+
+A trace is a classic capture file (pcap-savefile(5)): little-endian, in microseconds, of Ethernet. Its frames are real:
+padded to the 60 bytes that Ethernet asks for (IEEE 802.3, 3.2.7), with right lengths and checksums. The stations have
+addresses that are set aside for documentation (RFC 5737) and MAC addresses that anyone may give (IEEE 802, 8.4).
+"""
+import os
+import struct
+import sys
+
+ETHERTYPE_IPV4 = 0x0800
+ETHERTYPE_ARP = 0x0806
+PROTOCOL_ICMP = 1
+PROTOCOL_TCP = 6
+
+BROADCAST = "ff:ff:ff:ff:ff:ff"
+NO_MAC = "00:00:00:00:00:00"
+BRIDGE_GROUP = "01:80:c2:00:00:00"
+
+# Frames have at least 60 bytes, without the check sequence.
+SHORTEST_FRAME = 60
+
+# ---- numbers in bytes
+
+
+def mac(text):
+    return bytes(int(octet, 16) for octet in text.split(":"))
+
+
+def address(text):
+    return bytes(int(octet) for octet in text.split("."))
+
+
+def checksum(data):
+    """The checksum of the internet (RFC 1071)."""
+    if len(data) % 2:
+        data += b"\0"
+    total = sum(struct.unpack(f"!{len(data) // 2}H", data))
+    while total >> 16:
+        total = (total & 0xFFFF) + (total >> 16)
+    return ~total & 0xFFFF
+
+
+# ---- frames
+
+
+def ethernet(target, source, ethertype, payload):
+    """A frame of Ethernet (IEEE 802.3, 3.1.1), padded."""
+    frame = mac(target) + mac(source) + struct.pack("!H", ethertype) + payload
+    return frame.ljust(SHORTEST_FRAME, b"\0")
+
+
+def arp(operation, sender_mac, sender, target_mac, target):
+    """A message of ARP for IPv4 over Ethernet (RFC 826)."""
+    header = struct.pack("!HHBBH", 1, ETHERTYPE_IPV4, 6, 4, operation)
+    return header + mac(sender_mac) + address(sender) + mac(target_mac) + address(target)
+
+
+def ipv4(source, target, protocol, payload, identification):
+    """A packet of IPv4 without options, which isn't to be fragmented (RFC 791)."""
+    start = struct.pack("!BBHHHBB", 0x45, 0, 20 + len(payload), identification, 0x4000, 64, protocol)
+    ends = address(source) + address(target)
+    return start + struct.pack("!H", checksum(start + b"\0\0" + ends)) + ends + payload
+
+
+def icmp_echo_request(identifier, sequence):
+    """An echo request of ICMP (RFC 792) with the 56 bytes of data that ping sends."""
+    rest = struct.pack("!HH", identifier, sequence) + bytes(range(56))
+    return struct.pack("!BBH", 8, 0, checksum(b"\x08\0\0\0" + rest)) + rest
+
+
+def tcp_syn(source, target, source_port, target_port, sequence, time):
+    """The segment of TCP that opens a connection (RFC 9293), with the options that Linux sends."""
+    maximum_segment_size = struct.pack("!BBH", 2, 4, 1460)
+    sack_permitted = b"\x04\x02"
+    timestamps = struct.pack("!BBII", 8, 10, time, 0)
+    window_scale = b"\x01\x03\x03\x07"
+    options = maximum_segment_size + sack_permitted + timestamps + window_scale
+    length = 20 + len(options)
+    start = struct.pack("!HHIIBBH", source_port, target_port, sequence, 0, length // 4 << 4, 0x02, 64240)
+    pseudo_header = address(source) + address(target) + struct.pack("!BBH", 0, PROTOCOL_TCP, length)
+    return start + struct.pack("!HH", checksum(pseudo_header + start + b"\0\0\0\0" + options), 0) + options
+
+
+def spanning_tree(source, bridge_priority):
+    """A frame of the spanning tree protocol (IEEE 802.1D, 9.3.1), by which bridges tell each other that they are there."""
+    bridge = struct.pack("!H", bridge_priority) + mac(source)
+    # Protocol, version, type and flags; the root, its cost, the bridge and its port; ages and times in 256ths of a second.
+    message = struct.pack("!HBBB", 0, 0, 0, 0) + bridge + struct.pack("!I", 0) + bridge
+    message += struct.pack("!HHHHH", 0x8001, 0, 20 * 256, 2 * 256, 15 * 256)
+    link = b"\x42\x42\x03" + message
+    return ethernet(BRIDGE_GROUP, source, len(link), link)
+
+
+# ---- traces
+
+
+def trace(frames):
+    """A capture file of frames, each with its time in microseconds."""
+    file = struct.pack("<IHHIIII", 0xA1B2C3D4, 2, 4, 0, 0, 262144, 1)
+    for time, frame in frames:
+        file += struct.pack("<IIII", time // 1000000, time % 1000000, len(frame), len(frame)) + frame
+    return file
+
+
+# ---- the office of first-switch
+
+GATEWAY = ("02:00:00:00:00:01", "192.0.2.1")
+FILE_SERVER = ("02:00:00:00:00:02", "192.0.2.2")
+PRINTER = ("02:00:00:00:00:03", "192.0.2.3")
+DESK = ("02:00:00:00:00:0a", "192.0.2.10")
+OTHER_DESK = ("02:00:00:00:00:0b", "192.0.2.11")
+STRANGER = ("02:00:00:00:00:7f", "192.0.2.127")
+DESK_SWITCH = "02:00:00:00:00:f0"
+WEB_SITE = "198.51.100.7"
+
+# 2024-01-15 09:00:00 UTC, in microseconds
+MORNING = 1705309200 * 1000000
+
+
+def ping(source, target, identification, sequence):
+    packet = ipv4(source[1], target[1], PROTOCOL_ICMP, icmp_echo_request(7, sequence), identification)
+    return ethernet(target[0], source[0], ETHERTYPE_IPV4, packet)
+
+
+def connect(source, via, target, ports, identification, sequence, time):
+    """A segment that opens a connection to an address, sent to the station that it goes by."""
+    segment = tcp_syn(source[1], target, ports[0], ports[1], sequence, time)
+    return ethernet(via[0], source[0], ETHERTYPE_IPV4, ipv4(source[1], target, PROTOCOL_TCP, segment, identification))
+
+
+def office():
+    """What comes from the desks. The last two frames were taken up in the other order than they came."""
+    ask = arp(1, *DESK, NO_MAC, GATEWAY[1])
+    answer = arp(2, *DESK, *FILE_SERVER)
+    return trace(
+        (MORNING + after, frame)
+        for after, frame in [
+            (0, ethernet(BROADCAST, DESK[0], ETHERTYPE_ARP, ask)),
+            (350, ping(DESK, GATEWAY, 0x1001, 1)),
+            (20000, ethernet(FILE_SERVER[0], DESK[0], ETHERTYPE_ARP, answer)),
+            (100000, connect(DESK, FILE_SERVER, FILE_SERVER[1], (40000, 445), 0x1002, 0x11223344, 5000)),
+            (250000, connect(OTHER_DESK, PRINTER, PRINTER[1], (40001, 9100), 0x2001, 0x55667788, 9000)),
+            (300000, ping(DESK, OTHER_DESK, 0x1003, 1)),
+            (1000000, spanning_tree(DESK_SWITCH, 0x8000)),
+            (1200001, ping(OTHER_DESK, STRANGER, 0x2002, 1)),
+            (2000300, ping(OTHER_DESK, GATEWAY, 0x2003, 2)),
+            (2000100, connect(DESK, GATEWAY, WEB_SITE, (40002, 443), 0x1004, 0x99AABBCC, 6900)),
+        ]
+    )
+
+
+TRACES = {"first-switch/desks.pcap": office}
+
+
+def main(words):
+    folder = words[0] if words else os.path.dirname(os.path.abspath(__file__))
+    for name, made in TRACES.items():
+        path = os.path.join(folder, name)
+        os.makedirs(os.path.dirname(path), exist_ok=True)
+        with open(path, "wb") as file:
+            file.write(made())
+
+
+if __name__ == "__main__":
+    main(sys.argv[1:])
