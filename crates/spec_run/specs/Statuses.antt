@@ -1,5 +1,6 @@
 -- The exit statuses, and the texts that are printed with them.
 use Rattle.std.specs.Prelude.{◌≡◌, ℕ, List, [], ◌∷◌, ◌++◌, take, codes}
+use Rattle.spec_text.specs.Characters.{line_feed}
 
 -- all is done
 abbrev pub done_status : ℕ
@@ -22,7 +23,7 @@ not_built_status = 9
 
 -- a text and its line feed
 abbrev pub line_of : List ℕ → List ℕ
-line_of text = text ++ 10 ∷ []
+line_of text = text ++ line_feed ∷ []
 
 abbrev pub read_fault_text : List ℕ → List ℕ
 read_fault_text name = line_of (codes "read fault: " ++ name)

@@ -1,3 +1,4 @@
+pub mod Characters
 pub mod Numbers
 pub mod Words
 pub mod Script

@@ -5,6 +5,7 @@ use Rattle.std.specs.List.{list_all, starts_with}
 use Rattle.std.specs.Option.{option_map, option_and_then}
 use Rattle.std.specs.Char.{is_digit}
 use Rattle.std.specs.Str.Parse.{digits_value}
+use Rattle.spec_text.specs.Characters.{digit_zero, letter_x, colon}
 
 infixl 10 ◌>>=◌
 abbrev pub ◌>>=◌ : {A B : Type 0} → Option A → (A → Option B) → Option B
@@ -28,7 +29,7 @@ digits_upto base most text = if are_digits base text && nat_le (digits_value bas
 
 -- a zero stands before further digits
 abbrev pub has_leading_zero : List ℕ → Bool
-has_leading_zero text = (slice_index text 0 == 48) && not (length text == 1)
+has_leading_zero text = (slice_index text 0 == digit_zero) && not (length text == 1)
 
 -- a number in decimal, at most so much
 unfoldable pub decimal_upto : ℕ → List ℕ → Option ℕ
@@ -36,7 +37,7 @@ decimal_upto most text = if has_leading_zero text then None else digits_upto 10 
 
 -- `0x` stands before it
 abbrev pub is_hexadecimal : List ℕ → Bool
-is_hexadecimal text = (slice_index text 0 == 48) && (slice_index text 1 == 120)
+is_hexadecimal text = (slice_index text 0 == digit_zero) && (slice_index text 1 == letter_x)
 
 -- a number in decimal, or in hexadecimal digits of either case behind `0x`, at most so much
 unfoldable pub number_upto : ℕ → List ℕ → Option ℕ
@@ -57,7 +58,7 @@ octet text = if nat_le (length text) 2 then digits_upto 16 255 text else None
 -- such an octet before a colon, and what stands behind it
 unfoldable pub octet_before_colon : List ℕ → Option (ℕ × List ℕ)
 octet_before_colon text = do
-  parts ← cut 58 text
+  parts ← cut colon text
   n ← octet parts.0
   Some (n, parts.1)
 

@@ -17,6 +17,7 @@ use Rattle.spec_actions.specs.declared.action.OfAction.TheVariants.{Output}
 use Rattle.spec_tables.specs.declared.edit_word.EditWord.TheVariants.{Add}
 use Rattle.spec_tables.specs.Rules.{Match}
 use Rattle.spec_tables.specs.Edits.{Edit}
+use Rattle.spec_text.specs.Characters.{tab, line_feed, carriage_return, space, comma}
 use Rattle.spec_text.specs.Numbers.{◌>>=◌, behind, number_upto, last_port, nonzero, mac}
 
 -- ---- limits
@@ -144,7 +145,7 @@ flow_of s (piece ∷ pieces) =
 
 -- the pieces of a text between commas
 abbrev pub pieces_of : List ℕ → List (List ℕ)
-pieces_of text = slice_split (λ c. c == 44) text
+pieces_of text = slice_split (λ c. c == comma) text
 
 -- the edit of a line, which may begin with `add` and one space
 unfoldable pub edit_of : List ℕ → Option Edit
@@ -152,7 +153,7 @@ edit_of line = flow_of nothing_stated (pieces_of (unwrap_or (behind (codes "add 
 
 -- space, tab or carriage return
 abbrev pub is_white : ℕ → Bool
-is_white c = (c == 32) || ((c == 9) || (c == 13))
+is_white c = (c == space) || ((c == tab) || (c == carriage_return))
 
 -- the edits with that of one more line, which may be blank
 unfoldable pub with_line : List Edit → List ℕ → Option (List Edit)
@@ -167,7 +168,7 @@ with_lines before (line ∷ lines) = with_line before line >>= (λ edits. with_l
 
 -- the lines of a text; the last may lack its line feed
 abbrev pub lines_of : List ℕ → List (List ℕ)
-lines_of text = slice_split (λ c. c == 10) text
+lines_of text = slice_split (λ c. c == line_feed) text
 
 -- the edits of a file
 unfoldable pub edits_of : List ℕ → Option (List Edit)

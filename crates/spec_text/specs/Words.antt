@@ -2,6 +2,7 @@
 -- the form that is built, the first port has a trace and the others have none.
 use Rattle.std.specs.Prelude.{ℕ, ◌==◌, nat_le, nat_eq, Bool, false, not, ◌&&◌, if◌then◌else◌, List, [], ◌∷◌, ◌++◌, length, Option, Some, None}
 use Rattle.std.specs.List.{starts_with, list_any, list_all}
+use Rattle.spec_text.specs.Characters.{equals_sign, hyphen}
 use Rattle.spec_text.specs.Numbers.{◌>>=◌, cut, decimal_upto, last_port, nonzero}
 
 -- `PORT=FILE`: a port, and the name of its trace, which is empty where it has none
@@ -24,7 +25,7 @@ port_number text = decimal_upto last_port text >>= nonzero
 -- the port of a word, round its first `=`
 unfoldable pub port_word : List ℕ → Option PortWord
 port_word word = do
-  parts ← cut 61 word
+  parts ← cut equals_sign word
   port ← port_number parts.0
   Some (record { port = port; file = parts.1 })
 
@@ -52,7 +53,7 @@ most_ports = 32
 
 -- whether a word is no option
 abbrev pub is_plain : List ℕ → Bool
-is_plain word = not (starts_with nat_eq word (45 ∷ []))
+is_plain word = not (starts_with nat_eq word (hyphen ∷ []))
 
 -- whether EDITS and OUT are names, no word is an option, and the ports aren't too many
 abbrev pub is_well_formed : List ℕ → List ℕ → List (List ℕ) → Bool

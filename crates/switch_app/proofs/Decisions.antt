@@ -18,7 +18,8 @@ use Rattle.spec_xlate.specs.Commit.{fields_before_tags, fields_behind_tags, comm
 use Rattle.spec_xlate.specs.Translation.{Switch, State, Going, emit, emit_all, committed, in_port_of, output, is_other_port, act, while_going, run, look, last_state, pipe}
 use Rattle.spec_exec.specs.Sent.{Piece, sent}
 use Rattle.switch_app.specs.DecisionViews.{sends_to, outputs_to}
-use Rattle.switch_app.specs.Plain.{is_output, most_actions}
+use Rattle.spec_text.specs.Script.{most_actions}
+use Rattle.switch_app.specs.Plain.{is_output}
 
 -- ---- a frame whose key doesn't change
 

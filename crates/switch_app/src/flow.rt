@@ -1,6 +1,7 @@
 ghost use Rattle.std.specs.Prelude.{◌≤◌, length, IsTrue};
 ghost use Rattle.std.specs.List.{list_all};
-ghost use Rattle.switch_app.specs.Plain.{is_output, most_actions};
+ghost use Rattle.spec_text.specs.Script.{most_actions};
+ghost use Rattle.switch_app.specs.Plain.{is_output};
 
 use crate::pattern::Pattern;
 use crate::stated::Stated;

@@ -2,8 +2,8 @@ ghost use Rattle.std.specs.Prelude.{◌≡◌, ◌+◌, ◌^◌, ◌<◌, ◌≤
 ghost use Rattle.std.specs.List.{list_all, slice_split};
 ghost use Rattle.std.specs.Option.{option_map};
 ghost use Rattle.spec_text.specs.Numbers.{behind};
-ghost use Rattle.spec_text.specs.Script.{flow_port, with_priority, with_in_port, with_dl_dst, with_item, nothing_stated, output_of, outputs_of, is_drop, actions_of, match_of, added, flow_of, pieces_of, edit_of, is_white, with_line, with_lines, lines_of, edits_of};
-ghost use Rattle.switch_app.specs.Plain.{is_output, most_actions};
+ghost use Rattle.spec_text.specs.Script.{flow_port, with_priority, with_in_port, with_dl_dst, with_item, nothing_stated, most_actions, output_of, outputs_of, is_drop, actions_of, match_of, added, flow_of, pieces_of, edit_of, is_white, with_line, with_lines, lines_of, edits_of};
+ghost use Rattle.switch_app.specs.Plain.{is_output};
 ghost use Rattle.switch_app.specs.ScriptViews.{texts_of, stated_view, flow_view, flows_view};
 
 use crate::fault::FormFault;

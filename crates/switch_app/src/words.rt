@@ -1,6 +1,7 @@
 ghost use Rattle.std.specs.Prelude.{◌≡◌, ◌==◌, ◌∷◌, [], List, map, Option, Some, None, IfOk, IsErrOf, string_bytes};
 ghost use Rattle.std.specs.List.{list_any, list_all};
 ghost use Rattle.std.specs.Option.{option_map};
+ghost use Rattle.spec_text.specs.Characters.{equals_sign};
 ghost use Rattle.spec_text.specs.Numbers.{cut};
 ghost use Rattle.spec_text.specs.Words.{port_number, port_word, is_named, new_port, port_words, has_one_trace, is_plain, is_well_formed, has_trace, command_of};
 ghost use Rattle.switch_app.specs.WordViews.{texts, port_view, ports_view, command_view};
@@ -36,7 +37,7 @@ fn read_port_number(text: &[u8]) -> Option<u16>
 }
 
 fn cut_at_equals(word: &str) -> Option<(&str, &str)>
-    ensures { option_map (λ p. (p.0.now, p.1.now)) result ≡ cut 61 word.now }
+    ensures { option_map (λ p. (p.0.now, p.1.now)) result ≡ cut equals_sign word.now }
 {
     word.split_once('=')
 }

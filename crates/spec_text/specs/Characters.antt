@@ -1,0 +1,32 @@
+-- The characters that part texts, as their bytes in ASCII (RFC 20).
+use Rattle.std.specs.Prelude.{ℕ}
+
+abbrev pub tab : ℕ
+tab = 9
+
+abbrev pub line_feed : ℕ
+line_feed = 10
+
+abbrev pub carriage_return : ℕ
+carriage_return = 13
+
+abbrev pub space : ℕ
+space = 32
+
+abbrev pub comma : ℕ
+comma = 44
+
+abbrev pub hyphen : ℕ
+hyphen = 45
+
+abbrev pub digit_zero : ℕ
+digit_zero = 48
+
+abbrev pub colon : ℕ
+colon = 58
+
+abbrev pub equals_sign : ℕ
+equals_sign = 61
+
+abbrev pub letter_x : ℕ
+letter_x = 120
