@@ -1,8 +1,12 @@
 -- Worked rows: a few arrivals and their order, and the frames of ports.
-use Rattle.std.specs.Prelude.{◌≡◌, ℕ, Bool, true, false, List, [], ◌∷◌, refl}
+use Rattle.std.specs.Prelude.{◌≡◌, ℕ, Bool, true, false, List, [], ◌∷◌, map, replicate, None, refl}
 use Rattle.spec_pcap.specs.Pcap.{Frame, Capture}
+use Rattle.spec_tables.specs.declared.edit_word.EditWord.TheVariants.{Add}
+use Rattle.spec_tables.specs.Edits.{Edit}
 use Rattle.spec_case.specs.declared.arrival.Arrival.{Arrival}
 use Rattle.spec_case.specs.Run.{Run, frames_in, frame_at, is_nanos}
+use Rattle.spec_case.specs.declared.sync_point.SyncPoint.{SyncPoint}
+use Rattle.spec_case.specs.Blocks.{hi, lo, ends_behind, block_ends, last_place, block_of}
 use Rattle.spec_case.specs.Arrivals.{arrivals_at, arrivals_in, arrivals, put_in_order, in_order}
 
 abbrev at : ℕ → ℕ → ℕ → Arrival
@@ -21,6 +25,8 @@ run = record {
   edits = [];
   syncs = [];
   traces = trace false (frame 3 0xa ∷ frame 1 0xb ∷ frame 2 0xc ∷ []) ∷ trace true (frame 2 0xd ∷ []) ∷ trace false [] ∷ [];
+  flow_limit = 0;
+  steps = [];
 }
 
 places_are_counted_from_1 : arrivals run ≡ at 3 7 1 ∷ at 1 7 2 ∷ at 2 7 3 ∷ at 2 2 1 ∷ []
@@ -45,3 +51,56 @@ arrivals_of_one_port_and_time_come_by_place = refl
 
 one_trace_in_nanoseconds_is_enough : is_nanos run ≡ true
 one_trace_in_nanoseconds_is_enough = refl
+
+-- ---- blocks
+
+abbrev sync : ℕ → ℕ → SyncPoint
+sync time after = record { time = time; after = after }
+
+-- One port, whose frames have these times.
+abbrev timed : List ℕ → List SyncPoint → Run
+timed times syncs = record {
+  ports = 1 ∷ [];
+  edits = [];
+  syncs = syncs;
+  traces = trace false (map (λ time. frame time 0) times) ∷ [];
+  flow_limit = 0;
+  steps = [];
+}
+
+abbrev blocks : List ℕ → List SyncPoint → List ℕ → List ℕ
+blocks times syncs places = map (block_of (timed times syncs) 1) places
+
+a_block_ends_before_the_first_frame_that_is_not_before_the_next_sync_point :
+    (blocks (1 ∷ 3 ∷ 2 ∷ []) (sync 2 0 ∷ []) (1 ∷ 2 ∷ 3 ∷ []) ≡ 0 ∷ 1 ∷ 1 ∷ [])
+    × (last_place (timed (1 ∷ 3 ∷ 2 ∷ []) (sync 2 0 ∷ [])) 1 0 ≡ 1)
+unfolding ends_behind frames_in
+a_block_ends_before_the_first_frame_that_is_not_before_the_next_sync_point = (refl, refl)
+
+a_frame_of_the_time_of_a_sync_point_is_behind_it : blocks (1 ∷ 2 ∷ []) (sync 2 0 ∷ []) (1 ∷ 2 ∷ []) ≡ 0 ∷ 1 ∷ []
+unfolding ends_behind frames_in
+a_frame_of_the_time_of_a_sync_point_is_behind_it = refl
+
+a_sync_point_at_0_leaves_block_0_without_frames : blocks (0 ∷ 5 ∷ []) (sync 0 0 ∷ []) (1 ∷ 2 ∷ []) ≡ 1 ∷ 1 ∷ []
+unfolding ends_behind frames_in
+a_sync_point_at_0_leaves_block_0_without_frames = refl
+
+between_sync_points_of_one_time_no_frame_stands :
+    blocks (1 ∷ 2 ∷ 3 ∷ []) (sync 2 0 ∷ sync 2 0 ∷ sync 3 0 ∷ []) (1 ∷ 2 ∷ 3 ∷ []) ≡ 0 ∷ 2 ∷ 3 ∷ []
+unfolding ends_behind frames_in
+between_sync_points_of_one_time_no_frame_stands = refl
+
+a_port_without_frames_has_empty_blocks : block_ends (timed [] (sync 2 0 ∷ sync 3 0 ∷ [])) 1 ≡ 0 ∷ 0 ∷ 0 ∷ []
+unfolding ends_behind frames_in
+a_port_without_frames_has_empty_blocks = refl
+
+abbrev edit : Edit
+edit = record { word = Add; table = None; priority = 0; cookie = None; matching = record { key = []; mask = [] }; actions = [] }
+
+-- Three edits, with a sync point behind the first and another behind the second.
+abbrev edited : Run
+edited = record (timed [] (sync 2 1 ∷ sync 2 2 ∷ [])) { edits = replicate 3 edit }
+
+the_edits_before_a_block_and_through_it :
+    (map (lo edited) (0 ∷ 1 ∷ 2 ∷ []) ≡ 0 ∷ 1 ∷ 2 ∷ []) × (map (hi edited) (0 ∷ 1 ∷ 2 ∷ []) ≡ 1 ∷ 2 ∷ 3 ∷ [])
+the_edits_before_a_block_and_through_it = (refl, refl)

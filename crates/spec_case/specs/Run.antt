@@ -3,18 +3,18 @@ use Rattle.std.specs.Prelude.{ℕ, ◌==◌, Bool, if◌then◌else◌, List, []
 use Rattle.std.specs.List.{list_any}
 use Rattle.spec_pcap.specs.Pcap.{Frame, Capture, frame_number}
 use Rattle.spec_tables.specs.Edits.{Edit}
+use Rattle.spec_case.specs.declared.sync_point.SyncPoint.{SyncPoint}
+use Rattle.spec_case.specs.declared.run_step.RunStep.{RunStep}
 
--- a point in time before which an edit is not seen: its time in nanoseconds, and how many edits stand before it
-pub record Sync : Type 0 where
-  pub time : ℕ
-  pub after : ℕ
-
--- the ports in the order of the words, the edits and the sync points of their tables, and the trace of each port
+-- the ports in the order of the words, the edits and the sync points of their tables, and the trace of each port; the
+-- most entries of a port's cache, and the schedule's given steps
 pub record Run : Type 0 where
   pub ports : List ℕ
   pub edits : List Edit
-  pub syncs : List Sync
+  pub syncs : List SyncPoint
   pub traces : List Capture
+  pub flow_limit : ℕ
+  pub steps : List RunStep
 
 -- the frames of a port's trace
 unfoldable pub frames_in : List ℕ → List Capture → ℕ → List Frame
