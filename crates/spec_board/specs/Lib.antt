@@ -1,0 +1,10 @@
+pub mod Steps
+pub mod State
+pub mod Cache
+pub mod Results
+pub mod Refusals
+pub mod Effects
+pub mod Journals
+pub mod Decisions
+pub mod Schedules
+pub mod Texts
