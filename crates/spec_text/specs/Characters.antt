@@ -19,6 +19,9 @@ comma = 44
 abbrev pub hyphen : ℕ
 hyphen = 45
 
+abbrev pub dot : ℕ
+dot = 46
+
 abbrev pub digit_zero : ℕ
 digit_zero = 48
 

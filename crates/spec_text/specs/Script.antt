@@ -1,11 +1,13 @@
--- The file of edits. In the form that is built, each line adds a rule to table 0:
+-- The file of edits. In the form that is built, a line adds a rule to table 0, or is a sync line:
 --
 --     [add ] { ITEM , } actions= LIST
+--     sync SECONDS [. FRACTION]
 --
 -- An ITEM is `priority=`, `in_port=` or `dl_dst=` with a value, each at most once; a LIST is `drop`, or ports with
--- single commas between them, each a number or `output:` and a number.
-use Rattle.std.specs.Prelude.{ℕ, ◌==◌, nat_lt, nat_le, Bool, false, ◌&&◌, ◌||◌, if◌then◌else◌, List, [], ◌∷◌, ◌++◌, length, slice_set, Option, Some, None, unwrap_or, codes}
-use Rattle.std.specs.List.{list_all, slice_split}
+-- single commas between them, each a number or `output:` and a number. A sync line has two words with white space
+-- round them, and gives a time: the edits behind it begin a new block then.
+use Rattle.std.specs.Prelude.{ℕ, ◌+◌, ◌-◌, ◌*◌, ◌^◌, ◌==◌, nat_lt, nat_le, Bool, false, ◌&&◌, ◌||◌, if◌then◌else◌, List, [], ◌∷◌, ◌++◌, length, drop, slice_get, slice_set, Option, Some, None, unwrap_or, codes}
+use Rattle.std.specs.List.{list_all, slice_split, prefix_len, before_first, after_first}
 use Rattle.std.specs.Option.{option_map, option_map_or}
 use Rattle.spec_base.specs.Bits.{all_bits}
 use Rattle.spec_keys.specs.declared.field_id.FieldId.{FieldId}
@@ -17,8 +19,9 @@ use Rattle.spec_actions.specs.declared.action.OfAction.TheVariants.{Output}
 use Rattle.spec_tables.specs.declared.edit_word.EditWord.TheVariants.{Add}
 use Rattle.spec_tables.specs.Rules.{Match}
 use Rattle.spec_tables.specs.Edits.{Edit}
-use Rattle.spec_text.specs.Characters.{tab, line_feed, carriage_return, space, comma}
-use Rattle.spec_text.specs.Numbers.{◌>>=◌, behind, number_upto, last_port, nonzero, mac}
+use Rattle.spec_case.specs.declared.sync_point.SyncPoint.{SyncPoint}
+use Rattle.spec_text.specs.Characters.{tab, line_feed, carriage_return, space, comma, dot}
+use Rattle.spec_text.specs.Numbers.{◌>>=◌, cut, behind, digits_upto, decimal_upto, number_upto, last_port, nonzero, mac}
 
 -- ---- limits
 
@@ -31,6 +34,13 @@ most_line_bytes = 4096
 
 abbrev pub most_edits : ℕ
 most_edits = 32768
+
+abbrev pub most_syncs : ℕ
+most_syncs = 63
+
+-- the greatest whole number of seconds of a sync time
+abbrev pub most_seconds : ℕ
+most_seconds = 4294967295
 
 -- the most actions of a flow
 abbrev pub most_actions : ℕ
@@ -94,10 +104,14 @@ unfoldable pub outputs_of : List OfAction → List (List ℕ) → Option (List O
 outputs_of before [] = Some before
 outputs_of before (text ∷ texts) = output_of text >>= (λ action. outputs_of (before ++ action ∷ []) texts)
 
+-- whether a text is this word and no more
+abbrev pub is_text : List ℕ → List ℕ → Bool
+is_text word text = option_map_or (λ rest. length rest == 0) (behind word text) false
+
 -- `drop` alone
 abbrev pub is_drop : List (List ℕ) → Bool
 is_drop [] = false
-is_drop (text ∷ texts) = (option_map_or (λ rest. length rest == 0) (behind (codes "drop") text) false) && (length texts == 0)
+is_drop (text ∷ texts) = is_text (codes "drop") text && (length texts == 0)
 
 unfoldable pub actions_of : List (List ℕ) → Option (List OfAction)
 actions_of texts = if is_drop texts then Some [] else (if nat_le (length texts) most_actions then outputs_of [] texts else None)
@@ -151,25 +165,98 @@ pieces_of text = slice_split (λ c. c == comma) text
 unfoldable pub edit_of : List ℕ → Option Edit
 edit_of line = flow_of nothing_stated (pieces_of (unwrap_or (behind (codes "add ") line) line))
 
+-- ---- sync lines
+
 -- space, tab or carriage return
 abbrev pub is_white : ℕ → Bool
 is_white c = (c == space) || ((c == tab) || (c == carriage_return))
 
--- the edits with that of one more line, which may be blank
-unfoldable pub with_line : List Edit → List ℕ → Option (List Edit)
-with_line before line =
-    if nat_lt most_line_bytes (length line) then None
-    else (if list_all is_white line then Some before
-    else (if nat_lt (length before) most_edits then option_map (λ e. before ++ e ∷ []) (edit_of line) else None))
+-- a text without the white space at its start
+abbrev pub unindented : List ℕ → List ℕ
+unindented text = drop (prefix_len is_white text) text
 
-unfoldable pub with_lines : List Edit → List (List ℕ) → Option (List Edit)
-with_lines before [] = Some before
-with_lines before (line ∷ lines) = with_line before line >>= (λ edits. with_lines edits lines)
+-- the first word of a text, and what stands behind it
+abbrev pub first_word : List ℕ → List ℕ × List ℕ
+first_word text = (before_first is_white (unindented text), after_first is_white (unindented text))
+
+-- the decimal digits of a fraction of a second in nanoseconds
+abbrev pub nanosecond_digits : ℕ
+nanosecond_digits = 9
+
+-- whole seconds, in nanoseconds
+unfoldable pub seconds_of : List ℕ → Option ℕ
+seconds_of text = option_map (λ n. n * 10 ^ nanosecond_digits) (decimal_upto most_seconds text)
+
+-- the fraction of a second behind its dot, in nanoseconds
+unfoldable pub fraction_of : List ℕ → Option ℕ
+fraction_of digits =
+    if nat_le (length digits) nanosecond_digits
+    then option_map (λ n. n * 10 ^ (nanosecond_digits - length digits)) (digits_upto 10 (10 ^ nanosecond_digits - 1) digits)
+    else None
+
+-- seconds with a fraction, in nanoseconds
+unfoldable pub seconds_with_fraction : List ℕ × List ℕ → Option ℕ
+seconds_with_fraction parts = do
+  whole ← seconds_of parts.0
+  part ← fraction_of parts.1
+  Some (whole + part)
+
+-- a time of one word, in nanoseconds
+unfoldable pub time_of : List ℕ → Option ℕ
+time_of word = where_found (cut dot word) seconds_with_fraction (seconds_of word)
+
+-- the time of what stands behind `sync`: one word
+unfoldable pub sync_time : List ℕ → Option ℕ
+sync_time text = if list_all is_white (first_word text).1 then time_of (first_word text).0 else None
+
+-- ---- files
+
+-- what a file says: its edits, and its sync points
+pub record Script : Type 0 where
+  pub edits : List Edit
+  pub syncs : List SyncPoint
+
+abbrev pub nothing_said : Script
+nothing_said = record { edits = []; syncs = [] }
+
+-- the script with one more edit
+unfoldable pub with_edit : Script → Edit → Option Script
+with_edit s e = if nat_lt (length s.edits) most_edits then Some (record s { edits = s.edits ++ e ∷ [] }) else None
+
+-- the time of the last sync point so far; there is none before time 0
+abbrev pub last_time : List SyncPoint → ℕ
+last_time syncs = option_map_or (λ (s : SyncPoint). s.time) (slice_get syncs (length syncs - 1)) 0
+
+-- the sync point of a time, behind these edits
+abbrev pub sync_at : List Edit → ℕ → SyncPoint
+sync_at edits time = record { time = time; after = length edits }
+
+-- the script with a sync point more, which is no earlier than the one before it
+unfoldable pub with_sync : Script → ℕ → Option Script
+with_sync s time =
+    if nat_lt (length s.syncs) most_syncs && nat_le (last_time s.syncs) time
+    then Some (record s { syncs = s.syncs ++ sync_at s.edits time ∷ [] })
+    else None
+
+-- whether a line's first word is `sync`
+abbrev pub is_sync : List ℕ → Bool
+is_sync line = is_text (codes "sync") (first_word line).0
+
+-- the script with that of one more line, which may be blank
+unfoldable pub with_line : Script → List ℕ → Option Script
+with_line s line =
+    if nat_lt most_line_bytes (length line) then None
+    else (if list_all is_white line then Some s
+    else (if is_sync line then sync_time (first_word line).1 >>= with_sync s else edit_of line >>= with_edit s))
+
+unfoldable pub with_lines : Script → List (List ℕ) → Option Script
+with_lines s [] = Some s
+with_lines s (line ∷ lines) = with_line s line >>= (λ more. with_lines more lines)
 
 -- the lines of a text; the last may lack its line feed
 abbrev pub lines_of : List ℕ → List (List ℕ)
 lines_of text = slice_split (λ c. c == line_feed) text
 
--- the edits of a file
-unfoldable pub edits_of : List ℕ → Option (List Edit)
-edits_of bytes = if nat_lt most_bytes (length bytes) then None else with_lines [] (lines_of bytes)
+-- what the bytes of a file say
+unfoldable pub script_of : List ℕ → Option Script
+script_of bytes = if nat_lt most_bytes (length bytes) then None else with_lines nothing_said (lines_of bytes)

@@ -1,7 +1,8 @@
--- The words of the command line: EDITS, OUT and then ports, each with the trace that comes in there or with none. In
--- the form that is built, the first port has a trace and the others have none.
-use Rattle.std.specs.Prelude.{ℕ, ◌==◌, nat_le, nat_eq, Bool, false, not, ◌&&◌, if◌then◌else◌, List, [], ◌∷◌, ◌++◌, length, Option, Some, None}
+-- The words of the command line: EDITS, OUT and then ports, at least one, each with the trace that comes in there or
+-- with none.
+use Rattle.std.specs.Prelude.{ℕ, ◌==◌, nat_le, nat_eq, Bool, not, ◌&&◌, if◌then◌else◌, List, [], ◌∷◌, ◌++◌, length, Option, Some, None}
 use Rattle.std.specs.List.{starts_with, list_any, list_all}
+use Rattle.std.specs.Option.{option_map}
 use Rattle.spec_text.specs.Characters.{equals_sign, hyphen}
 use Rattle.spec_text.specs.Numbers.{◌>>=◌, cut, decimal_upto, last_port, nonzero}
 
@@ -42,11 +43,6 @@ unfoldable pub port_words : List PortWord → List (List ℕ) → Option (List P
 port_words before [] = Some before
 port_words before (word ∷ words) = new_port before word >>= (λ w. port_words (before ++ w ∷ []) words)
 
--- the first port has a trace, and the others have none
-abbrev pub has_one_trace : List PortWord → Bool
-has_one_trace [] = false
-has_one_trace (first ∷ others) = has_trace first && not (list_any has_trace others)
-
 -- the most ports of a switch
 abbrev pub most_ports : ℕ
 most_ports = 32
@@ -55,18 +51,17 @@ most_ports = 32
 abbrev pub is_plain : List ℕ → Bool
 is_plain word = not (starts_with nat_eq word (hyphen ∷ []))
 
--- whether EDITS and OUT are names, no word is an option, and the ports aren't too many
+-- whether EDITS and OUT are names, no word is an option, and there is a port and not too many
 abbrev pub is_well_formed : List ℕ → List ℕ → List (List ℕ) → Bool
 is_well_formed edits out ports =
     not (length edits == 0) && not (length out == 0) && is_plain edits && is_plain out && list_all is_plain ports
-    && nat_le (length ports) most_ports
+    && not (length ports == 0) && nat_le (length ports) most_ports
 
--- a command of this form, or none
-abbrev pub command_with : List ℕ → List ℕ → List PortWord → Option Command
-command_with edits out ports = if has_one_trace ports then Some (record { edits = edits; out = out; ports = ports }) else None
+abbrev pub command_with : List ℕ → List ℕ → List PortWord → Command
+command_with edits out ports = record { edits = edits; out = out; ports = ports }
 
 -- what the words of the command line say
 unfoldable pub command_of : List (List ℕ) → Option Command
 command_of [] = None
 command_of (edits ∷ []) = None
-command_of (edits ∷ out ∷ words) = if is_well_formed edits out words then port_words [] words >>= command_with edits out else None
+command_of (edits ∷ out ∷ words) = if is_well_formed edits out words then option_map (command_with edits out) (port_words [] words) else None
