@@ -1,5 +1,5 @@
 -- Worked rows: words and small files, the verdict on them, what is opened, and the files that come out.
-use Rattle.std.specs.Prelude.{◌≡◌, ℕ, false, nat_eq, if◌then◌else◌, List, [], ◌∷◌, ◌++◌, take, replicate, Option, Some, None, Result, Ok, Err, codes, refl}
+use Rattle.std.specs.Prelude.{◌≡◌, ℕ, false, nat_eq, if◌then◌else◌, List, [], ◌∷◌, ◌++◌, map, take, replicate, Option, Some, None, Result, Ok, Err, codes, refl}
 use Rattle.std.specs.Cmp.Lexicographic.{pointwise}
 use Rattle.std.specs.Fmt.{digits}
 use Rattle.spec_base.specs.Bytes.{big_endian_at, little_endian_at}
@@ -9,7 +9,7 @@ use Rattle.spec_tables.specs.Rules.{winner}
 use Rattle.spec_tables.specs.Edits.{version}
 use Rattle.spec_text.specs.Numbers.{digits_upto, decimal_upto, number_upto, octet, octet_before_colon, mac}
 use Rattle.spec_text.specs.Words.{port_number, port_word, new_port, port_words, command_of}
-use Rattle.spec_text.specs.Script.{flow_port, with_priority, with_in_port, with_dl_dst, with_item, output_of, outputs_of, actions_of, flow_of, edit_of, with_line, with_lines, edits_of}
+use Rattle.spec_text.specs.Script.{flow_port, with_priority, with_in_port, with_dl_dst, with_item, output_of, outputs_of, actions_of, flow_of, edit_of, with_line, with_lines, script_of, with_edit, with_sync, sync_time, time_of, seconds_with_fraction, seconds_of, fraction_of}
 use Rattle.spec_frames.specs.Key.{key_of}
 use Rattle.spec_case.specs.Run.{frames_in}
 use Rattle.spec_case.specs.Arrivals.{arrivals_at, arrivals_in, put_in_order, in_order}
@@ -17,7 +17,11 @@ use Rattle.spec_xlate.specs.Commit.{commit, commit_fields, commit_field}
 use Rattle.spec_xlate.specs.Tags.{commit_tags, outer_tags}
 use Rattle.spec_xlate.specs.Translation.{emit, emit_all, committed, output, act, run, look, last_state, pipe}
 use Rattle.spec_exec.specs.Sent.{sent}
-use Rattle.spec_run.specs.Verdict.{Files, Refusal, NotBuilt, Missing, Accepted, command_in, edits_in, file_in, traces_behind, verdict, traces_opened, files_opened}
+use Rattle.spec_case.specs.Blocks.{ends_behind}
+use Rattle.spec_board.specs.Decisions.{decisions_from}
+use Rattle.spec_board.specs.Schedules.{Board, scheduled, finish, finish_board, least_block, with_given_steps}
+use Rattle.spec_board.specs.Texts.{Journal}
+use Rattle.spec_run.specs.Verdict.{Files, Refusal, NotBuilt, Missing, Accepted, command_in, script_in, file_in, traces_behind, verdict, traces_opened, files_opened}
 use Rattle.spec_run.specs.Outputs.{File, files_of}
 use Rattle.spec_run.specs.Statuses.{read_fault_text}
 
@@ -35,18 +39,26 @@ trace = file_of false (frame ∷ [])
 abbrev files : Option (List ℕ) → Option (List ℕ) → Files
 files e a name = if pointwise nat_eq name (codes "e") then e else (if pointwise nat_eq name (codes "a") then a else None)
 
+abbrev journal : Board → Journal
+journal b = record { port = b.port; steps = b.steps }
+
 -- what becomes of a run with such files
 unfoldable outcome : List (List ℕ) → Option (List ℕ) → Option (List ℕ) → Result (List File) Refusal
-unfolding command_in edits_in file_in traces_behind verdict capture_of frames_from little_endian_at digits_upto decimal_upto number_upto octet octet_before_colon mac port_number port_word new_port port_words command_of flow_port with_priority with_in_port with_dl_dst with_item output_of outputs_of actions_of flow_of edit_of with_line with_lines edits_of files_of version winner none masked same joined big_endian_at key_of frames_in arrivals_at arrivals_in put_in_order in_order sent pipe last_state look run act output committed emit emit_all commit commit_fields commit_field commit_tags outer_tags header record_header only_at digits
+unfolding command_in script_in file_in traces_behind verdict capture_of frames_from little_endian_at digits_upto decimal_upto number_upto octet octet_before_colon mac port_number port_word new_port port_words command_of flow_port with_priority with_in_port with_dl_dst with_item output_of outputs_of actions_of flow_of edit_of with_line with_lines script_of with_edit with_sync sync_time time_of seconds_with_fraction seconds_of fraction_of files_of version winner none masked same joined big_endian_at key_of frames_in arrivals_at arrivals_in put_in_order in_order sent pipe last_state look run act output committed emit emit_all commit commit_fields commit_field commit_tags outer_tags header record_header only_at digits finish finish_board least_block with_given_steps decisions_from ends_behind
 outcome words e a = files_in (verdict words (files e a))
   where
     files_in : Result Accepted Refusal → Result (List File) Refusal
-    files_in (Ok accepted) = Ok (files_of accepted)
+    files_in (Ok accepted) = Ok (files_of accepted (map journal (scheduled accepted.run).boards))
     files_in (Err refusal) = Err refusal
+
+-- the files of the two ports
+abbrev port_files : Result (List File) Refusal → Result (List File) Refusal
+port_files (Ok files) = Ok (take 2 files)
+port_files (Err refusal) = Err refusal
 
 -- what the edits `e` make of that frame
 abbrev done_with : List ℕ → Result (List File) Refusal
-done_with e = outcome words (Some e) (Some trace)
+done_with e = port_files (outcome words (Some e) (Some trace))
 
 -- the files of the two ports
 abbrev sends : List Frame → List Frame → Result (List File) Refusal
@@ -87,6 +99,13 @@ an_add_replaces_the_rule_of_its_match_and_priority : done_with (codes "actions=d
 unfolding outcome
 an_add_replaces_the_rule_of_its_match_and_priority = refl
 
+a_rule_changes_between_two_frames :
+    outcome words (Some (codes "in_port=1,actions=2\nsync 2\npriority=40000,actions=drop\n")) (Some (file_of false (frame ∷ record frame { time = 2000000000 } ∷ [])))
+    ≡ Ok ((codes "o.p1.pcap", file_of false []) ∷ (codes "o.p2.pcap", file_of false (frame ∷ []))
+    ∷ (codes "o.journal", codes "port 1\nbegin 1\nend\nlook 1 miss\nsettle 1 1 full\nopen 1\nbegin 2\nend\nlook 2 miss\nsettle 2 2 full\nport 2\nbegin 1\nend\nopen 1\nbegin 2\nend\n") ∷ [])
+unfolding outcome
+a_rule_changes_between_two_frames = refl
+
 -- ---- what is refused
 
 refused_words_come_first : outcome (codes "e" ∷ []) None None ≡ Err (NotBuilt (codes "words"))
@@ -106,7 +125,7 @@ a_trace_that_is_missing_or_cut_is_refused = (refl, refl)
 -- ---- what is opened
 
 unfoldable opened : Option (List ℕ) → Option (List ℕ) → List (List ℕ)
-unfolding files_opened traces_opened command_in edits_in file_in traces_behind verdict capture_of frames_from little_endian_at digits_upto decimal_upto number_upto octet octet_before_colon mac port_number port_word new_port port_words command_of flow_port with_priority with_in_port with_dl_dst with_item output_of outputs_of actions_of flow_of edit_of with_line with_lines edits_of
+unfolding files_opened traces_opened command_in script_in file_in traces_behind verdict capture_of frames_from little_endian_at digits_upto decimal_upto number_upto octet octet_before_colon mac port_number port_word new_port port_words command_of flow_port with_priority with_in_port with_dl_dst with_item output_of outputs_of actions_of flow_of edit_of with_line with_lines script_of with_edit with_sync sync_time time_of seconds_with_fraction seconds_of fraction_of
 opened e a = files_opened words (files e a)
 
 nothing_is_opened_behind_a_refusal :

@@ -3,10 +3,9 @@
 use Rattle.std.specs.Prelude.{ℕ, ◌-◌, nat_lt, false, if◌then◌else◌, List, [], ◌∷◌, ◌++◌, length, map, Option, None, Result, Ok, Err, codes}
 use Rattle.std.specs.Option.{option_map, ok_or}
 use Rattle.spec_pcap.specs.Pcap.{Capture, capture_of}
-use Rattle.spec_tables.specs.Edits.{Edit}
 use Rattle.spec_case.specs.Run.{Run}
 use Rattle.spec_text.specs.Words.{PortWord, Command, command_of, has_trace}
-use Rattle.spec_text.specs.Script.{edits_of}
+use Rattle.spec_text.specs.Script.{Script, script_of}
 
 -- the bytes of a file by its name, where there is one
 abbrev pub Files : Type 0
@@ -40,8 +39,8 @@ command_in words = ok_or (command_of words) (NotBuilt words_name)
 abbrev pub bytes_in : Files → List ℕ → Result (List ℕ) Refusal
 bytes_in files name = ok_or (files name) (Missing name)
 
-unfoldable pub edits_in : Files → List ℕ → Result (List Edit) Refusal
-edits_in files name = bytes_in files name >>= (λ bytes. ok_or (edits_of bytes) (NotBuilt name))
+unfoldable pub script_in : Files → List ℕ → Result Script Refusal
+script_in files name = bytes_in files name >>= (λ bytes. ok_or (script_of bytes) (NotBuilt name))
 
 -- ---- the traces
 
@@ -88,15 +87,23 @@ traces_in files ports = traces_behind files [] most_trace_bytes most_frames port
 
 -- ---- the whole
 
-abbrev pub run_of : Command → List Edit → List Capture → Run
-run_of command edits traces = record { ports = map (λ (w : PortWord). w.port) command.ports; edits = edits; syncs = []; traces = traces }
+-- No megaflow is kept, and no step is given.
+abbrev pub run_of : Command → Script → List Capture → Run
+run_of command script traces = record {
+  ports = map (λ (w : PortWord). w.port) command.ports;
+  edits = script.edits;
+  syncs = script.syncs;
+  traces = traces;
+  flow_limit = 0;
+  steps = [];
+}
 
 unfoldable pub verdict : List (List ℕ) → Files → Result Accepted Refusal
 verdict words files =
     command_in words
-    >>= (λ command. edits_in files command.edits
-    >>= (λ edits. traces_in files command.ports
-    >>= (λ traces. Ok (record { command = command; run = run_of command edits traces }))))
+    >>= (λ command. script_in files command.edits
+    >>= (λ script. traces_in files command.ports
+    >>= (λ traces. Ok (record { command = command; run = run_of command script traces }))))
 
 -- ---- what is opened
 
@@ -119,4 +126,4 @@ traces_opened files bytes_left frames_left (w ∷ ws) =
 -- the files that are opened in reading, each only where none before it is refused
 unfoldable pub files_opened : List (List ℕ) → Files → List (List ℕ)
 files_opened words files =
-    if_passed (command_in words) (λ command. command.edits ∷ if_passed (edits_in files command.edits) (λ _. traces_opened files most_trace_bytes most_frames command.ports))
+    if_passed (command_in words) (λ command. command.edits ∷ if_passed (script_in files command.edits) (λ _. traces_opened files most_trace_bytes most_frames command.ports))

@@ -1,6 +1,8 @@
 //! What a whole run of the switch is: the verdict on its words and files, and what it writes.
 //!
 //! - `Verdict`: the first refusal in the order of reading, or the run that the words and the files give.
+//! - `Journals`: what the journals of a run are to be: legal and complete, and each frame decided once, as a plain scan
+//!   of one version of the tables decides it, within its window.
 //! - `Outputs`: the files that a run writes, by name and byte.
 //! - `Statuses`: the exit statuses and the texts that go with them.
 //!
