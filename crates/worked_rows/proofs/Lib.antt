@@ -1,3 +1,4 @@
 mod Lookups
 mod Writes
 mod Tables
+mod Journals

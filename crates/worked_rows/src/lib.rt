@@ -8,6 +8,7 @@
 //! - `Lookups`: which rule wins, and which bits that consults.
 //! - `Writes`: actions that change a packet, and the datapath actions that commit them.
 //! - `Tables`: packets that pass through several tables.
+//! - `Journals`: what the caches of a port do, step by step.
 //!
 //! Nothing is built on this crate. The few rows that tell a wrong definition from a right one at once stand with the
 //! definitions themselves, in the `proofs` folders of the specification crates, beside edits that they refuse.
