@@ -1,0 +1,78 @@
+-- Lists by what stands at each place.
+use Rattle.std.proofs.Common.{◌≡◌, ℕ, zero, suc, ◌<◌, Bool, true, false, cond, List, [], ◌∷◌, ◌++◌, length, map, Option, Some, None, refl, sym, ap, ap₂, ◌∙◌, arith, ◌⊎◌, inl, inr}
+use Rattle.std.specs.Prelude.{slice_get, filter}
+use Rattle.std.specs.List.{filter_map, cons_option, list_any}
+use Rattle.std.proofs.lemmas.Bool.{or_left, or_right, or_from}
+use Rattle.std.proofs.lemmas.Option.{none-some, same_Some}
+
+-- two lists of one length that give the same at each place
+pub filter_map_alike : {A B : Type 0} (f g : A → Option B) (xs ys : List A) → length xs ≡ length ys
+    → ((i : ℕ) (x y : A) → slice_get xs i ≡ Some x → slice_get ys i ≡ Some y → f x ≡ g y) → filter_map f xs ≡ filter_map g ys
+filter_map_alike f g [] [] len alike = refl
+filter_map_alike f g [] (y ∷ ys) len alike = absurd (omega arith)
+filter_map_alike f g (x ∷ xs) [] len alike = absurd (omega arith)
+filter_map_alike f g (x ∷ xs) (y ∷ ys) len alike =
+    ap₂ cons_option (alike 0 x y refl refl) (filter_map_alike f g xs ys (omega arith) (λ i a b at bt. alike (suc i) a b at bt))
+
+pub map_alike : {A B : Type 0} (f g : A → B) (xs ys : List A) → length xs ≡ length ys
+    → ((i : ℕ) (x y : A) → slice_get xs i ≡ Some x → slice_get ys i ≡ Some y → f x ≡ g y) → map f xs ≡ map g ys
+map_alike f g [] [] len alike = refl
+map_alike f g [] (y ∷ ys) len alike = absurd (omega arith)
+map_alike f g (x ∷ xs) [] len alike = absurd (omega arith)
+map_alike {A} {B} f g (x ∷ xs) (y ∷ ys) len alike =
+    ap₂ (λ (z : B) (zs : List B). z ∷ zs) (alike 0 x y refl refl) (map_alike f g xs ys (omega arith) (λ i a b at bt. alike (suc i) a b at bt))
+
+-- what an option has that passes a test
+abbrev pub passing : {A : Type 0} → (A → Bool) → Option A → Option A
+passing p None = None
+passing p (Some x) = cond (p x) (Some x) None
+
+filter-cons_option : {A : Type 0} (p : A → Bool) (o : Option A) (xs : List A) → filter p (cons_option o xs) ≡ cons_option (passing p o) (filter p xs)
+filter-cons_option p None xs = refl
+filter-cons_option p (Some x) xs = elim (p x) as (λ b. cond b (x ∷ filter p xs) (filter p xs) ≡ cons_option (cond b (Some x) None) (filter p xs)) [ true ↦ refl | false ↦ refl ]
+
+pub filter-filter_map : {A B : Type 0} (p : B → Bool) (f : A → Option B) (xs : List A) → filter p (filter_map f xs) ≡ filter_map (λ x. passing p (f x)) xs
+filter-filter_map p f [] = refl
+filter-filter_map p f (x ∷ xs) = filter-cons_option p (f x) (filter_map f xs) ∙ ap (λ rest. cons_option (passing p (f x)) rest) (filter-filter_map p f xs)
+
+any-cons_option : {A : Type 0} (p : A → Bool) (o : Option A) (xs : List A) → list_any p xs ≡ true → list_any p (cons_option o xs) ≡ true
+any-cons_option p None xs any = any
+any-cons_option p (Some x) xs any = or_right (p x) (list_any p xs) any
+
+-- some element passes: one at a place
+pub any_at : {A B : Type 0} (p : B → Bool) (f : A → Option B) (xs : List A) (i : ℕ) (x : A) (y : B) → slice_get xs i ≡ Some x → f x ≡ Some y → p y ≡ true
+    → list_any p (filter_map f xs) ≡ true
+any_at p f [] i x y at is pass = absurd (none-some x at)
+any_at p f (z ∷ zs) zero x y at is pass =
+    let here : f z ≡ Some y = ap f (same_Some z x at) ∙ is in
+    rw here (or_left (p y) (list_any p (filter_map f zs)) pass)
+any_at p f (z ∷ zs) (suc i) x y at is pass = any-cons_option p (f z) (filter_map f zs) (any_at p f zs i x y at is pass)
+
+none-cons_option : {A : Type 0} (p : A → Bool) (o : Option A) (xs : List A) → ((y : A) → o ≡ Some y → p y ≡ false) → list_any p xs ≡ false
+    → list_any p (cons_option o xs) ≡ false
+none-cons_option p None xs here any = any
+none-cons_option p (Some x) xs here any = or_from (p x) (list_any p xs) (here x refl) any
+
+-- none passes
+pub none_passes : {A B : Type 0} (p : B → Bool) (f : A → Option B) (xs : List A)
+    → ((i : ℕ) (x : A) (y : B) → slice_get xs i ≡ Some x → f x ≡ Some y → p y ≡ false) → list_any p (filter_map f xs) ≡ false
+none_passes p f [] none = refl
+none_passes p f (x ∷ xs) none =
+    none-cons_option p (f x) (filter_map f xs) (λ y is. none 0 x y refl is) (none_passes p f xs (λ i z y at is. none (suc i) z y at is))
+
+pub slice_get-push : {A : Type 0} (xs : List A) (x : A) → slice_get (xs ++ x ∷ []) (length xs) ≡ Some x
+slice_get-push [] x = refl
+slice_get-push (z ∷ zs) x = slice_get-push zs x
+
+pub slice_get-append : {A : Type 0} (xs ys : List A) (i : ℕ) → i < length xs → slice_get (xs ++ ys) i ≡ slice_get xs i
+slice_get-append [] ys i lt = absurd (omega arith)
+slice_get-append (x ∷ xs) ys zero lt = refl
+slice_get-append (x ∷ xs) ys (suc i) lt = slice_get-append xs ys i (omega arith)
+
+-- what stands at a place after one more is appended
+pub push_cases : {A : Type 0} (xs : List A) (x y : A) (i : ℕ) → slice_get (xs ++ x ∷ []) i ≡ Some y → (slice_get xs i ≡ Some y) ⊎ ((i ≡ length xs) × (y ≡ x))
+push_cases [] x y zero at = inr (refl, sym (same_Some x y at))
+push_cases [] x y (suc i) at = absurd (none-some y at)
+push_cases (z ∷ zs) x y zero at = inl at
+push_cases (z ∷ zs) x y (suc i) at =
+    elim (push_cases zs x y i at) [ inl before ↦ inl before | inr (last, is) ↦ inr (ap suc last, is) ]

@@ -1,0 +1,8 @@
+mod Adding
+mod Editions
+mod Ends
+mod FilterMaps
+mod Lives
+mod Names
+mod Numbered
+mod Winners

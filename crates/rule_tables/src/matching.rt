@@ -1,0 +1,95 @@
+ghost use Rattle.std.specs.Prelude.{◌≡◌};
+ghost use Rattle.spec_keys.specs.Keys.{masked};
+ghost use Rattle.ovs_fields.specs.Packed.{numbers, bits};
+ghost use Rattle.std.specs.List.{fold};
+ghost use Rattle.rule_tables.specs.HashInput.{mask_writes};
+
+use ovs_fields::{FieldId, Key, Mask, key_hash};
+use std::hash::{Hash, Hasher};
+
+/// The fields of a mask, in the order in which they are hashed.
+const MASK_FIELDS: [FieldId; 34] = [
+    FieldId::InPort,
+    FieldId::Metadata,
+    FieldId::Reg0,
+    FieldId::Reg1,
+    FieldId::Reg2,
+    FieldId::Reg3,
+    FieldId::Reg4,
+    FieldId::Reg5,
+    FieldId::Reg6,
+    FieldId::Reg7,
+    FieldId::Reg8,
+    FieldId::Reg9,
+    FieldId::Reg10,
+    FieldId::Reg11,
+    FieldId::Reg12,
+    FieldId::Reg13,
+    FieldId::Reg14,
+    FieldId::Reg15,
+    FieldId::DlSrc,
+    FieldId::DlDst,
+    FieldId::DlType,
+    FieldId::VlanTci,
+    FieldId::NwSrc,
+    FieldId::NwDst,
+    FieldId::Ipv6Src,
+    FieldId::Ipv6Dst,
+    FieldId::NwProto,
+    FieldId::NwTos,
+    FieldId::NwTtl,
+    FieldId::IpFrag,
+    FieldId::ArpSha,
+    FieldId::ArpTha,
+    FieldId::TpSrc,
+    FieldId::TpDst,
+];
+
+/// What a rule states of a packet: the numbers of the key, at the bits of the mask.
+///
+/// It is normalised: the key's bits outside the mask are 0, so that equal matches are equal numbers.
+#[derive(Clone, Copy, Debug, PartialEq, Eq)]
+pub struct Match {
+    pub key: Key,
+    pub mask: Mask,
+    pub ghost normalised: { masked (numbers key) (bits mask) ≡ numbers key },
+}
+
+impl Match {
+    ghost use Rattle.rule_tables.specs.Views.{match_view};
+    ghost use Rattle.spec_tables.specs.Rules as tables;
+    ghost use Rattle.spec_keys.specs.Keys.{none};
+
+    /// The match of every packet.
+    #[tactic(auto, unfolding(spec_keys::specs::Keys::masked, spec_keys::specs::Keys::none))]
+    pub fn any() -> Match
+        ensures { match_view result ≡ record { key = none; mask = none } }
+    {
+        Match {
+            key: Key::zero(),
+            mask: Mask::none(),
+        }
+    }
+}
+
+// Matches of one key often differ in their masks alone, as routes to nested networks do.
+impl Hash for Match {
+    ghost use Rattle.rule_tables.specs.Hashing.{match_writes, match_writes_alike};
+
+    ghost hash_input = { match_writes };
+
+    ghost respects_eq = { match_writes_alike };
+
+    fn hash<H: Hasher>(&self, state: &mut H) {
+        state.write_u64(key_hash(&self.key));
+        hash_mask(&self.mask, &MASK_FIELDS, state);
+    }
+}
+
+fn hash_mask<H: Hasher>(mask: &Mask, fields: &[FieldId], state: &mut H)
+    ensures { state.new ≡ fold H.write state.old (mask_writes fields.now (bits mask.now)) }
+{
+    for field in fields {
+        state.write_u128(mask.get(*field));
+    }
+}
