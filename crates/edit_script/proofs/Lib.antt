@@ -1,0 +1,4 @@
+pub mod ActionTexts
+pub mod LineTexts
+pub mod Matches
+pub mod Built
