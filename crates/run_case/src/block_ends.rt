@@ -1,0 +1,82 @@
+//! Where the blocks of a trace end.
+ghost use Rattle.std.specs.Prelude.{◌≡◌, ◌+◌, ◌≤◌, ◌^◌, ◌<◌, nat_lt, count_by, drop, length, map, IfOk};
+ghost use Rattle.spec_case.specs.Blocks.{frames_before};
+ghost use Rattle.run_case.specs.Places.{IsCounted, AreCounted, ends_of};
+
+use pcap_io::Trace;
+use spec_case::SyncPoint;
+use std::alloc::{AllocError, Global};
+use std::marker::Model;
+
+// The last place of each block of one trace.
+#[derive(Debug, Drop)]
+pub(crate) struct BlockEnds(Vec<u32>);
+
+impl Model for BlockEnds {
+    ghost use Rattle.std.specs.Prelude.{ℕ, List};
+
+    ghost Value = { List ℕ };
+
+    ghost view = { λ e. e.0.items };
+}
+
+impl BlockEnds {
+    pub(crate) fn as_slice(&self) -> &[u32]
+        ensures { result.now ≡ self.now }
+    {
+        self.0.as_slice()
+    }
+}
+
+// The last place of the block that begins behind a place and ends at a time.
+fn end_of_block(trace: &Trace, behind: u32, time: u64) -> u32
+    requires counted { IsCounted trace.now }
+    requires within { behind ≤ length trace.now.frames }
+    ensures end { result ≡ behind + frames_before time (drop behind trace.now.frames) }
+    ensures within { result ≤ length trace.now.frames }
+{
+    let count = trace.len() as u32;
+    let mut place = behind;
+    while place < count && trace.time(place + 1) < time {
+        place += 1;
+    }
+    place
+}
+
+fn block_ends(alloc: Global, syncs: &[SyncPoint], trace: &Trace) -> Result<BlockEnds, AllocError>
+    requires { IsCounted trace.now }
+    ensures { IfOk result (λ ends. ends ≡ ends_of syncs.now trace.now) }
+{
+    let mut ends = Vec::with_capacity(alloc, syncs.len() + 1)?;
+    let mut place = 0;
+    for sync in syncs {
+        place = end_of_block(trace, place, sync.time);
+        ends.push_reserved(place);
+    }
+    ends.push_reserved(trace.len() as u32);
+    Ok(BlockEnds(ends))
+}
+
+// Where the blocks of each trace end: one walk along each.
+pub(crate) fn all_block_ends(
+    alloc: Global,
+    syncs: &[SyncPoint],
+    traces: &[Trace],
+) -> Result<Vec<BlockEnds>, AllocError>
+    requires { AreCounted traces.now }
+    ensures { IfOk result (λ all. all.items ≡ map (ends_of syncs.now) traces.now) }
+{
+    let mut all = Vec::with_capacity(alloc, traces.len())?;
+    for trace in traces {
+        all.push_reserved(block_ends(alloc, syncs, trace)?);
+    }
+    Ok(all)
+}
+
+// The block of a place: as many blocks end before it.
+pub(crate) fn block_of(ends: &[u32], place: u32) -> u32
+    requires { length ends.now < 2 ^ 32 }
+    ensures { result ≡ count_by (λ end. nat_lt end place) ends.now }
+{
+    ends.iter().filter(|end| **end < place).count() as u32
+}

@@ -1,0 +1,53 @@
+//! One run of the switch, by a name that all values of the run share.
+//!
+//! # What?
+//!
+//! What a run is given is known only once it has been read: the ports of the words, the edits and the sync points of
+//! their file, and a trace of each port. `RunData` holds it. Boards, tables and threads each keep a part of the run, and
+//! all must speak of the same one. A `Case` is the name by which they do: `RunData<C>`, `Keyed<C>` and the types of the
+//! crates above are of the run `C.run`, and a contract tells what they hold without another word.
+//!
+//! # What is promised
+//!
+//! `spec_case` says what a run is, and how sync points cut its edits and its traces into blocks. Every number that is
+//! read here is the one that it defines.
+//!
+//! - A port's frames are those of its own trace, its blocks end where the definition has them end, and a block's edits
+//!   begin and end where the sync points stand.
+//! - A `Keyed` is a frame of the run: its type keeps that the frame is there, and that key, length, time and block are
+//!   that frame's.
+//! - The laws of blocks are lemmas (proofs/Blocks.antt): ends don't fall, the last block ends with the trace, and a
+//!   place is in a block exactly where it stands behind the end of the one before and not behind its own.
+//! - Reading takes no memory and can't fail. Only `RunData::new` takes some, 4 bytes for each block of each port, and
+//!   then no run is made.
+//!
+//! # How
+//!
+//! The function that has read the files calls one function under the name `Brand`, and picks there what the name
+//! means; below that call `C.run` is what was read. A name costs nothing when the program runs.
+//!
+//! Where a port's blocks end is found in one walk along its trace, once. The block of a place is then a count over as
+//! many ends as there are blocks, and a port's trace is found by going through the ports: there are few of both. Frames
+//! aren't copied, but lent from the bytes of their file.
+//!
+//! # What is left to others
+//!
+//! Reading the files, and that they meet what `RunData::new` requires. The most entries of a cache and the steps of a
+//! schedule are parts of `C.run`, but aren't held here: who keeps them ties them to it.
+#![tactic(auto)]
+
+mod block_ends;
+mod case;
+mod keyed;
+mod ports;
+mod ran;
+mod run_data;
+
+pub use case::Case;
+pub use keyed::Keyed;
+pub use ports::Ports;
+pub use ran::Ran;
+pub use run_data::RunData;
+
+#[cfg(test)]
+mod tests;

@@ -1,0 +1,226 @@
+ghost use Rattle.std.specs.Prelude.{◌≡◌, ◌+◌, ◌-◌, ◌/◌, ◌^◌, ◌<◌, ◌≤◌, ◌==◌, Some, length, map, position, slice_get};
+ghost use Rattle.spec_pcap.specs.Pcap.{second, snap_length};
+ghost use Rattle.spec_case.specs.Run.{frame_at, frames_of, is_nanos};
+ghost use Rattle.spec_case.specs.Blocks.{AreInOrder, block_ends, last_block, last_place, lo, hi};
+ghost use Rattle.run_case.specs.Places.{HasPort, HasPlace, AreCounted, ends_of};
+
+use crate::block_ends::{BlockEnds, all_block_ends, block_of};
+use crate::case::Case;
+use crate::keyed::Keyed;
+use crate::ports::Ports;
+use frame_keys::key_of;
+use pcap_io::Trace;
+use rule_tables::Edit;
+use spec_case::SyncPoint;
+use std::alloc::{AllocError, Global};
+use std::marker::PhantomData;
+
+/// What one run is given, and where the blocks of its traces end.
+///
+/// Ports stand in the order of the words, the trace of each at the same place. Edits and places of a trace are counted
+/// from 1, blocks from 0, and times are in nanoseconds.
+#[derive(Debug, Drop)]
+pub struct RunData<C: Case> {
+    ports: Ports,
+    edits: Vec<Edit>,
+    syncs: Vec<SyncPoint>,
+    traces: Vec<Trace>,
+    ends: Vec<BlockEnds>,
+    of: PhantomData<C>,
+    ghost ports_are: { ports ≡ C.run.ports },
+    ghost edits_are: { edits.items ≡ C.run.edits },
+    ghost syncs_are: { syncs.items ≡ C.run.syncs },
+    ghost traces_are: { traces.items ≡ C.run.traces },
+    ghost ends_are: { ends.items ≡ map (ends_of C.run.syncs) C.run.traces },
+    ghost one_each: { length C.run.traces ≡ length C.run.ports },
+    ghost in_order: { AreInOrder C.run.syncs (length C.run.edits) },
+    ghost few_edits: { length C.run.edits < 2 ^ 32 },
+    ghost few_syncs: { length C.run.syncs + 1 < 2 ^ 32 },
+    ghost counted: { AreCounted C.run.traces },
+}
+
+impl<C: Case> RunData<C> {
+    /// The data of a run. It walks along each trace once, and keeps 4 bytes for each block of each port; there may be
+    /// no memory for them.
+    pub fn new(
+        alloc: Global,
+        ports: Ports,
+        edits: Vec<Edit>,
+        syncs: Vec<SyncPoint>,
+        traces: Vec<Trace>,
+    ) -> Result<RunData<C>, AllocError>
+        requires ports { ports ≡ C.run.ports }
+        requires edits { edits.items ≡ C.run.edits }
+        requires syncs { syncs.items ≡ C.run.syncs }
+        requires traces { traces.items ≡ C.run.traces }
+        requires one_each { length C.run.traces ≡ length C.run.ports }
+        requires in_order { AreInOrder C.run.syncs (length C.run.edits) }
+        requires few_edits { length C.run.edits < 2 ^ 32 }
+        requires few_syncs { length C.run.syncs + 1 < 2 ^ 32 }
+        requires counted { AreCounted C.run.traces }
+    {
+        let ends = all_block_ends(alloc, &syncs, &traces)?;
+        Ok(RunData {
+            ports,
+            edits,
+            syncs,
+            traces,
+            ends,
+            of: PhantomData,
+        })
+    }
+
+    pub fn ports(&self) -> &Ports
+        ensures { result.now ≡ C.run.ports }
+    {
+        &self.ports
+    }
+
+    /// How many blocks there are: one more than sync points.
+    pub fn blocks(&self) -> u32
+        ensures { result ≡ last_block C.run + 1 }
+    {
+        self.last_block() + 1
+    }
+
+    /// The last block: it has a number as high as there are sync points.
+    pub fn last_block(&self) -> u32
+        ensures block { result ≡ last_block C.run }
+        ensures bound { result + 1 < 2 ^ 32 }
+        ensures in_order { AreInOrder C.run.syncs (length C.run.edits) }
+    {
+        self.syncs.len() as u32
+    }
+
+    /// How many edits stand before a block: the oldest version of its frames.
+    pub fn lo(&self, block: u32) -> u32
+        requires { block ≤ last_block C.run }
+        ensures number { result ≡ lo C.run block }
+        ensures order { result ≤ hi C.run block }
+    {
+        if block == 0 { 0 } else { self.hi(block - 1) }
+    }
+
+    /// How many edits stand before the end of a block: the newest version of its frames.
+    pub fn hi(&self, block: u32) -> u32
+        requires { block ≤ last_block C.run }
+        ensures number { result ≡ hi C.run block }
+        ensures order { lo C.run block ≤ result }
+        ensures bound { result ≤ length C.run.edits }
+    {
+        if block < self.last_block() {
+            self.syncs[block as usize].after
+        } else {
+            self.edit_count()
+        }
+    }
+
+    pub fn edit_count(&self) -> u32
+        ensures { result ≡ length C.run.edits }
+    {
+        self.edits.len() as u32
+    }
+
+    /// The edit with a number, from 1.
+    pub fn edit(&self, number: u32) -> &Edit
+        requires first { 1 ≤ number }
+        requires last { number ≤ length C.run.edits }
+        ensures { slice_get C.run.edits (number - 1) ≡ Some result.now }
+    {
+        &self.edits[number as usize - 1]
+    }
+
+    // The place of a port among the ports, and of its trace among the traces.
+    fn place_of(&self, port: u16) -> usize
+        requires { HasPort C.run.ports port }
+        ensures place { position (λ p. p == port) C.run.ports ≡ Some result }
+        ensures within { result < length C.run.ports }
+    {
+        match self.ports.find(port) {
+            Some(place) => place as usize,
+            None => unreachable!(),
+        }
+    }
+
+    fn trace(&self, port: u16) -> &Trace
+        requires { HasPort C.run.ports port }
+        ensures frames { result.now.frames ≡ frames_of C.run port }
+        ensures counted { length (frames_of C.run port) + 1 < 2 ^ 32 }
+    {
+        &self.traces[self.place_of(port)]
+    }
+
+    fn block_ends(&self, port: u16) -> &[u32]
+        requires { HasPort C.run.ports port }
+        ensures { result.now ≡ block_ends C.run port }
+    {
+        self.ends[self.place_of(port)].as_slice()
+    }
+
+    /// How many frames the trace of a port has.
+    pub fn frames(&self, port: u16) -> u32
+        requires { HasPort C.run.ports port }
+        ensures count { result ≡ length (frames_of C.run port) }
+        ensures bound { result + 1 < 2 ^ 32 }
+    {
+        self.trace(port).len() as u32
+    }
+
+    /// The captured bytes of a frame, at most 262,144.
+    pub fn frame(&self, port: u16, place: u32) -> &[u8]
+        requires port { HasPort C.run.ports port }
+        requires place { HasPlace C.run port place }
+        ensures bytes { result.now ≡ (frame_at C.run port place).bytes }
+        ensures len { length result.now ≤ snap_length }
+    {
+        self.trace(port).frame(place)
+    }
+
+    /// When a frame was captured, in nanoseconds since the beginning of 1970 (UTC).
+    pub fn time(&self, port: u16, place: u32) -> u64
+        requires port { HasPort C.run.ports port }
+        requires place { HasPlace C.run port place }
+        ensures time { result ≡ (frame_at C.run port place).time }
+        ensures seconds { result / second < 2 ^ 32 }
+        ensures bound { result < 2 ^ 63 }
+    {
+        self.trace(port).time(place)
+    }
+
+    /// The last place of a port's trace that is in a block or before it; 0 where there is none.
+    pub fn last_place(&self, port: u16, block: u32) -> u32
+        requires port { HasPort C.run.ports port }
+        requires block { block ≤ last_block C.run }
+        ensures place { result ≡ last_place C.run port block }
+        ensures within { result ≤ length (frames_of C.run port) }
+        ensures all { block ≡ last_block C.run → result ≡ length (frames_of C.run port) }
+    {
+        self.block_ends(port)[block as usize]
+    }
+
+    /// A frame with its key, length, time and block.
+    pub fn keyed(&self, port: u16, place: u32) -> Keyed<C>
+        requires port { HasPort C.run.ports port }
+        requires place { HasPlace C.run port place }
+        ensures port { result.port ≡ port }
+        ensures place { result.place ≡ place }
+    {
+        let frame = self.frame(port, place);
+        Keyed {
+            port,
+            place,
+            key: key_of(port, frame),
+            length: frame.len() as u32,
+            time: self.time(port, place),
+            block: block_of(self.block_ends(port), place),
+            of: PhantomData,
+        }
+    }
+
+    /// Whether a trace of the run has times in nanoseconds.
+    pub fn nanos(&self) -> bool
+        ensures { result ≡ is_nanos C.run }
+    {
+        self.traces.iter().any(|trace| trace.nanos())
+    }
+}
