@@ -1,0 +1,4 @@
+pub mod Facts
+pub mod Bare
+pub mod Once
+pub mod Steps

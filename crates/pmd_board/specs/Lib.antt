@@ -1,0 +1,4 @@
+pub mod StepViews
+pub mod Shown
+pub mod Bare
+pub mod Fields
