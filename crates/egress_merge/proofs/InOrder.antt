@@ -41,7 +41,7 @@ tied_with-in_order x [] = refl
 tied_with-in_order x (a ∷ rest) =
     tied_with-put_in_order x a (in_order rest) ∙ ap (λ l. cond (ties comes_before x a) (a ∷ l) l) (tied_with-in_order x rest)
 
-All-put_in_order : (P : Arrival → Type 0) (a : Arrival) (bs : List Arrival) → P a → All P bs → All P (put_in_order a bs)
+pub All-put_in_order : (P : Arrival → Type 0) (a : Arrival) (bs : List Arrival) → P a → All P bs → All P (put_in_order a bs)
 unfolding put_in_order
 All-put_in_order P a [] first rest = All-cons P a [] first rest
 All-put_in_order P a (b ∷ bs) first rest = elim (cases_Bool (comes_before b a)) [

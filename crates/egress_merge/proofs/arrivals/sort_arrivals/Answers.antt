@@ -2,7 +2,7 @@
 use Rattle.std.proofs.Common.{rules}
 use Rattle.std.proofs.lemmas.Result.{on_ok_weaker}
 use Rattle.egress_merge.proofs.InOrder.{in_order-from_sort}
-use Rattle.egress_merge.proofs.sort_arrivals.Goals as goal
+use Rattle.egress_merge.proofs.arrivals.sort_arrivals.Goals as goal
 
 pub returns-clause-sorted : goal.returns-clause-sorted
 returns-clause-sorted c = search (rules, on_ok_weaker, in_order-from_sort)

@@ -1,0 +1,16 @@
+use Rattle.std.proofs.Common.{◌≡◌, replicate, IsTrue}
+use Rattle.std.specs.List.{flat_map}
+use Rattle.edge_io.specs.declared.outside.InUse.TheVariants.{Created}
+use Rattle.edge_io.specs.Shelf.{wrote}
+use Rattle.spec_pcap.specs.Pcap.{record_of}
+use Rattle.spec_case.specs.Run.{frame_at}
+use Rattle.egress_merge.proofs.port_file.send.Given as goal
+
+abbrev pub invariant-sends : goal.invariant-sends
+invariant-sends g l = record {
+  in_use : g.S.Shelf.in_use l.shelf ≡ Created;
+  nanos : l.writer ≡ l.fn.writer;
+  told : IsTrue g.S.Shelf.tells → g.S.Shelf.told l.shelf ≡ wrote (g.S.Shelf.told l.fn.shelf) (flat_map (record_of l.fn.writer) (replicate l.copy (frame_at g.C.Case.run l.fn.arrival.port l.fn.arrival.place)));
+  reading : g.S.Shelf.reading l.shelf ≡ g.S.Shelf.reading l.fn.shelf;
+  writing : g.S.Shelf.writing l.shelf ≡ g.S.Shelf.writing l.fn.shelf;
+}

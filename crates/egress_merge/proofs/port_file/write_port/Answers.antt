@@ -1,0 +1,42 @@
+use Rattle.std.proofs.Common.{[], refl, arith}
+use Rattle.std.specs.Prelude.{Err}
+use Rattle.std.proofs.lemmas.List.{take_all}
+use Rattle.std.proofs.lemmas.Result.{err_from_is_err_and}
+use Rattle.spec_pcap.specs.Pcap.{record_of, header}
+use Rattle.spec_case.specs.Run.{is_nanos}
+use Rattle.spec_run.specs.Outputs.{sent_to}
+use Rattle.egress_merge.specs.Boards.{journals_view}
+use Rattle.egress_merge.proofs.Fronts.{header_front, pieces_cut, created_front, closed_front, closed_whole, whatever_err}
+use Rattle.egress_merge.proofs.Places.{are_arrivals}
+use Rattle.egress_merge.proofs.port_file.write_port.Goals as goal
+
+pub returns-in_err-writer-clause-err : goal.returns-in_err-writer-clause-err
+returns-in_err-writer-clause-err g c = λ t.
+    let p = err_from_is_err_and c.from_residual.result c.from_residual.ensures.1 in
+    let started = rw c.nanos.ensures at c.in_err-writer.ensures.err t in
+    rw p.1 (header_front (g.S.Shelf.told c.args.shelf.now) (g.S.Shelf.told c.start.new.shelf) c.args.name.now (header (is_nanos g.C.Case.run)) _ _ (Err c.in_err-writer.field-0.0) c.in_err-writer.field-0.0 refl started)
+
+pub actions_of-actions-requires-clause-there : goal.actions_of-actions-requires-clause-there
+actions_of-actions-requires-clause-there g c =
+    let distinct = rw c.ports.ensures at c.len-ports.ensures.distinct in
+    rw (← c.requires.arrivals) at (are_arrivals g.C.Case.run distinct) c.arrivals.arrival-index _ c.arrivals-test.true
+
+pub send-requires-clause-there : goal.send-requires-clause-there
+send-requires-clause-there g c =
+    let distinct = rw c.ports.ensures at c.len-ports.ensures.distinct in
+    rw (← c.requires.arrivals) at (are_arrivals g.C.Case.run distinct) c.arrivals.arrival-index _ c.arrivals-test.true
+
+pub returns-in_err-send-clause-err : goal.returns-in_err-send-clause-err
+returns-in_err-send-clause-err g c = λ t.
+    let run = g.C.Case.run in
+    let p = err_from_is_err_and c.from_residual-in_err-send.result c.from_residual-in_err-send.ensures.1 in
+    let before = g.S.Shelf.told c.args.shelf.now in
+    let w = rw (c.arrivals.invariant.nanos, c.actions_of-actions.ensures) at c.in_err-send.ensures.err t in
+    rw (p.1, ← c.requires.arrivals) (created_front before (g.S.Shelf.told c.send.new.shelf) c.args.name.now _ _ c.send.ensures.in_use
+    (pieces_cut (sent_to run (journals_view c.args.boards.now) c.args.port) (record_of (is_nanos run)) (record before { current = []; last = c.args.name.now }) _ _ (header (is_nanos run)) c.args.arrivals.now c.arrivals.arrival-index _ c.arrivals-test.true (c.arrivals.invariant.told t) w))
+
+pub returns-clause-err : goal.returns-clause-err
+returns-clause-err g c = λ t.
+    let all = take_all c.arrivals.arrival-index c.args.arrivals.now (omega arith) in
+    rw (← c.requires.arrivals) (whatever_err c.end.result (closed_front (g.S.Shelf.told c.args.shelf.now) (g.S.Shelf.told c.end.new.shelf) c.args.name.now _ _ c.end.ensures.in_use
+    (closed_whole (g.S.Shelf.told c.args.shelf.now) _ _ c.args.name.now _ (rw all at c.arrivals.invariant.told t) (c.end.ensures.told t))))

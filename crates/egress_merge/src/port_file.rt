@@ -1,0 +1,140 @@
+ghost use Rattle.std.specs.Prelude.{◌≡◌, ℕ, map, take, count_by, All, IsTrue, OnOk, OnErr, Err};
+ghost use Rattle.std.specs.List.{flat_map};
+ghost use Rattle.spec_pcap.specs.Pcap.{record_of, file_of};
+ghost use Rattle.spec_case.specs.Run.{is_nanos};
+ghost use Rattle.spec_case.specs.Arrivals.{in_order, arrivals as came_in};
+ghost use Rattle.spec_run.specs.Journals.{steps_of, actions_for};
+ghost use Rattle.spec_run.specs.Outputs.{frames_out};
+ghost use Rattle.edge_io.specs.declared.outside.InUse.TheVariants.{Nothing, Created};
+ghost use Rattle.edge_io.specs.Shelf.{HasCause, wrote, kept};
+ghost use Rattle.run_case.specs.Places.{HasPort};
+ghost use Rattle.egress_merge.specs.Boards.{journals_view, IsAllDecided, IsArrival};
+ghost use Rattle.egress_merge.specs.Sending.{sends_to, frames_by};
+ghost use Rattle.egress_merge.specs.Written.{written, IsFrontOf};
+
+use edge_io::{Failed, Shelf};
+use pcap_io::PcapWriter;
+use pmd_board::Board;
+use run_case::{Case, RunData};
+use spec_actions::DpAction;
+use spec_case::Arrival;
+
+fn is_output_to(action: &DpAction, port: u16) -> bool
+    ensures { result ≡ sends_to port action.now }
+{
+    match action {
+        DpAction::Output(number) => *number == port,
+        _ => false,
+    }
+}
+
+// How often a frame with these actions goes out at a port.
+fn copies(actions: &[DpAction], port: u16) -> usize
+    ensures { result ≡ count_by (sends_to port) actions.now }
+{
+    actions
+        .iter()
+        .filter(|action| is_output_to(action, port))
+        .count()
+}
+
+// The board of a port.
+fn board_of<'a, C: Case>(run: &RunData<C>, boards: &'a [Board<C>], port: u16) -> &'a Board<C>
+    requires boards { map (λ b. b.port) boards.now ≡ C.run.ports }
+    requires there { HasPort C.run.ports port }
+    requires decided { All (IsAllDecided C.run) boards.now }
+    ensures port { result.now.port ≡ port }
+    ensures journal { steps_of (journals_view boards.now) port ≡ result.now.journal }
+    ensures decided { IsAllDecided C.run result.now }
+{
+    match run.ports().find(port) {
+        Some(place) => &boards[place as usize],
+        None => unreachable!(),
+    }
+}
+
+// The actions by which an arrived frame was decided.
+fn actions_of<'a, C: Case>(
+    run: &RunData<C>,
+    boards: &'a [Board<C>],
+    arrival: Arrival,
+) -> &'a [DpAction]
+    requires boards { map (λ b. b.port) boards.now ≡ C.run.ports }
+    requires there { IsArrival C.run arrival }
+    requires decided { All (IsAllDecided C.run) boards.now }
+    ensures { result.now ≡ actions_for C.run (journals_view boards.now) arrival.port arrival.place }
+{
+    match board_of(run, boards, arrival.port).decision(arrival.place) {
+        Some((_, actions)) => actions,
+        None => unreachable!(),
+    }
+}
+
+// Writes an arrived frame as often as its actions send it out at the port.
+fn send<C: Case, S: Shelf>(
+    shelf: &mut S,
+    writer: &mut PcapWriter,
+    run: &RunData<C>,
+    arrival: Arrival,
+    actions: &[DpAction],
+    port: u16,
+) -> Result<(), Failed>
+    requires in_use { S.in_use shelf.old ≡ Created }
+    requires there { IsArrival C.run arrival }
+    ensures nanos { writer.new ≡ writer.old }
+    ensures in_use { S.in_use shelf.new ≡ Created }
+    ensures ok { let bytes = flat_map (record_of writer.old) (frames_by C.run actions.now port arrival) in
+        IsTrue S.tells → OnOk result (S.told shelf.new ≡ wrote (S.told shelf.old) bytes) }
+    ensures err { let bytes = flat_map (record_of writer.old) (frames_by C.run actions.now port arrival) in
+        IsTrue S.tells → OnErr result ((n : ℕ) × (S.told shelf.new ≡ wrote (S.told shelf.old) (take n bytes))) }
+    ensures cause { HasCause (S.writing shelf.old) (S.writing shelf.new) (S.reading shelf.old) (S.reading shelf.new) result }
+{
+    let time = run.time(arrival.port, arrival.place);
+    let frame = run.frame(arrival.port, arrival.place);
+    'sends: for copy in 0..copies(actions, port) {
+        writer.frame(shelf, time, frame)?;
+    }
+    Ok(())
+}
+
+/// Writes the capture file of a port under a name: what the decided frames of a run send out at it, in the order of
+/// their arrivals. Its times are in nanoseconds where those of a trace of the run are.
+///
+/// It takes no memory, and copies no frame.
+///
+/// # Errors
+///
+/// - `Fault`: the shelf failed in creating, writing or closing the file, and its count of writing rose.
+/// - `OutOfMemory`: there was no memory for the shelf.
+///
+/// After an error the file has a front of its bytes, or was not created; it may still be in use.
+pub fn write_port<C: Case, S: Shelf>(
+    shelf: &mut S,
+    name: &str,
+    port: u16,
+    run: &RunData<C>,
+    boards: &[Board<C>],
+    arrivals: &[Arrival],
+) -> Result<(), Failed>
+    requires in_use { S.in_use shelf.old ≡ Nothing }
+    requires boards { map (λ b. b.port) boards.now ≡ C.run.ports }
+    requires arrivals { arrivals.now ≡ in_order (came_in C.run) }
+    requires decided { All (IsAllDecided C.run) boards.now }
+    ensures in_use { OnOk result (S.in_use shelf.new ≡ Nothing) }
+    ensures ok { let bytes = file_of (is_nanos C.run) (frames_out C.run (journals_view boards.now) port) in
+        IsTrue S.tells → OnOk result (S.told shelf.new ≡ kept (S.told shelf.old) (name.now, bytes)) }
+    ensures err { let bytes = file_of (is_nanos C.run) (frames_out C.run (journals_view boards.now) port) in
+        IsTrue S.tells → OnErr result (IsFrontOf (S.told shelf.old).done (name.now, bytes) (written (S.in_use shelf.new) (S.told shelf.new))) }
+    ensures named { IsTrue S.tells → result ≡ Err Failed.Fault → (S.told shelf.new).last ≡ name.now }
+    ensures cause { HasCause (S.writing shelf.old) (S.writing shelf.new) (S.reading shelf.old) (S.reading shelf.new) result }
+{
+    // The ports differ, so that each arrival is a frame of its port's own trace.
+    let ports = run.ports().len() as usize;
+    prove!(boards.len() == ports);
+    let mut writer = PcapWriter::start(shelf, name, run.nanos())?;
+    'arrivals: for arrival in arrivals {
+        let actions = actions_of(run, boards, *arrival);
+        send(shelf, &mut writer, run, *arrival, actions, port)?;
+    }
+    writer.end(shelf)
+}
