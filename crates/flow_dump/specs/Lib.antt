@@ -1,0 +1,3 @@
+pub mod JournalViews
+pub mod Printable
+pub mod Dumps
