@@ -1,13 +1,9 @@
 pub mod Lists
 pub mod PortWords
-pub mod ActionTexts
-pub mod LineTexts
-pub mod Winners
-pub mod Places
-pub mod Cuts
 pub mod Printing
 pub mod Stages
 pub mod Walk
-pub mod Decisions
-pub mod SameFiles
+pub mod Fronts
+pub mod Plainness
+pub mod Soundness
 pub mod Leaving

@@ -3,9 +3,8 @@ use Rattle.std.proofs.Common.{◌≡◌, ℕ, ◌<◌, ◌≤◌, true, false, L
 use Rattle.std.specs.Prelude.{IsSomeAnd, nat_lt, Ok, Err}
 use Rattle.std.proofs.lemmas.Bool.Decides.{nat_tests}
 use Rattle.spec_pcap.specs.Pcap.{Capture, capture_of}
-use Rattle.spec_tables.specs.Edits.{Edit}
-use Rattle.spec_text.specs.Script.{edits_of}
-use Rattle.spec_run.specs.Verdict.{Files, NotBuilt, edits_in, file_in}
+use Rattle.spec_text.specs.Script.{Script, script_of}
+use Rattle.spec_run.specs.Verdict.{Files, NotBuilt, script_in, file_in}
 
 past : (n limit : ℕ) → limit < n → nat_lt limit n ≡ true
 past n limit lt = grind (arith, nat_tests)
@@ -15,21 +14,21 @@ within n limit le = grind (arith, nat_tests)
 
 -- ---- the edits
 
-pub edits_too_long : (files : Files) (name : List ℕ) → IsSomeAnd (files name) (λ b. 33554432 < length b) → edits_in files name ≡ Err (NotBuilt name)
-unfolding edits_in edits_of
-edits_too_long files name long = over (files name) refl long
+pub script_too_long : (files : Files) (name : List ℕ) → IsSomeAnd (files name) (λ b. 33554432 < length b) → script_in files name ≡ Err (NotBuilt name)
+unfolding script_in script_of
+script_too_long files name long = over (files name) refl long
   where
-    over : (o : Option (List ℕ)) → files name ≡ o → IsSomeAnd o (λ b. 33554432 < length b) → edits_in files name ≡ Err (NotBuilt name)
+    over : (o : Option (List ℕ)) → files name ≡ o → IsSomeAnd o (λ b. 33554432 < length b) → script_in files name ≡ Err (NotBuilt name)
     over None e long = absurd long
     over (Some bytes) e long = rw (e, past (length bytes) 33554432 long) refl
 
-pub edits_read : (files : Files) (name bytes : List ℕ) (edits : List Edit) → files name ≡ Some bytes → edits_of bytes ≡ Some edits → edits_in files name ≡ Ok edits
-unfolding edits_in
-edits_read files name bytes edits held read = rw (held, read) refl
+pub script_read : (files : Files) (name bytes : List ℕ) (script : Script) → files name ≡ Some bytes → script_of bytes ≡ Some script → script_in files name ≡ Ok script
+unfolding script_in
+script_read files name bytes script held read = rw (held, read) refl
 
-pub edits_not_built : (files : Files) (name bytes : List ℕ) → files name ≡ Some bytes → edits_of bytes ≡ None → edits_in files name ≡ Err (NotBuilt name)
-unfolding edits_in
-edits_not_built files name bytes held read = rw (held, read) refl
+pub script_not_built : (files : Files) (name bytes : List ℕ) → files name ≡ Some bytes → script_of bytes ≡ None → script_in files name ≡ Err (NotBuilt name)
+unfolding script_in
+script_not_built files name bytes held read = rw (held, read) refl
 
 -- ---- a trace
 

@@ -1,23 +1,21 @@
 -- The traces of the ports, one after the other, as a loop reads them.
 use Rattle.std.proofs.Common.{◌≡◌, ℕ, zero, suc, ◌+◌, ◌-◌, ◌≤◌, ◌<◌, List, [], ◌∷◌, ◌++◌, length, get_or, take, drop, map, Some, refl, sym, ap, ◌∙◌, append_assoc}
-use Rattle.std.specs.Prelude.{Result, Ok, Err, Contains}
+use Rattle.std.specs.Prelude.{Result, Ok, Err, OnOk, OnErr, IfErr, IsTrue, Contains, slice_get}
 use Rattle.std.proofs.lemmas.List.{drop_more, drop_all, take_more, map_push, length-map}
 use Rattle.std.proofs.lemmas.Option.{slice_get-get_or}
 use Rattle.std.proofs.Math.ListN.{get_or-map}
 use Rattle.std.proofs.lemmas.List.Elements.{Contains-append_left, Contains-append_right}
 use Rattle.spec_pcap.specs.Pcap.{Capture}
 use Rattle.spec_run.specs.Verdict.{Files, Refusal, TraceFile, trace_in, trace_names, traces_behind, traces_opened}
-use Rattle.edge_io.specs.Shelf.{Told}
+use Rattle.edge_io.specs.Shelf.{Told, kept}
 use Rattle.edge_io.specs.ReadAll.{OnlyRead}
 use Rattle.spec_run.specs.Outputs.{File}
-use Rattle.spec_text.specs.Words as words
-use Rattle.switch_app.specs.declared.input.Input.{Input}
-use Rattle.switch_app.specs.InputViews.{ports_of, captures_of}
-use Rattle.switch_app.specs.Written.{IsFrontOf, IsCutShort}
+use Rattle.egress_merge.specs.Written.{IsFrontOf}
+use Rattle.switch_app.specs.Written.{IsCutShort}
 use Rattle.switch_app.specs.declared.words.PortWord.{PortWord}
 use Rattle.switch_app.specs.declared.refusal.Refusal as code
 use Rattle.switch_app.specs.declared.refusal.Refusal.TheVariants.{NotBuilt, ReadFault, WriteFault, OutOfMemory}
-use Rattle.switch_app.specs.Refused.{Explains}
+use Rattle.switch_app.specs.Refused.{Explains, IsCutIn, is_write_fault, name_in}
 use Rattle.switch_app.specs.WordViews.{port_view, ports_view}
 
 here : (ports : List PortWord) (i : ℕ) (d : PortWord) → i < length ports → ports_view (drop i ports) ≡ port_view (get_or ports i d) ∷ ports_view (drop (i + 1) ports)
@@ -69,42 +67,93 @@ module _ (files : Files) (bytes_left frames_left : ℕ) (ports : List PortWord) 
 
 -- ---- what was read so far
 
-pub ports_more : (inputs now : List Input) (input : Input) (ports : List PortWord) (i : ℕ) (d : PortWord) → i < length ports → now ≡ inputs ++ input ∷ [] → input.port ≡ (get_or ports i d).port
-    → ports_of inputs ≡ map (λ (w : words.PortWord). w.port) (ports_view (take i ports)) → ports_of now ≡ map (λ (w : words.PortWord). w.port) (ports_view (take (i + 1) ports))
-ports_more inputs now input ports i d lt grown is so_far =
-    ap ports_of grown ∙ map_push (λ (x : Input). x.port) inputs input ∙ ap (λ ps. ps ++ input.port ∷ []) so_far ∙ ap (λ p. map (λ (w : words.PortWord). w.port) (ports_view (take i ports)) ++ p ∷ []) is
-    ∙ sym (ap (λ ps. map (λ (w : words.PortWord). w.port) (ports_view ps)) (take_more ports i d lt) ∙ ap (map (λ (w : words.PortWord). w.port)) (map_push port_view (take i ports) (get_or ports i d)) ∙ map_push (λ (w : words.PortWord). w.port) (ports_view (take i ports)) (port_view (get_or ports i d)))
-
-pub captures_more : (inputs now : List Input) (input : Input) (trace : Capture) → now ≡ inputs ++ input ∷ [] → input.trace ≡ trace → captures_of now ≡ captures_of inputs ++ trace ∷ []
-captures_more inputs now input trace grown is =
-    ap captures_of grown ∙ map_push (λ (x : Input). x.trace) inputs input ∙ ap (λ t. captures_of inputs ++ t ∷ []) is
-
 pub only_read-trans : (a b c : Told) → OnlyRead a b → OnlyRead b c → OnlyRead a c
 only_read-trans a b c first second = second ∙ ap (λ (w : Told). let x : Told = record w { left = c.left; last = c.last } in x) first
 
 -- ---- what was written so far
 
-pub files_more : (file : ℕ → File) (inputs : List Input) (i : ℕ) (input : Input) (done before now : List File) → i < length inputs → input ≡ get_or inputs i input
-    → before ≡ done ++ map file (ports_of (take i inputs)) → now ≡ before ++ file input.port ∷ [] → now ≡ done ++ map file (ports_of (take (i + 1) inputs))
-files_more file inputs i input done before now lt is so_far grown =
-    let more : map file (ports_of (take (i + 1) inputs)) ≡ map file (ports_of (take i inputs)) ++ file input.port ∷ [] =
-    ap (λ xs. map file (ports_of xs)) (take_more inputs i input lt ∙ ap (λ (x : Input). take i inputs ++ x ∷ []) (sym is)) ∙ ap (map file) (map_push (λ (x : Input). x.port) (take i inputs) input) ∙ map_push file (ports_of (take i inputs)) input.port in
-    grown ∙ ap (λ fs. fs ++ file input.port ∷ []) so_far ∙ append_assoc done (map file (ports_of (take i inputs))) (file input.port ∷ []) ∙ ap (λ fs. done ++ fs) (sym more)
+pub files_more : (file : ℕ → File) (ports : List ℕ) (i : ℕ) (done before now : List File) → i < length ports
+    → before ≡ done ++ map file (take i ports) → now ≡ before ++ file (get_or ports i 0) ∷ [] → now ≡ done ++ map file (take (i + 1) ports)
+files_more file ports i done before now lt so_far grown =
+    let more : map file (take (i + 1) ports) ≡ map file (take i ports) ++ file (get_or ports i 0) ∷ [] =
+    ap (map file) (take_more ports i 0 lt) ∙ map_push file (take i ports) (get_or ports i 0) in
+    grown ∙ ap (λ fs. fs ++ file (get_or ports i 0) ∷ []) so_far ∙ append_assoc done (map file (take i ports)) (file (get_or ports i 0) ∷ []) ∙ ap (λ fs. done ++ fs) (sym more)
 
 take-map : {X Y : Type 0} (f : X → Y) (i : ℕ) (xs : List X) → take i (map f xs) ≡ map f (take i xs)
 take-map f zero xs = refl
 take-map f (suc i) [] = refl
 take-map f (suc i) (x ∷ xs) = ap (λ ys. f x ∷ ys) (take-map f i xs)
 
-pub cut_here : (file : ℕ → File) (inputs : List Input) (i : ℕ) (input : Input) (done before now : List File) → i < length inputs → input ≡ get_or inputs i input
-    → before ≡ done ++ map file (ports_of (take i inputs)) → IsFrontOf before (file input.port) now → IsCutShort (map file (ports_of inputs)) (file input.port) done now
-cut_here file inputs i input done before now lt is so_far front =
-    let firsts : take i (map file (ports_of inputs)) ≡ map file (ports_of (take i inputs)) = take-map file i (ports_of inputs) ∙ ap (map file) (take-map (λ (x : Input). x.port) i inputs) in
-    let len : i < length (map file (ports_of inputs)) = rw (length-map (ports_of inputs) file, length-map inputs (λ (x : Input). x.port)) lt in
-    let here : get_or (map file (ports_of inputs)) i (file input.port) ≡ file input.port =
-    get_or-map file (ports_of inputs) i input.port ∙ ap file (get_or-map (λ (x : Input). x.port) inputs i input ∙ ap (λ (x : Input). x.port) (sym is)) in
+cut_here : (file : ℕ → File) (ports : List ℕ) (i : ℕ) (done before now : List File) → i < length ports
+    → before ≡ done ++ map file (take i ports) → IsFrontOf before (file (get_or ports i 0)) now → IsCutShort (map file ports) (file (get_or ports i 0)) done now
+cut_here file ports i done before now lt so_far front =
+    let firsts : take i (map file ports) ≡ map file (take i ports) = take-map file i ports in
+    let len : i < length (map file ports) = rw (length-map ports file) lt in
     record {
       whole = i;
-      next = slice_get-get_or (map file (ports_of inputs)) i (file input.port) len ∙ ap (λ f. Some f) here;
+      next = slice_get-get_or (map file ports) i (file 0) len ∙ ap (λ f. Some f) (get_or-map file ports i 0);
       front = rw (firsts, ← so_far) front;
     }
+
+-- ---- one file more, behind these
+
+nothing-at : (i : ℕ) (f : File) → slice_get {X = File} [] i ≡ Some f → ⊥
+nothing-at zero f e = cc e
+nothing-at (suc i) f e = cc e
+
+get-first : (files : List File) (i : ℕ) (more : List File) (f : File) → slice_get files i ≡ Some f → slice_get (files ++ more) i ≡ Some f
+get-first [] i more f is = absurd (nothing-at i f is)
+get-first (x ∷ files) zero more f is = is
+get-first (x ∷ files) (suc i) more f is = get-first files i more f is
+
+take-first : (files : List File) (i : ℕ) (more : List File) (f : File) → slice_get files i ≡ Some f → take i (files ++ more) ≡ take i files
+take-first [] zero more f is = refl
+take-first [] (suc i) more f is = absurd (nothing-at (suc i) f is)
+take-first (x ∷ files) zero more f is = refl
+take-first (x ∷ files) (suc i) more f is = ap (λ ys. x ∷ ys) (take-first files i more f is)
+
+-- what is cut short among the first files is so among all
+cut_before : (files more : List File) (file : File) (done now : List File) → IsCutShort files file done now → IsCutShort (files ++ more) file done now
+cut_before files more file done now cut = record {
+  whole = cut.whole;
+  next = get-first files cut.whole more file cut.next;
+  front = rw (take-first files cut.whole more file cut.next) cut.front;
+}
+
+take-whole : (files : List File) (more : List File) → take (length files) (files ++ more) ≡ files
+take-whole [] more = refl
+take-whole (x ∷ files) more = ap (λ ys. x ∷ ys) (take-whole files more)
+
+get-behind : (files : List File) (f : File) → slice_get (files ++ f ∷ []) (length files) ≡ Some f
+get-behind [] f = refl
+get-behind (x ∷ files) f = get-behind files f
+
+-- the last file is cut short where the others are whole
+cut_last : (files : List File) (file : File) (done before now : List File) → before ≡ done ++ files → IsFrontOf before file now → IsCutShort (files ++ file ∷ []) file done now
+cut_last files file done before now whole front = record {
+  whole = length files;
+  next = get-behind files file;
+  front = rw (take-whole files (file ∷ []), ← whole) front;
+}
+
+-- ---- what a refusal says of it
+
+pub cut_in_at : (file : ℕ → File) (ports all : List ℕ) (i : ℕ) (done before now : List File) (r : code.Refusal) → ports ≡ all → i < length ports
+    → before ≡ done ++ map file (take i ports) → IsFrontOf before (file (get_or ports i 0)) now → (IsTrue (is_write_fault r) → name_in r ≡ (file (get_or ports i 0)).0)
+    → IsCutIn (map file all) done now r
+cut_in_at file ports all i done before now r same lt so_far front named =
+    rw (← same) (record { file = file (get_or ports i 0); cut = cut_here file ports i done before now lt so_far front; named = named })
+
+pub cut_in_first : (files : List File) (last : File) (done now : List File) (r : code.Refusal) → IsCutIn files done now r → IsCutIn (files ++ last ∷ []) done now r
+cut_in_first files last done now r cut = record { file = cut.file; cut = cut_before files (last ∷ []) cut.file done now cut.cut; named = cut.named }
+
+pub cut_in_last : {T : Type 0} (files : List File) (last : File) (done before now : List File) (result : Result T code.Refusal) → before ≡ done ++ files
+    → OnErr result (IsFrontOf before last now) → IfErr result (λ r. IsTrue (is_write_fault r) → name_in r ≡ last.0) → IfErr result (IsCutIn (files ++ last ∷ []) done now)
+cut_in_last files last done before now (Ok a) whole front named = tt
+cut_in_last files last done before now (Err r) whole front named = record { file = last; cut = cut_last files last done before now whole front; named = named }
+
+pub last_whole : {T : Type 0} (files : List File) (last : File) (old mid new : Told) (result : Result T code.Refusal) → mid.done ≡ old.done ++ files
+    → OnOk result (new ≡ kept mid last) → OnOk result (new.done ≡ old.done ++ (files ++ last ∷ []))
+last_whole files last old mid new (Err r) whole made = tt
+last_whole files last old mid new (Ok a) whole made =
+    ap (λ (w : Told). w.done) made ∙ ap (λ fs. fs ++ last ∷ []) whole ∙ append_assoc old.done files (last ∷ [])

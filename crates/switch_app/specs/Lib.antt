@@ -1,10 +1,6 @@
 pub mod WordViews
-pub mod ScriptViews
-pub mod RuleViews
-pub mod InputViews
-pub mod DecisionViews
 pub mod Written
 pub mod Refused
 pub mod ReadingViews
-pub mod Plain
+pub mod Sound
 pub mod RunViews

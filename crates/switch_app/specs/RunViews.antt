@@ -1,34 +1,45 @@
--- The run that was read, and what a call makes of it.
-use Rattle.std.specs.Prelude.{◌≡◌, ℕ, ◌⊎◌, List, [], map, Ok, Err, Contains}
+-- The files of a run, and what a call makes of it.
+use Rattle.std.specs.Prelude.{◌≡◌, ℕ, ◌⊎◌, List, [], ◌∷◌, ◌++◌, map, Ok, Err, Contains}
 use Rattle.spec_case.specs.Run.{Run}
+use Rattle.spec_board.specs.Texts.{Journal}
 use Rattle.spec_run.specs.Verdict as verdicts
-use Rattle.spec_run.specs.Outputs.{File, port_file, files_of}
+use Rattle.spec_run.specs.Journals.{AreJournals}
+use Rattle.spec_run.specs.Outputs.{File, port_file, journal_file, files_of}
 use Rattle.spec_run.specs.Statuses.{PrintsFront, not_built_text}
 use Rattle.edge_io.specs.declared.outside.InUse.{InUse}
 use Rattle.edge_io.specs.Shelf.{Told}
 use Rattle.edge_io.specs.ReadAll.{OnlyRead}
-use Rattle.switch_app.specs.declared.flow.Flow.{Flow}
-use Rattle.switch_app.specs.declared.input.Input.{Input}
 use Rattle.switch_app.specs.declared.refusal.Refusal.{Refusal}
 use Rattle.switch_app.specs.declared.refusal.Refusal.TheVariants.{NotBuilt, ReadFault, WriteFault, OutOfMemory}
-use Rattle.switch_app.specs.ScriptViews.{flows_view}
-use Rattle.switch_app.specs.InputViews.{ports_of, captures_of}
-use Rattle.switch_app.specs.Written.{written, IsCutShort}
-use Rattle.switch_app.specs.Refused.{name_in}
+use Rattle.egress_merge.specs.Written.{written}
+use Rattle.switch_app.specs.Written.{IsCutShort}
+use Rattle.switch_app.specs.Refused.{IsCutIn, name_in}
 
-abbrev pub run_view : List Flow → List Input → Run
-run_view flows inputs = record { ports = ports_of inputs; edits = flows_view flows; syncs = []; traces = captures_of inputs }
+-- the files of a run by these journals
+abbrev pub files_for : List ℕ → Run → List Journal → List File
+files_for out run journals = map (port_file out run journals) run.ports ++ journal_file out journals ∷ []
 
--- the files that this run writes
-abbrev pub files_for : List ℕ → List Flow → List Input → List File
-files_for out flows inputs = map (port_file out (run_view flows inputs)) (ports_of inputs)
+-- Behind the files before, exactly those of the run were written, by journals that are legal and complete.
+pub record Writes (run : Run) (out : List ℕ) (before after : List File) : Type 0 where
+  pub journals : List Journal
+  pub are_journals : AreJournals run journals
+  pub made : after ≡ before ++ files_for out run journals
 
--- The verdict accepted the run, whose files were written as far as a front of this one.
+-- The files of the run, by journals that are legal and complete, were cut short at one of them.
+pub record StopsIn (run : Run) (out : List ℕ) (before now : List File) (r : Refusal) : Type 0 where
+  pub journals : List Journal
+  pub are_journals : AreJournals run journals
+  pub cut : IsCutIn (files_for out run journals) before now r
+
+-- The verdict accepted the run, whose files, by journals that are legal and complete, were written as far as a front of
+-- this one.
 pub record IsCutRun (words : List (List ℕ)) (files : verdicts.Files) (before now : List File) (name : List ℕ) : Type 0 where
   pub accepted : verdicts.Accepted
   pub is_verdict : verdicts.verdict words files ≡ Ok accepted
+  pub journals : List Journal
+  pub are_journals : AreJournals accepted.run journals
   pub file : File
-  pub cut : IsCutShort (files_of accepted) file before now
+  pub cut : IsCutShort (files_of accepted journals) file before now
   pub named : name ≡ file.0
 
 -- The verdict accepted the run, whose files were written as far as a front of one.

@@ -14,5 +14,9 @@ port_view w = record { port = w.port; file = w.file.now }
 abbrev pub ports_view : List PortWord → List words.PortWord
 ports_view ports = map port_view ports
 
+-- the ports of words
+abbrev pub ports_said : List words.PortWord → List ℕ
+ports_said ports = map (λ (w : words.PortWord). w.port) ports
+
 abbrev pub command_view : Command → words.Command
 command_view c = record { edits = c.edits.now; out = c.out.now; ports = ports_view c.ports.items }

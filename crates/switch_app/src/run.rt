@@ -1,30 +1,39 @@
-ghost use Rattle.std.specs.Prelude.{◌≡◌, ◌≤◌, ◌<◌, ◌^◌, ◌++◌, ◌⊎◌, Ok, vec_len, Contains, IsTrue, IsOk, IsErr, OnOk, IfOk, IfErr};
+ghost use Rattle.std.specs.Prelude.{◌≡◌, ◌≤◌, ◌⊎◌, Ok, length, nat_eq, All, Contains, IsTrue, IsOk, IsErr, OnOk, IfOk, IfErr};
+ghost use Rattle.std.specs.List.{list_all, IsDistinct};
 ghost use Rattle.edge_io.specs.declared.outside.InUse.TheVariants.{Nothing};
 ghost use Rattle.edge_io.specs.ReadAll.{OnlyRead};
 ghost use Rattle.spec_base.specs.Counts.{Rose};
+ghost use Rattle.spec_tables.specs.declared.edit_word.EditWord.TheVariants.{Add};
+ghost use Rattle.spec_case.specs.Blocks.{AreInOrder};
+ghost use Rattle.spec_text.specs.Script.{most_edits, most_syncs};
+ghost use Rattle.run_case.specs.Places.{AreCounted};
+ghost use Rattle.step_runner.specs.Plain.{is_plain_edit};
 ghost use Rattle.spec_run.specs.Verdict.{command_in, verdict, files_opened};
 ghost use Rattle.spec_run.specs.Outputs.{IsDone};
 ghost use Rattle.spec_run.specs.Statuses.{done_status, read_fault_status, write_fault_status, out_of_memory_status, not_built_status, PrintsFront, read_fault_text, write_fault_text, out_of_memory_text};
-ghost use Rattle.switch_app.specs.WordViews.{texts, command_view};
-ghost use Rattle.switch_app.specs.Written.{written};
-ghost use Rattle.switch_app.specs.Refused.{Explains, RunCause, IsOfWriting, IsCutIn, is_read_fault, is_write_fault, name_in, status_of};
-ghost use Rattle.switch_app.specs.RunViews.{files_for, IsCutRun, IsPartOfRun, Leaves, IsNotBuilt, PrintsNotBuilt};
+ghost use Rattle.switch_app.specs.WordViews.{texts, ports_view, ports_said, command_view};
+ghost use Rattle.egress_merge.specs.Written.{written};
+ghost use Rattle.switch_app.specs.Refused.{Explains, RunCause, IsOfWriting, is_read_fault, is_write_fault, name_in, status_of};
+ghost use Rattle.switch_app.specs.RunViews.{Writes, StopsIn, IsCutRun, IsPartOfRun, Leaves, IsNotBuilt, PrintsNotBuilt};
 
-use crate::decide::decide;
 use crate::fault::FormFault;
-use crate::flow::Flow;
-use crate::input::Input;
-use crate::inputs::arrivals_of;
-use crate::ports::write_ports;
-use crate::reading::{read_edits, read_inputs};
+use crate::journals::journals_of;
+use crate::reading::{read_edits, read_traces};
 use crate::refusal::Refusal;
-use crate::rules::rules_after;
+use crate::rules::rules_of;
 use crate::say::say_refusal;
-use crate::words::{Command, read_words};
+use crate::words::{Command, ports_of, read_words};
+use crate::writing::write_files;
 use edge_io::{Gate, Shelf, Sink};
+use edit_script::Script;
+use egress_merge::arrivals_of;
+use pcap_io::Trace;
+use run_case::{Case, Ports, RunData};
 use std::alloc::Global;
+use std::marker::Brand;
 use std::sync::Wait;
 use std::thread::Threads;
+use step_runner::finish;
 
 // The name under which refused words are told.
 const WORDS: &str = "words";
@@ -56,6 +65,8 @@ fn read_command<'a>(alloc: Global, words: &'a [String]) -> Result<Command<'a>, R
     ensures ok { IfOk result (λ c. command_in (texts words.now) ≡ Ok (command_view c)) }
     ensures err { IfErr result (Explains (command_in (texts words.now))) }
     ensures no_fault { IfErr result (λ r. ¬ IsTrue (is_read_fault r)) }
+    ensures some { IfOk result (λ c. 1 ≤ length c.ports.items) }
+    ensures distinct { IfOk result (λ c. IsDistinct nat_eq (ports_said (ports_view c.ports.items))) }
 {
     match read_words(alloc, words) {
         Ok(command) => Ok(command),
@@ -64,28 +75,50 @@ fn read_command<'a>(alloc: Global, words: &'a [String]) -> Result<Command<'a>, R
     }
 }
 
-// Decides all frames, and then writes the files of the ports.
-fn decide_and_write<'a, S: Shelf>(
+// Decides all frames of a run, and then writes its files.
+fn decide_and_write<'a, C: Case, S: Shelf>(
     alloc: Global,
     shelf: &mut S,
-    out: &str,
-    flows: Vec<Flow>,
-    inputs: &[Input],
+    command: &Command<'_>,
+    ports: Ports,
+    script: Script,
+    traces: Vec<Trace>,
 ) -> Result<(), Refusal<'a>>
     requires in_use { S.in_use shelf.old ≡ Nothing }
-    requires count { vec_len flows < 2 ^ 32 }
+    requires ports { ports ≡ C.run.ports }
+    requires edits { script.edits.items ≡ C.run.edits }
+    requires syncs { script.syncs.items ≡ C.run.syncs }
+    requires traces { traces.items ≡ C.run.traces }
+    requires flow_limit { C.run.flow_limit ≡ 0 }
+    requires one_each { length C.run.traces ≡ length C.run.ports }
+    requires counted { AreCounted C.run.traces }
+    requires adds { All (λ e. e.word ≡ Add) C.run.edits }
+    requires plain { IsTrue (list_all is_plain_edit C.run.edits) }
+    requires edit_count { length C.run.edits ≤ most_edits }
+    requires sync_count { length C.run.syncs ≤ most_syncs }
+    requires in_order { AreInOrder C.run.syncs (length C.run.edits) }
     ensures in_use { OnOk result (S.in_use shelf.new ≡ Nothing) }
-    ensures ok { IsTrue S.tells → OnOk result ((S.told shelf.new).done ≡ (S.told shelf.old).done ++ files_for out.now flows.items inputs.now) }
+    ensures ok { IsTrue S.tells → OnOk result (Writes C.run command.now.out.now (S.told shelf.old).done (S.told shelf.new).done) }
     ensures err { IsTrue S.tells → IfErr result (λ r. (r ≡ Refusal.OutOfMemory) × (S.told shelf.new ≡ S.told shelf.old)
-        ⊎ IsCutIn (files_for out.now flows.items inputs.now) (S.told shelf.old).done (written (S.in_use shelf.new) (S.told shelf.new)) r) }
+        ⊎ StopsIn C.run command.now.out.now (S.told shelf.old).done (written (S.in_use shelf.new) (S.told shelf.new)) r) }
     ensures only { IfErr result IsOfWriting }
     ensures named { IsTrue S.tells → IfErr result (λ r. IsTrue (is_write_fault r) → (S.told shelf.new).last ≡ name_in r) }
     ensures cause { RunCause (S.reading shelf.old) (S.reading shelf.new) (S.writing shelf.old) (S.writing shelf.new) result }
 {
-    let rules = rules_after(alloc, flows)?;
-    let arrivals = arrivals_of(alloc, inputs)?;
-    let decided = decide(alloc, &rules, inputs, &arrivals)?;
-    write_ports(alloc, shelf, out, inputs, &decided)
+    let rules = rules_of(alloc, &script.edits)?;
+    let run = RunData::<C>::new(alloc, ports, script.edits, script.syncs, traces)?;
+    let boards = finish(alloc, &run, &rules)?;
+    let arrivals = arrivals_of(alloc, &run)?;
+    let journals = journals_of(alloc, &boards)?;
+    write_files(
+        alloc,
+        shelf,
+        command.out,
+        &run,
+        &boards,
+        &arrivals,
+        &journals,
+    )
 }
 
 #[tactic(auto, unfolding(spec_run::specs::Verdict::verdict))]
@@ -97,15 +130,24 @@ fn run<'a, S: Shelf>(alloc: Global, words: &'a [String], shelf: &mut S) -> Resul
     ensures cause { RunCause (S.reading shelf.old) (S.reading shelf.new) (S.writing shelf.old) (S.writing shelf.new) result }
 {
     let command = read_command(alloc, words)?;
-    let flows = read_edits(alloc, shelf, command.edits)?;
-    let inputs = read_inputs(alloc, shelf, &command.ports)?;
-    decide_and_write(alloc, shelf, command.out, flows, &inputs)
+    let ports = ports_of(alloc, &command.ports)?;
+    let script = read_edits(alloc, shelf, command.edits)?;
+    let traces = read_traces(alloc, shelf, &command.ports)?;
+    decide_and_write::<Brand, S>(alloc, shelf, &command, ports, script, traces)
 }
 
-/// Runs the switch: reads the file of edits and the traces that the words name, decides every frame by a plain
-/// priority scan of the tables after all edits, and writes a file for each port.
+/// Runs the switch: reads the file of edits and the traces that the words name, decides every frame once, and writes a
+/// file for each port and the journals of all.
 ///
-/// The words are those behind the program's name: `EDITS OUT PORT=FILE PORT=..`.
+/// The words are those behind the program's name: `EDITS OUT PORT=FILE PORT=..`. Each port may have a trace; where
+/// nothing stands behind its `=` no frame comes in there.
+///
+/// EDITS has a line for each edit of the tables, and may have lines `sync SECONDS` between them. In each trace the frames
+/// before the first that isn't before that time are decided under no more than the edits before the line, and those from
+/// it on under no fewer. Which version it was stands in the journal.
+///
+/// `OUT.pN.pcap` has the frames that go out at port N, and `OUT.journal` the steps of each port's board, in the order in
+/// which they were taken.
 ///
 /// # Statuses
 ///
@@ -129,7 +171,8 @@ pub fn run_switch<R: Threads + Wait + Sync, S: Shelf, K: Sink, G: Gate + Sync>(
     requires { S.in_use shelf.old ≡ Nothing }
     ensures only { (result ≡ done_status) ⊎ ((result ≡ read_fault_status) ⊎ ((result ≡ write_fault_status) ⊎ ((result ≡ out_of_memory_status) ⊎ (result ≡ not_built_status)))) }
 
-    // All is done: exactly the files of the run are written, nothing is printed, and nothing failed.
+    // All is done: exactly the files of the run are written, by journals that are legal and complete, nothing is printed,
+    // and nothing failed.
     ensures done { IsTrue S.tells → result ≡ done_status → IsDone (texts words.now) (S.told shelf.old).holds (S.told shelf.old).done (S.told shelf.new).done }
     ensures done_leaves_no_file { result ≡ done_status → S.in_use shelf.new ≡ Nothing }
     ensures done_without_fault { result ≡ done_status → (S.reading shelf.new ≡ S.reading shelf.old) × (S.writing shelf.new ≡ S.writing shelf.old) }

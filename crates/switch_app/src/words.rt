@@ -1,13 +1,14 @@
-ghost use Rattle.std.specs.Prelude.{◌≡◌, ◌==◌, ◌∷◌, [], List, map, Option, Some, None, IfOk, IsErrOf, string_bytes};
-ghost use Rattle.std.specs.List.{list_any, list_all};
+ghost use Rattle.std.specs.Prelude.{◌≡◌, ◌≤◌, ◌==◌, ◌∷◌, [], List, length, map, nat_eq, Option, Some, None, IfOk, IsErrOf, string_bytes};
+ghost use Rattle.std.specs.List.{list_any, list_all, IsDistinct};
 ghost use Rattle.std.specs.Option.{option_map};
 ghost use Rattle.spec_text.specs.Characters.{equals_sign};
 ghost use Rattle.spec_text.specs.Numbers.{cut};
-ghost use Rattle.spec_text.specs.Words.{port_number, port_word, is_named, new_port, port_words, has_one_trace, is_plain, is_well_formed, has_trace, command_of};
-ghost use Rattle.switch_app.specs.WordViews.{texts, port_view, ports_view, command_view};
+ghost use Rattle.spec_text.specs.Words.{port_number, port_word, is_named, new_port, port_words, is_plain, is_well_formed, command_of};
+ghost use Rattle.switch_app.specs.WordViews.{texts, port_view, ports_view, ports_said, command_view};
 
 use crate::fault::FormFault;
-use std::alloc::Global;
+use run_case::Ports;
+use std::alloc::{AllocError, Global};
 use text_numbers::{LAST_PORT, as_port, read_decimal};
 
 // The most ports of a switch.
@@ -72,6 +73,8 @@ fn read_new_port<'a>(before: &[PortWord<'_>], word: &'a str) -> Option<PortWord<
 fn read_port_words(alloc: Global, words: &[String]) -> Result<Vec<PortWord<'_>>, FormFault>
     ensures ok { IfOk result (λ ports. port_words [] (texts words.now) ≡ Some (ports_view ports.items)) }
     ensures not_built { IsErrOf result FormFault.NotBuilt → port_words [] (texts words.now) ≡ None }
+    ensures count { IfOk result (λ ports. length ports.items ≡ length words.now) }
+    ensures distinct { IfOk result (λ ports. IsDistinct nat_eq (ports_said (ports_view ports.items))) }
 {
     let mut ports = Vec::new(alloc);
     'words: for word in words {
@@ -81,28 +84,6 @@ fn read_port_words(alloc: Global, words: &[String]) -> Result<Vec<PortWord<'_>>,
         }
     }
     Ok(ports)
-}
-
-fn names_trace(w: &PortWord<'_>) -> bool
-    ensures { result ≡ has_trace (port_view w.now) }
-{
-    !w.file.is_empty()
-}
-
-fn any_trace(ports: &[PortWord<'_>]) -> bool
-    ensures { result ≡ list_any (λ w. has_trace (port_view w)) ports.now }
-{
-    ports.iter().any(names_trace)
-}
-
-#[tactic(auto, using(crate::proofs::Lists::any_in_view))]
-fn has_one(ports: &[PortWord<'_>]) -> bool
-    ensures { result ≡ has_one_trace (ports_view ports.now) }
-{
-    match ports {
-        [] => false,
-        [first, others @ ..] => names_trace(first) & !any_trace(others),
-    }
 }
 
 fn is_plain_word(word: &str) -> bool
@@ -126,6 +107,7 @@ fn is_in_form(edits: &str, out: &str, ports: &[String]) -> bool
         & is_plain_word(edits)
         & is_plain_word(out)
         & all_plain(ports)
+        & !ports.is_empty()
         & (ports.len() <= MOST_PORTS)
 }
 
@@ -134,6 +116,8 @@ fn is_in_form(edits: &str, out: &str, ports: &[String]) -> bool
 pub fn read_words(alloc: Global, words: &[String]) -> Result<Command<'_>, FormFault>
     ensures ok { IfOk result (λ c. command_of (texts words.now) ≡ Some (command_view c)) }
     ensures not_built { IsErrOf result FormFault.NotBuilt → command_of (texts words.now) ≡ None }
+    ensures some { IfOk result (λ c. 1 ≤ length c.ports.items) }
+    ensures distinct { IfOk result (λ c. IsDistinct nat_eq (ports_said (ports_view c.ports.items))) }
 {
     let [edits, out, ports @ ..] = words else {
         return Err(FormFault::NotBuilt);
@@ -142,12 +126,20 @@ pub fn read_words(alloc: Global, words: &[String]) -> Result<Command<'_>, FormFa
         return Err(FormFault::NotBuilt);
     }
     let ports = read_port_words(alloc, ports)?;
-    if !has_one(&ports) {
-        return Err(FormFault::NotBuilt);
-    }
     Ok(Command {
         edits: edits.as_str(),
         out: out.as_str(),
         ports,
     })
+}
+
+/// The ports of words, in their order.
+#[tactic(auto, using(crate::proofs::Lists::ports_in_view))]
+pub fn ports_of(alloc: Global, words: &[PortWord<'_>]) -> Result<Ports, AllocError>
+    requires some { 1 ≤ length words.now }
+    requires distinct { IsDistinct nat_eq (ports_said (ports_view words.now)) }
+    ensures { IfOk result (λ ports. ports ≡ ports_said (ports_view words.now)) }
+{
+    let list = words.iter().map(|w| w.port).collect(alloc)?;
+    Ok(Ports::new(list))
 }

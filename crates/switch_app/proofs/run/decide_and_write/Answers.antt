@@ -1,15 +1,20 @@
-use Rattle.std.proofs.Common.{inr, arith}
-use Rattle.switch_app.proofs.SameFiles.{same_written}
-use Rattle.switch_app.proofs.Leaving.{if_err_map}
+use Rattle.std.proofs.Common.{inr}
+use Rattle.egress_merge.specs.Boards.{journals_view}
+use Rattle.switch_app.proofs.Leaving.{if_err_map, on_ok_map}
+use Rattle.switch_app.proofs.Soundness.{are_journals}
 use Rattle.switch_app.proofs.run.decide_and_write.Goals as goal
+
+pub write_files-requires-clause-decided : goal.write_files-requires-clause-decided
+write_files-requires-clause-decided g c = rw c.deref-3.ensures.value (λ k d lt. (c.in_ok-boards.ensures.finished k d lt).all_decided)
 
 pub returns-clause-ok : goal.returns-clause-ok
 returns-clause-ok g c = λ t.
-    rw (same_written c.args.out.now c.args.flows.items c.args.inputs.now c.in_ok-rules.rules.items c.deref.result.now c.in_ok-arrivals.arrivals.items c.deref-2.result.now c.in_ok-decided.decided.items c.deref-3.result.now _ (omega arith) c.in_ok-rules.ensures c.deref.ensures.value c.in_ok-arrivals.ensures c.deref-2.ensures.value c.in_ok-decided.ensures c.deref-3.ensures.value)
-    at c.write_ports.ensures.ok t
+    let boards = c.in_ok-boards.boards.items in
+    let are = are_journals g.C.Case.run c.requires.flow_limit boards c.in_ok-boards.ensures.ports (rw c.deref-2.ensures.value at c.in_ok-journals.ensures.sound) c.in_ok-boards.ensures.limit c.in_ok-boards.ensures.finished in
+    on_ok_map c.write_files.result (λ made. record { journals = journals_view boards; are_journals = are; made = made }) (rw c.deref-3.ensures.value at c.write_files.ensures.ok t)
 
 pub returns-clause-err : goal.returns-clause-err
 returns-clause-err g c = λ t.
-    if_err_map c.write_ports.result (λ e cut. inr cut)
-    (rw (same_written c.args.out.now c.args.flows.items c.args.inputs.now c.in_ok-rules.rules.items c.deref.result.now c.in_ok-arrivals.arrivals.items c.deref-2.result.now c.in_ok-decided.decided.items c.deref-3.result.now _ (omega arith) c.in_ok-rules.ensures c.deref.ensures.value c.in_ok-arrivals.ensures c.deref-2.ensures.value c.in_ok-decided.ensures c.deref-3.ensures.value)
-    at c.write_ports.ensures.err t)
+    let boards = c.in_ok-boards.boards.items in
+    let are = are_journals g.C.Case.run c.requires.flow_limit boards c.in_ok-boards.ensures.ports (rw c.deref-2.ensures.value at c.in_ok-journals.ensures.sound) c.in_ok-boards.ensures.limit c.in_ok-boards.ensures.finished in
+    if_err_map c.write_files.result (λ e cut. inr (record { journals = journals_view boards; are_journals = are; cut = cut })) (rw c.deref-3.ensures.value at c.write_files.ensures.err t)
