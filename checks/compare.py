@@ -3,8 +3,8 @@
 
     python3 compare.py PROGRAM ROUNDS
 
-Status, text and files of each run have to be the same. Round n is the same at each call. It prints the first run that
-differs and keeps its folder, and ends with 1; else it prints nothing.
+Status, text and files of each run have to be the same, the journal among them. Round n is the same at each call. It
+prints the first run that differs and keeps its folder, and ends with 1; else it prints nothing.
 """
 import os
 import random
@@ -26,7 +26,14 @@ BAD_NUMBERS = ["", "00", "05", "65536", "0x", "0X5", "-1", "+1", "1e1", "5 ", "9
 ODD_LINES = ["", " ", "\t \r", "add", "add ", "actions", "actions=", "in_port=1", "# none", "table=0,actions=1"]
 ODD_OUTPUTS = [["drop", "1"], ["drop "], ["0"], ["65280"], [""], ["1", ""], ["output:"], ["1"] * 64, ["1"] * 65]
 ODD_WORDS = ["", "-", "--", "1", "=", "0=", "01=", "65280=", "1=", "1=a.pcap", "1=none", "none"]
+TRACES = ["a.pcap", "b.pcap", "c.pcap"]
 FRAME_LENGTHS = [0, 6, 13, 14, 60, 61, 200]
+# In seconds and microseconds, and sync times at them and round them, in order.
+FRAME_TIMES = [(0, 0), (1, 0), (2, 999998), (2, 999999), (3, 0), (4294967295, 0)]
+SYNC_TIMES = ["0", "0.0", "1", "1.000000", "1.000000001", "2.9", "2.999998", "2.9999985", "2.999999", "2.999999001"]
+SYNC_TIMES += ["3", "3.00", "3.000000001", "4294967295", "4294967295.0000005", "4294967295.999999999"]
+BAD_TIMES = ["", "00", "01", "1.", ".5", "1.0000000001", "4294967296", "-1", "+1", "1e1", "0x1", "1,5", "1.5.5", "1 2"]
+ODD_SYNCS = ["sync", " sync ", "sync1", "Sync 1", "syncs 1", "sync=1", "sync,1", "sync 1\v", "add sync 1", "sync\0 1"]
 
 
 class Maker:
@@ -57,21 +64,53 @@ class Maker:
         )
         return f"{name}={self.one(*(bad if self.rarely() else good))}"
 
-    def line(self):
+    def items(self):
+        return "".join(it + "," for it in {it.partition("=")[0]: it for it in self.some_items()}.values())
+
+    def some_items(self):
+        return [self.item() for _ in range(self.pick.randrange(3))]
+
+    def line(self, items):
         if self.rarely():
             return self.one(*ODD_LINES)
-        items = {it.partition("=")[0]: it for it in (self.item() for _ in range(self.pick.randrange(3)))}
         outputs = ["drop"] if self.chance(0.2) else [self.port() for _ in range(self.pick.randrange(1, 5))]
         if self.rarely():
             outputs = self.one(*ODD_OUTPUTS)
-        line = self.one("", "add ") + "".join(it + "," for it in items.values()) + "actions=" + ",".join(outputs)
+        line = self.one("", "add ") + items + "actions=" + ",".join(outputs)
         if self.rarely():
             at = self.pick.randrange(len(line))
             line = line[:at] + self.one("", ",", " ", "=", "x", line[at] * 2) + line[at + 1 :]
         return line
 
+    def rules(self):
+        """Lines that add rules. Some have the items of one before, whose place they take."""
+        items = []
+        for _ in range(self.pick.randrange(13)):
+            items.append(self.one(*items) if items and self.chance(0.3) else self.items())
+        return [self.line(it) for it in items]
+
+    def white(self, least):
+        return "".join(self.one(" ", " ", "\t", "\r") for _ in range(self.one(least, least, least, 1, 2)))
+
+    def syncs(self):
+        """Sync lines, seldom as many as there may be, or one more. Their times seldom fall."""
+        count = self.one(62, 63, 64) if self.rarely() else self.one(0, 0, 1, 1, 2, 3, 4)
+        times = sorted(self.pick.randrange(len(SYNC_TIMES)) for _ in range(count))
+        if self.rarely():
+            times.reverse()
+        lines = []
+        for time in times:
+            text = self.one(*BAD_TIMES) if self.rarely() else SYNC_TIMES[time]
+            line = self.white(0) + "sync" + self.white(1) + text + self.white(0)
+            lines.append(self.one(*ODD_SYNCS) if self.rarely() else line)
+        return lines
+
     def edits(self):
-        lines = [self.line() for _ in range(self.pick.randrange(13))]
+        lines = self.rules()
+        syncs = self.syncs()
+        places = sorted(self.pick.randrange(len(lines) + 1) for _ in syncs)
+        for place, sync in reversed(list(zip(places, syncs))):
+            lines.insert(place, sync)
         return ("\n".join(lines) + self.one("", "\n")).encode()
 
     def frame(self):
@@ -83,25 +122,25 @@ class Maker:
         made = struct.pack("<IHHIIII", 0xA1B2C3D4, 2, 4, 0, 0, self.one(65535, 262144), self.one(1, 1, 0x10000001))
         for _ in range(self.pick.randrange(12)):
             frame = self.frame()
-            time = self.one((3, 0), (1, 0), (2, 999999), (2, 999998), (4294967295, 0))
+            time = self.one(*FRAME_TIMES)
             made += struct.pack("<IIII", *time, len(frame), self.one(len(frame), 1514)) + frame
-        if self.chance(0.1):
+        if self.chance(0.05):
             at = self.pick.randrange(len(made))
             made = self.one(made[:at], made[:at] + bytes([self.pick.randrange(256)]) + made[at + 1 :], made + b"\0")
         return made
 
     def words(self):
-        words = ["edits", "out", f"{self.ports[0]}=a.pcap", *(f"{it}=" for it in self.ports[1:])]
+        words = ["edits", "out", *(f"{it}={self.one('', *TRACES)}" for it in self.ports)]
         if self.chance(0.1):
             at = self.pick.randrange(len(words))
             words[at] = self.one(*ODD_WORDS)
         return words
 
 
-def written_in(folder):
+def written_in(folder, given):
     files = {}
     for name in os.listdir(folder):
-        if name not in ("edits", "a.pcap"):
+        if name not in given:
             with open(os.path.join(folder, name), "rb") as file:
                 files[name] = file.read()
     return files
@@ -110,7 +149,7 @@ def written_in(folder):
 def compare(program, number, folder):
     """Tries one run in an empty folder, and tells what is wrong."""
     maker = Maker(number)
-    words, given = maker.words(), {"edits": maker.edits(), "a.pcap": maker.trace()}
+    words, given = maker.words(), {"edits": maker.edits(), **{name: maker.trace() for name in TRACES}}
     for name, data in given.items():
         with open(os.path.join(folder, name), "wb") as file:
             file.write(data)
@@ -124,7 +163,7 @@ def compare(program, number, folder):
     ran = subprocess.run([program, *words], cwd=folder, stdin=subprocess.DEVNULL, stdout=subprocess.PIPE)
     if (ran.returncode, ran.stdout) != (wanted.status, wanted.text.encode()):
         return f"{words}: status {ran.returncode} and {ran.stdout}, not {wanted.status} and {wanted.text!r}"
-    files, wanted_files = written_in(folder), dict(wanted.files)
+    files, wanted_files = written_in(folder, given), dict(wanted.files)
     wrong = sorted(name for name in files.keys() | wanted_files.keys() if files.get(name) != wanted_files.get(name))
     return f"{words}: {', '.join(wrong)}" if wrong else None
 

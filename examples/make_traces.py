@@ -19,6 +19,9 @@ ETHERTYPE_ARP = 0x0806
 PROTOCOL_ICMP = 1
 PROTOCOL_TCP = 6
 
+ECHO_REPLY = 0
+ECHO_REQUEST = 8
+
 BROADCAST = "ff:ff:ff:ff:ff:ff"
 NO_MAC = "00:00:00:00:00:00"
 BRIDGE_GROUP = "01:80:c2:00:00:00"
@@ -69,10 +72,10 @@ def ipv4(source, target, protocol, payload, identification):
     return start + struct.pack("!H", checksum(start + b"\0\0" + ends)) + ends + payload
 
 
-def icmp_echo_request(identifier, sequence):
-    """An echo request of ICMP (RFC 792) with the 56 bytes of data that ping sends."""
+def icmp_echo(kind, identifier, sequence):
+    """An echo request or reply of ICMP (RFC 792) with the 56 bytes of data that ping sends."""
     rest = struct.pack("!HH", identifier, sequence) + bytes(range(56))
-    return struct.pack("!BBH", 8, 0, checksum(b"\x08\0\0\0" + rest)) + rest
+    return struct.pack("!BBH", kind, 0, checksum(bytes([kind, 0, 0, 0]) + rest)) + rest
 
 
 def tcp_syn(source, target, source_port, target_port, sequence, time):
@@ -109,7 +112,7 @@ def trace(frames):
     return file
 
 
-# ---- the office of first-switch
+# ---- the stations
 
 GATEWAY = ("02:00:00:00:00:01", "192.0.2.1")
 FILE_SERVER = ("02:00:00:00:00:02", "192.0.2.2")
@@ -124,8 +127,8 @@ WEB_SITE = "198.51.100.7"
 MORNING = 1705309200 * 1000000
 
 
-def ping(source, target, identification, sequence):
-    packet = ipv4(source[1], target[1], PROTOCOL_ICMP, icmp_echo_request(7, sequence), identification)
+def ping(source, target, identification, sequence, kind=ECHO_REQUEST):
+    packet = ipv4(source[1], target[1], PROTOCOL_ICMP, icmp_echo(kind, 7, sequence), identification)
     return ethernet(target[0], source[0], ETHERTYPE_IPV4, packet)
 
 
@@ -133,6 +136,9 @@ def connect(source, via, target, ports, identification, sequence, time):
     """A segment that opens a connection to an address, sent to the station that it goes by."""
     segment = tcp_syn(source[1], target, ports[0], ports[1], sequence, time)
     return ethernet(via[0], source[0], ETHERTYPE_IPV4, ipv4(source[1], target, PROTOCOL_TCP, segment, identification))
+
+
+# ---- first-switch
 
 
 def office():
@@ -156,7 +162,32 @@ def office():
     )
 
 
-TRACES = {"first-switch/desks.pcap": office}
+# ---- rule-change
+
+
+def pings():
+    """What comes from a desk, which pings the file server each second."""
+    return trace(
+        (MORNING + number * 1000000, ping(DESK, FILE_SERVER, 0x1000 + number, number)) for number in [1, 2]
+    )
+
+
+def old_place():
+    """What comes from where the file server was: a reply, and after the move an announcement (RFC 5227, 3)."""
+    announcement = arp(1, *FILE_SERVER, NO_MAC, FILE_SERVER[1])
+    return trace(
+        [
+            (MORNING + 1000310, ping(FILE_SERVER, DESK, 0x3001, 1, ECHO_REPLY)),
+            (MORNING + 2150000, ethernet(BROADCAST, FILE_SERVER[0], ETHERTYPE_ARP, announcement)),
+        ]
+    )
+
+
+TRACES = {
+    "first-switch/desks.pcap": office,
+    "rule-change/desk.pcap": pings,
+    "rule-change/rack-a.pcap": old_place,
+}
 
 
 def main(words):

@@ -18,18 +18,28 @@ MOST_PORTS = 32
 MOST_EDITS_BYTES = 33554432
 MOST_LINE_BYTES = 4096
 MOST_EDITS = 32768
+MOST_SYNCS = 63
+MOST_SECONDS = 4294967295
 MOST_OUTPUTS = 64
 MOST_TRACE_BYTES = 268435456
 MOST_FRAMES = 131072
 SNAP_LENGTH = 262144
 ETHERNET_HEADER = 14
 
+SECOND = 1000000000
+MICROSECOND = 1000
+
 NUMBER = re.compile(rb"0|[1-9][0-9]*|0x[0-9a-fA-F]+")
 MAC = re.compile(rb"[0-9a-fA-F]{1,2}(:[0-9a-fA-F]{1,2}){5}")
 LINE = re.compile(rb"(?:add )?((?:(?:priority|in_port|dl_dst)=[^,]*,)*)actions=(.*)", re.DOTALL)
+SYNC_LINE = re.compile(rb"[ \t\r]*sync[ \t\r]+(0|[1-9][0-9]*)(?:\.([0-9]{1,9}))?[ \t\r]*")
 PORT_WORD = re.compile(r"([1-9][0-9]{0,4})=(.*)", re.DOTALL)
 
 Rule = namedtuple("Rule", "priority in_port dl_dst outputs")
+# When a block begins, in nanoseconds, and how many rules were added before it.
+Sync = namedtuple("Sync", "time after")
+# A block of a port: its frames, and how many rules are added before its end.
+Block = namedtuple("Block", "frames hi")
 Frame = namedtuple("Frame", "time port place bytes")
 Result = namedtuple("Result", "status text files")
 
@@ -55,8 +65,6 @@ def read_words(words):
         found = PORT_WORD.fullmatch(word)
         check(found and int(found[1]) <= LAST_PORT and int(found[1]) not in traces, "words")
         traces[int(found[1])] = found[2]
-    first, *others = traces.values()
-    check(first and not any(others), "words")
     return words[0], words[1], traces
 
 
@@ -99,49 +107,89 @@ def read_rule(line, name):
     return Rule(stated.get(b"priority", 32768), stated.get(b"in_port"), stated.get(b"dl_dst"), outputs)
 
 
+def read_sync_time(found, name):
+    seconds, fraction = int(found[1]), found[2] or b""
+    check(seconds <= MOST_SECONDS, name)
+    return seconds * SECOND + int(fraction.ljust(9, b"0"))
+
+
 def read_edits(data, name):
-    """The rules, oldest first. A rule takes the place of an older one with the same priority and match."""
+    """The rules, in the order in which they are added, and the sync points among them."""
     check(len(data) <= MOST_EDITS_BYTES, name)
-    rules, edits = {}, 0
+    added, syncs = [], []
     for line in data.split(b"\n"):
         check(len(line) <= MOST_LINE_BYTES, name)
         if not line.strip(b" \t\r"):
             continue
-        edits += 1
-        check(edits <= MOST_EDITS, name)
-        rule = read_rule(line, name)
-        rules.pop(rule[:3], None)
-        rules[rule[:3]] = rule
-    return list(rules.values())
+        found = SYNC_LINE.fullmatch(line)
+        if found:
+            syncs.append(Sync(read_sync_time(found, name), len(added)))
+            check(len(syncs) <= MOST_SYNCS and syncs == sorted(syncs), name)
+        else:
+            check(len(added) < MOST_EDITS, name)
+            added.append(read_rule(line, name))
+    return added, syncs
 
 
 # ---- traces
 
 
-def read_trace(data, port, name):
-    check(24 <= len(data) <= MOST_TRACE_BYTES, name)
+def read_trace(data, port, name, bytes_left, frames_left):
+    check(24 <= len(data) <= bytes_left, name)
     magic, major, minor, _, _, _, link_type = struct.unpack_from("<IHHIIII", data)
     check((magic, major, minor, link_type & 0xFFFF) == (0xA1B2C3D4, 2, 4, 1), name)
     frames, at = [], 24
     while at < len(data):
-        check(len(frames) < MOST_FRAMES and at + 16 <= len(data), name)
+        check(len(frames) < frames_left and at + 16 <= len(data), name)
         seconds, fraction, length, _ = struct.unpack_from("<IIII", data, at)
         at += 16
         check(fraction < 1000000 and length <= SNAP_LENGTH and at + length <= len(data), name)
-        frames.append(Frame(seconds * 1000000 + fraction, port, len(frames) + 1, data[at : at + length]))
+        frames.append(Frame(seconds * SECOND + fraction * MICROSECOND, port, len(frames) + 1, data[at : at + length]))
         at += length
+    return frames
+
+
+def read_traces(traces, read):
+    """The frames of each port. The limits are on all traces together."""
+    bytes_left, frames_left, frames = MOST_TRACE_BYTES, MOST_FRAMES, {}
+    for port, name in traces.items():
+        frames[port] = []
+        if name:
+            data = read(name)
+            frames[port] = read_trace(data, port, name, bytes_left, frames_left)
+            bytes_left -= len(data)
+            frames_left -= len(frames[port])
     return frames
 
 
 def write_trace(frames):
     records = [struct.pack("<IHHIIII", 0xA1B2C3D4, 2, 4, 0, 0, SNAP_LENGTH, 1)]
     for frame in frames:
-        length = len(frame.bytes)
-        records += [struct.pack("<IIII", frame.time // 1000000, frame.time % 1000000, length, length), frame.bytes]
+        seconds, rest, length = frame.time // SECOND, frame.time % SECOND, len(frame.bytes)
+        records += [struct.pack("<IIII", seconds, rest // MICROSECOND, length, length), frame.bytes]
     return b"".join(records)
 
 
 # ---- the switch
+
+
+def rules_after(added):
+    """The rules that stand, oldest first. A rule takes the place of an older one with the same priority and match."""
+    rules = {}
+    for rule in added:
+        rules.pop(rule[:3], None)
+        rules[rule[:3]] = rule
+    return list(rules.values())
+
+
+def blocks_of(frames, added, syncs):
+    """The blocks of a port: each but the last ends before the first frame that isn't before the next sync point."""
+    blocks = []
+    for sync in syncs:
+        end = next((at for at, frame in enumerate(frames) if frame.time >= sync.time), len(frames))
+        blocks.append(Block(frames[:end], sync.after))
+        frames = frames[end:]
+    return [*blocks, Block(frames, len(added))]
 
 
 def outputs_of(rules, ports, frame):
@@ -155,6 +203,33 @@ def outputs_of(rules, ports, frame):
     return [port for port in best.outputs if port in ports and port != frame.port] if best else []
 
 
+def sent_frames(blocks, added, ports):
+    """What leaves by each port, in the order of time, ingress port, place and position in the actions."""
+    decided = []
+    for block in blocks:
+        rules = rules_after(added[: block.hi])
+        decided += [(frame, outputs_of(rules, ports, frame)) for frame in block.frames]
+    sent = {port: [] for port in ports}
+    for frame, outputs in sorted(decided, key=lambda it: it[0][:3]):
+        for port in outputs:
+            sent[port].append(frame)
+    return sent
+
+
+def journal_of(port, blocks):
+    """The lines of a port: a sweep where rules were added since the last one, each frame, and the next block."""
+    lines, done = [f"port {port}"], 0
+    for number, block in enumerate(blocks):
+        if number > 0:
+            lines.append(f"open {number}")
+        if done < block.hi:
+            lines += [f"begin {block.hi}", "end"]
+            done = block.hi
+        for frame in block.frames:
+            lines += [f"look {frame.place} miss", f"settle {frame.place} {block.hi} full"]
+    return "".join(line + "\n" for line in lines)
+
+
 def simulate(words, contents):
     """How a run ends, where contents gives the bytes of the file of a name or raises an OSError."""
 
@@ -166,15 +241,15 @@ def simulate(words, contents):
 
     try:
         edits, out, traces = read_words(words)
-        rules = read_edits(read(edits), edits)
-        frames = [frame for port, name in traces.items() if name for frame in read_trace(read(name), port, name)]
+        added, syncs = read_edits(read(edits), edits)
+        frames = read_traces(traces, read)
     except Refused as refused:
         return Result(refused.args[0], refused.args[1] + "\n", [])
-    sent = {port: [] for port in traces}
-    for frame in sorted(frames, key=lambda it: (it.time, it.port, it.place)):
-        for port in outputs_of(rules, traces, frame):
-            sent[port].append(frame)
-    return Result(DONE, "", [(f"{out}.p{port}.pcap", write_trace(sent[port])) for port in traces])
+    blocks = {port: blocks_of(frames[port], added, syncs) for port in traces}
+    sent = sent_frames([block for port in traces for block in blocks[port]], added, traces)
+    files = [(f"{out}.p{port}.pcap", write_trace(sent[port])) for port in traces]
+    journal = "".join(journal_of(port, blocks[port]) for port in traces)
+    return Result(DONE, "", [*files, (f"{out}.journal", journal.encode())])
 
 
 def contents_of(name):
