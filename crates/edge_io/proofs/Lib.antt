@@ -1,4 +1,5 @@
 pub mod Fronts
+pub mod Pieces
 pub mod Refusals
 pub mod Whole
 pub mod Places

@@ -1,4 +1,5 @@
 pub mod Shelf
+pub mod Written
 pub mod Sink
 pub mod ReadAll
 pub mod Stored

@@ -10,8 +10,8 @@ use Rattle.edge_io.specs.declared.outside.InUse.{InUse}
 use Rattle.edge_io.specs.declared.outside.InUse.TheVariants.{Nothing, Created}
 use Rattle.edge_io.specs.Shelf.{Told, Creates, wrote, closed, kept}
 use Rattle.pcap_io.specs.Writing.{IsNotStarted}
-use Rattle.pcap_io.proofs.Fronts.{front_of_first, front_of_second}
-use Rattle.egress_merge.specs.Written.{written, IsFrontOf}
+use Rattle.edge_io.proofs.Pieces.{front_of_first, front_of_second}
+use Rattle.edge_io.specs.Written.{written, IsFrontOf}
 
 -- what stands before a piece, the piece, and what stands behind it
 cut_within : (t u v : Told) (before piece behind all : List ℕ) → all ≡ before ++ (piece ++ behind) → u ≡ wrote t before → (n : ℕ) × (v ≡ wrote u (take n piece)) → (n : ℕ) × (v ≡ wrote t (take n all))

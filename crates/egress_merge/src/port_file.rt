@@ -10,7 +10,7 @@ ghost use Rattle.edge_io.specs.Shelf.{HasCause, wrote, kept};
 ghost use Rattle.run_case.specs.Places.{HasPort};
 ghost use Rattle.egress_merge.specs.Boards.{journals_view, IsAllDecided, IsArrival};
 ghost use Rattle.egress_merge.specs.Sending.{sends_to, frames_by};
-ghost use Rattle.egress_merge.specs.Written.{written, IsFrontOf};
+ghost use Rattle.edge_io.specs.Written.{written, IsFrontOf};
 
 use edge_io::{Failed, Shelf};
 use pcap_io::PcapWriter;
