@@ -12,24 +12,8 @@ use Rattle.edge_io.specs.declared.outside.Failed.TheVariants.{Fault, OutOfMemory
 use Rattle.edge_io.specs.declared.outside.InUse.{InUse}
 use Rattle.edge_io.specs.declared.outside.InUse.TheVariants.{Nothing, Created}
 use Rattle.edge_io.specs.Shelf.{Told, Creates, wrote, closed, kept}
-use Rattle.flow_dump.specs.Dumps.{written, IsFrontOf, WroteFront}
-
--- a front of the first piece is a front of both
-pub front_of_first : (before after : Told) (xs ys : List ℕ) → WroteFront before after xs → WroteFront before after (xs ++ ys)
-front_of_first before after xs ys (n, is) =
-    elim (cases_lt n (length xs)) [
-      | inl less ↦ (n, is ∙ ap (wrote before) (sym (take-append-le n xs ys (omega arith))))
-      | inr all ↦ (length xs, is ∙ ap (wrote before) (take_all n xs all ∙ sym (take-append_seam xs ys)))
-    ]
-
--- the first piece and a front of the second are a front of both
-pub front_of_second : (before between after : Told) (xs ys : List ℕ) → between ≡ wrote before xs → WroteFront between after ys
-    → WroteFront before after (xs ++ ys)
-front_of_second before between after xs ys first (n, second) =
-    let is = rw first at second in
-    let both : (before.current ++ xs) ++ take n ys ≡ before.current ++ take (length xs + n) (xs ++ ys) =
-    append_assoc before.current xs (take n ys) ∙ ap (λ (zs : List ℕ). before.current ++ zs) (sym (take-append-add xs ys n)) in
-    (length xs + n, is ∙ ap (λ (zs : List ℕ). let told : Told = record before { current = zs } in told) both)
+use Rattle.edge_io.specs.Written.{written, IsFrontOf, WroteFront}
+use Rattle.edge_io.proofs.Pieces.{front_of_first, front_of_second}
 
 module _ {X Y : Type 0} (view : X → Y) (text : Y → List ℕ) where
   -- the text of these, seen through a view

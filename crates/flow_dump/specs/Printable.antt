@@ -1,5 +1,5 @@
--- Numbers whose decimal texts have all of their digits: a text has 64 digits at most. Every number of the program is
--- among them.
+-- Numbers whose decimal texts have all of their digits: `decimal` writes the last 64 at most. Numbers of up to 128 bits
+-- are among them.
 use Rattle.std.specs.Prelude.{ℕ, ◌^◌, ◌<◌, All}
 use Rattle.spec_board.specs.declared.looked.Looked.{Looked}
 use Rattle.spec_board.specs.declared.looked.Looked.TheVariants.{Exact, Mega, Miss}
@@ -9,6 +9,7 @@ use Rattle.spec_board.specs.Texts.{Journal}
 abbrev pub IsPrintable : ℕ → Type 0
 IsPrintable n = n < 10 ^ 64
 
+-- The same of every number of a result, a step or a journal.
 abbrev pub IsPrintableLooked : Looked → Type 0
 IsPrintableLooked (Exact n) = IsPrintable n
 IsPrintableLooked (Mega n) = IsPrintable n

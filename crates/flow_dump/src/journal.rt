@@ -4,7 +4,8 @@ ghost use Rattle.edge_io.specs.declared.outside.InUse.TheVariants.{Nothing, Crea
 ghost use Rattle.edge_io.specs.Shelf.{HasCause, wrote, kept};
 ghost use Rattle.pmd_board.specs.StepViews.{step_view, steps_view};
 ghost use Rattle.flow_dump.specs.JournalViews.{journal_view, journals_view, steps_text};
-ghost use Rattle.flow_dump.specs.Dumps.{written, IsFrontOf, WroteFront, WriteCause};
+ghost use Rattle.edge_io.specs.Written.{written, IsFrontOf, WroteFront};
+ghost use Rattle.flow_dump.specs.Dumps.{WriteCause};
 ghost use Rattle.flow_dump.specs.Printable.{IsPrintable, IsPrintableStep, IsPrintableJournal};
 
 use crate::WriteFault;
@@ -14,14 +15,16 @@ use pmd_board::Step;
 use std::alloc::Global;
 use std::fmt::Write;
 
-/// The journal of the board of an ingress port.
+/// The journal of an ingress port.
 #[derive(Clone, Copy, Debug)]
 pub struct PortJournal<'a> {
+    /// The number of the port, any one of 16 bits.
     pub port: u16,
+    /// The steps, the first one first.
     pub steps: &'a [Step],
 }
 
-// Writes a line. Of what the buffer has, nothing is said.
+// Writes the line with a line feed. It isn't said what the buffer has then.
 fn write_line<S: Shelf>(shelf: &mut S, line: &mut String) -> Result<(), Failed>
     requires { S.in_use shelf.old ≡ Created }
     ensures in_use { S.in_use shelf.new ≡ Created }
@@ -145,16 +148,16 @@ fn write_file<S: Shelf>(
     shelf.close_file()
 }
 
-/// Writes the journals of ports, one after the other, to a new file of this name.
+/// Writes the journals of ports, one after the other, to a new file of this name, and closes it.
 ///
-/// Of the memory it takes, there is only one line at a time.
+/// It takes memory for one line at a time.
 ///
 /// # Errors
 ///
 /// - `Fault`: the shelf failed in creating, writing or closing the file, and its count of writing rose.
 /// - `OutOfMemory`: there was no memory for a line, or for the shelf.
 ///
-/// After an error the file has a front of the text, or was not created; it may still be in use.
+/// After an error the file was not created, or has a front of the text. It may then still be in use.
 pub fn write_journals<S: Shelf>(
     alloc: Global,
     shelf: &mut S,
@@ -167,7 +170,10 @@ pub fn write_journals<S: Shelf>(
         (S.told shelf.new ≡ kept (S.told shelf.old) (name.now, journals_text (journals_view journals.now))) }
     ensures err { IsTrue S.tells → OnErr result
         (IsFrontOf (S.told shelf.old).done (name.now, journals_text (journals_view journals.now)) (written (S.in_use shelf.new) (S.told shelf.new))) }
+
+    // So the text determines the journals, by `journals_text_is_one_to_one`.
     ensures printable { OnOk result (All IsPrintableJournal (journals_view journals.now)) }
+
     ensures named { IsTrue S.tells → result ≡ Err WriteFault.Fault → (S.told shelf.new).last ≡ name.now }
     ensures cause { WriteCause (S.writing shelf.old) (S.writing shelf.new) (S.reading shelf.old) (S.reading shelf.new) result }
 {

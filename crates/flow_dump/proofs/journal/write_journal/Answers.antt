@@ -3,7 +3,7 @@ use Rattle.std.proofs.lemmas.Result.{err_from_is_err_and, on_err_weaker}
 use Rattle.spec_board.specs.Texts.{line_of, word_with}
 use Rattle.pmd_board.specs.StepViews.{steps_view}
 use Rattle.flow_dump.specs.JournalViews.{steps_text}
-use Rattle.flow_dump.proofs.Fronts.{front_of_first, front_of_second}
+use Rattle.edge_io.proofs.Pieces.{front_of_first, front_of_second}
 use Rattle.flow_dump.proofs.journal.write_journal.Goals as goal
 
 pub returns-in_err-write_port-clause-err : goal.returns-in_err-write_port-clause-err
