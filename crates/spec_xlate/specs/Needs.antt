@@ -3,32 +3,10 @@ use Rattle.std.specs.Prelude.{ℕ, Bool, true, ◌&&◌, ◌||◌, ◌==◌, Lis
 use Rattle.spec_keys.specs.declared.field_id.FieldId.{FieldId}
 use Rattle.spec_keys.specs.declared.field_id.FieldId.TheVariants.{DlType, VlanTci, NwProto, IpFrag}
 use Rattle.spec_keys.specs.Keys.{value_of}
+use Rattle.spec_keys.specs.Protocols.{ipv4_type, ipv6_type, arp_type, icmp_protocol, tcp_protocol, udp_protocol, icmp6_protocol}
 use Rattle.spec_actions.specs.declared.named_field.Prerequisite.{Prerequisite}
 use Rattle.spec_actions.specs.declared.named_field.Prerequisite.TheVariants.{Nothing, Ipv4, Ipv6, Ip, Arp, Tcp, Udp, TcpOrUdp, Icmp, Icmp6, Tag}
 use Rattle.spec_xlate.specs.Tags.{tag_fields, is_tag}
-
--- Ethernet types (IEEE 802 Numbers of IANA)
-abbrev pub ipv4_type : ℕ
-ipv4_type = 0x0800
-
-abbrev pub ipv6_type : ℕ
-ipv6_type = 0x86dd
-
-abbrev pub arp_type : ℕ
-arp_type = 0x0806
-
--- protocols of IP (Protocol Numbers of IANA)
-abbrev pub icmp_protocol : ℕ
-icmp_protocol = 1
-
-abbrev pub tcp_protocol : ℕ
-tcp_protocol = 6
-
-abbrev pub udp_protocol : ℕ
-udp_protocol = 17
-
-abbrev pub icmp6_protocol : ℕ
-icmp6_protocol = 58
 
 abbrev pub is_ip : List ℕ → Bool
 is_ip key = (value_of key DlType == ipv4_type) || (value_of key DlType == ipv6_type)

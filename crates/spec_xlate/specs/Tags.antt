@@ -4,12 +4,9 @@ use Rattle.spec_keys.specs.declared.field_id.FieldId.{FieldId}
 use Rattle.spec_keys.specs.declared.field_id.FieldId.TheVariants.{VlanTci}
 use Rattle.spec_keys.specs.Keys.{value_of}
 use Rattle.spec_keys.specs.Fields.{place_of}
+use Rattle.spec_keys.specs.Protocols.{tag_bit}
 use Rattle.spec_actions.specs.declared.action.DpAction.{DpAction}
 use Rattle.spec_actions.specs.declared.action.DpAction.TheVariants.{PopVlan, PushVlan}
-
--- the bit of vlan_tci that says that there is a tag (ovs-fields(7), "VLAN Fields")
-abbrev pub tag_bit : ℕ
-tag_bit = 0x1000
 
 -- whether a vlan_tci is that of a tag
 abbrev pub is_tag : ℕ → Bool

@@ -16,7 +16,8 @@ use Rattle.spec_actions.specs.declared.action.DpAction.TheVariants as datapath
 use Rattle.spec_actions.specs.Named.{named}
 use Rattle.spec_tables.specs.Rules.{Rule, rules_in, winner}
 use Rattle.spec_xlate.specs.Needs.{is_met}
-use Rattle.spec_xlate.specs.Tags.{tag_bit, is_tag_field, tagged, pushed, popped, is_full}
+use Rattle.spec_keys.specs.Protocols.{tag_bit}
+use Rattle.spec_xlate.specs.Tags.{is_tag_field, tagged, pushed, popped, is_full}
 use Rattle.spec_xlate.specs.Commit.{commit}
 
 -- limits of this profile: the depth of a lookup, that of the first being 0; lookups; datapath actions

@@ -6,7 +6,7 @@ use Rattle.spec_keys.specs.declared.field_id.FieldId.TheVariants as field
 use Rattle.spec_keys.specs.Fields.{place_of}
 use Rattle.spec_keys.specs.Keys.{number_at, masked, agree, IsKey, IsClean}
 use Rattle.spec_actions.specs.declared.action.DpAction.{DpAction}
-use Rattle.spec_xlate.specs.Needs.{ipv4_type, ipv6_type}
+use Rattle.spec_keys.specs.Protocols.{ipv4_type, ipv6_type}
 use Rattle.spec_xlate.specs.Translation.{Switch, Mode, Translation, deepest, kept, look, start, last_state, pipe}
 use Rattle.spec_xlate.specs.Lookup.{union, when}
 use Rattle.spec_xlate.specs.Consulted.{whole, look_bits, start_bits, register_fields, without, consulted}
