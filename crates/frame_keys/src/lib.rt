@@ -1,75 +1,49 @@
-//! The key of a frame: what the tables and the caches are asked about.
+//! The key of a frame, by which the tables and the caches are asked, and the places of its headers.
 //!
 //! # What?
 //!
-//! A frame that comes in at a port has a *key*: the port, and the fields that its bytes give. `key_of` reads it.
+//! A frame that comes in at a port has a *key*: the port, and the fields that its headers give. `key_of` reads it.
+//! Actions that rewrite a frame need to know where its headers stand, which `layout_of` says.
 //!
 //! # What is promised
 //!
-//! `spec_frames` says which key a frame has, as a list of numbers, and the key that is read has exactly these.
+//! `spec_frames` says which key a frame has, as a list of numbers, and where its headers stand. The key that is read has
+//! exactly these numbers, and the layout is exactly this one.
 //!
-//! - Every frame has a key, however short. Of one without a whole Ethernet header it is the port alone.
+//! - Every frame has a key and a layout, however short or broken. Of one without a whole Ethernet header the key is the
+//!   port alone.
+//! - A malformed network header leaves all network and transport fields 0, and no such header is in the layout.
+//! - A frame that was cut by its capture is read as it is: a packet ends where its header says, or with the frame. A
+//!   header that isn't whole is malformed.
+//! - A key has the ports of no fragment, and a layout has the transport header of a first one.
 //! - No call takes memory, and none can fail.
 //!
 //! # How
 //!
-//! An address is read as one big-endian number of eight bytes, of which the first two are 0. The rest of the key stays
-//! as it was: 0 in every field.
+//! Each header has a module, which tests at an offset whether the header is well formed, reads what it says, and gives a
+//! key its fields. The network header is read once: the transport header, the key and the layout are made of what is
+//! kept of it (`spec_frames::Network`). Nothing is copied, and each number is read where it stands.
+//!
+//! The extension headers of IPv6 are passed in a loop of at most eight turns. It keeps an `UpperLayer`: what the packet
+//! would carry if no extension header followed.
 //!
 //! # What is left to others
 //!
-//! Which frame is asked about, and all that a key is compared with. The fields behind the Ethernet header aren't read
-//! yet, and are 0.
+//! Which frame is asked about, all that a key is compared with, and changes to a frame. No checksum is tested: a frame
+//! with a wrong one has a key as any other. A second tag, MPLS and tunnels aren't read.
 #![tactic(auto)]
 
-ghost use Rattle.std.specs.Prelude.{◌≡◌, ◌+◌, ◌^◌, ◌<◌, ◌≤◌, length};
-ghost use Rattle.spec_base.specs.Bytes.{big_endian_at};
-ghost use Rattle.spec_frames.specs.Key.{address_size, key_of as key_numbers};
-ghost use Rattle.ovs_fields.specs.Packed.{numbers};
-
-use ovs_fields::{FieldId, Key};
-
+mod arp;
+mod ethernet;
+mod ipv4;
+mod ipv6;
+mod key;
+mod layout;
+mod network;
 #[cfg(test)]
 mod tests;
+mod transport;
 
-// The bytes of an Ethernet address, and of an Ethernet header: two addresses and a type.
-const ADDRESS_SIZE: usize = 6;
-
-const HEADER_SIZE: usize = 14;
-
-// The Ethernet address at an offset.
-#[tactic(auto, unfolding(spec_base::specs::Bytes::big_endian_at))]
-fn address_at(frame: &[u8], at: usize) -> u64
-    requires { at + address_size ≤ length frame.now }
-    ensures value { result ≡ big_endian_at address_size frame.now at }
-    ensures fits { result < 2 ^ 48 }
-{
-    u64::from_be_bytes([
-        0,
-        0,
-        frame[at],
-        frame[at + 1],
-        frame[at + 2],
-        frame[at + 3],
-        frame[at + 4],
-        frame[at + 5],
-    ])
-}
-
-/// The key of a frame that came in at a port. It takes no memory.
-///
-/// Ports are numbers of 16 bits, as in OpenFlow 1.0. The frame is the bytes that were captured, from the destination
-/// address on; behind the Ethernet header nothing is read yet.
-#[tactic(auto, unfolding(spec_frames::specs::Key::key_of))]
-pub fn key_of(port: u16, frame: &[u8]) -> Key
-    ensures { numbers result ≡ key_numbers port frame.now }
-{
-    let mut key = Key::zero();
-    key.set(FieldId::InPort, u128::from(port));
-    if frame.len() < HEADER_SIZE {
-        return key;
-    }
-    key.set(FieldId::DlDst, u128::from(address_at(frame, 0)));
-    key.set(FieldId::DlSrc, u128::from(address_at(frame, ADDRESS_SIZE)));
-    key
-}
+pub use key::key_of;
+pub use layout::layout_of;
+pub use spec_frames::{L3, L4, Layout};

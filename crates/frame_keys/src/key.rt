@@ -1,0 +1,161 @@
+//! The key of a frame.
+ghost use Rattle.std.specs.Prelude.{◌≡◌, ◌+◌, ◌*◌, ◌^◌, ◌<◌, ◌≤◌, length};
+ghost use Rattle.spec_keys.specs.Keys.{IsClean};
+ghost use Rattle.spec_frames.specs.Ethernet.{header_size};
+ghost use Rattle.spec_frames.specs.Network.{network};
+ghost use Rattle.spec_frames.specs.Key.{with_ethernet, port_size, with_ports, with_icmp, with_transport, shown, ip_frag, with_datagram, with_network, key_of as key_numbers};
+ghost use Rattle.ovs_fields.specs.Packed.{numbers};
+ghost use Rattle.frame_keys.specs.Within.{IsWithin, IsBefore};
+
+use crate::arp::set_arp;
+use crate::ethernet::{HEADER_SIZE, carried, is_tagged, set_ethernet};
+use crate::ipv4::set_ipv4;
+use crate::ipv6::set_ipv6;
+use crate::network::network_at;
+use crate::transport::transport;
+use net_bytes::be16;
+use ovs_fields::{FieldId, Key};
+use spec_frames::{Datagram, Fragment, L4, Network};
+
+/// Behind the source port stands the destination port, and behind the type of ICMP its code.
+const DESTINATION_PORT_AT: usize = 2;
+
+const CODE_AT: usize = 1;
+
+/// The values of `ip_frag` (ovs-fields(7)): bit 0 is that of any fragment, and bit 1 that of a later one.
+const WHOLE: u8 = 0;
+
+const FIRST: u8 = 1;
+
+const LATER: u8 = 3;
+
+#[inline]
+fn set_ports(key: &mut Key, frame: &[u8], at: usize)
+    requires { at + 2 * port_size ≤ length frame.now }
+    ensures { numbers key.new ≡ with_ports frame.now at (numbers key.old) }
+{
+    key.set(FieldId::TpSrc, u128::from(be16(frame, at)));
+    key.set(
+        FieldId::TpDst,
+        u128::from(be16(frame, at + DESTINATION_PORT_AT)),
+    );
+}
+
+#[inline]
+fn set_icmp(key: &mut Key, frame: &[u8], at: usize)
+    requires { at + 2 ≤ length frame.now }
+    ensures { numbers key.new ≡ with_icmp frame.now at (numbers key.old) }
+{
+    key.set(FieldId::TpSrc, u128::from(frame[at]));
+    key.set(FieldId::TpDst, u128::from(frame[at + CODE_AT]));
+}
+
+#[inline]
+#[tactic(auto, unfolding(spec_frames::specs::Key::with_transport))]
+fn set_transport(key: &mut Key, frame: &[u8], header: L4)
+    requires { IsBefore (length frame.now) header }
+    ensures { numbers key.new ≡ with_transport frame.now header (numbers key.old) }
+{
+    match header {
+        L4::None => {}
+        L4::Tcp(at) | L4::Udp(at) => set_ports(key, frame, at),
+        L4::Icmp(at) | L4::Icmp6(at) => set_icmp(key, frame, at),
+    }
+}
+
+/// The transport header that a key shows: that of a packet that is no fragment.
+#[inline]
+fn shown(fragment: Fragment, header: L4) -> L4
+    ensures { result ≡ shown fragment header }
+{
+    match fragment {
+        Fragment::Whole => header,
+        Fragment::First | Fragment::Later => L4::None,
+    }
+}
+
+#[inline]
+fn ip_frag(fragment: Fragment) -> u8
+    ensures value { result ≡ ip_frag fragment }
+    ensures fits { result < 2 ^ 2 }
+{
+    match fragment {
+        Fragment::Whole => WHOLE,
+        Fragment::First => FIRST,
+        Fragment::Later => LATER,
+    }
+}
+
+/// Gives a key what both versions of IP say.
+#[inline]
+fn set_datagram(key: &mut Key, datagram: &Datagram)
+    ensures { numbers key.new ≡ with_datagram datagram.now (numbers key.old) }
+{
+    key.set(FieldId::NwProto, u128::from(datagram.upper.protocol));
+    key.set(FieldId::NwTos, u128::from(datagram.tos));
+    key.set(FieldId::NwTtl, u128::from(datagram.ttl));
+    key.set(
+        FieldId::IpFrag,
+        u128::from(ip_frag(datagram.upper.fragment)),
+    );
+}
+
+/// Gives a key the network header of its frame and what stands behind that.
+#[inline]
+#[tactic(auto, unfolding(spec_frames::specs::Key::with_network))]
+fn set_network(key: &mut Key, frame: &[u8], network: &Network)
+    requires { IsWithin frame.now network.now }
+    ensures { numbers key.new ≡ with_network frame.now network.now (numbers key.old) }
+{
+    match network {
+        Network::Nothing => {}
+        Network::Arp(at) => set_arp(key, frame, *at),
+        Network::Ipv4(at, datagram) => {
+            set_ipv4(key, frame, *at);
+            set_datagram(key, datagram);
+            set_transport(
+                key,
+                frame,
+                shown(datagram.upper.fragment, transport(network)),
+            );
+        }
+        Network::Ipv6(at, datagram) => {
+            set_ipv6(key, frame, *at);
+            set_datagram(key, datagram);
+            set_transport(
+                key,
+                frame,
+                shown(datagram.upper.fragment, transport(network)),
+            );
+        }
+    }
+}
+
+/// Gives a key the headers of its frame, which has a whole Ethernet header.
+#[inline]
+fn set_headers(key: &mut Key, frame: &[u8])
+    requires { header_size ≤ length frame.now }
+    ensures { numbers key.new ≡ with_network frame.now (network frame.now) (with_ethernet frame.now (numbers key.old)) }
+{
+    let tagged = is_tagged(frame);
+    let payload = carried(frame, tagged);
+    set_ethernet(key, frame, tagged, payload.dl_type);
+    set_network(key, frame, &network_at(frame, payload));
+}
+
+/// The key of a frame that came in at a port.
+///
+/// Ports are numbers of 16 bits, as in OpenFlow 1.0. The frame is the bytes that were captured, from the destination
+/// address on. Metadata and registers, which no frame carries, are 0. It takes no memory.
+#[tactic(auto, unfolding(spec_frames::specs::Key::key_of))]
+pub fn key_of(port: u16, frame: &[u8]) -> Key
+    ensures numbers { numbers result ≡ key_numbers port frame.now }
+    ensures clean { IsClean (numbers result) }
+{
+    let mut key = Key::zero();
+    key.set(FieldId::InPort, u128::from(port));
+    if frame.len() >= HEADER_SIZE {
+        set_headers(&mut key, frame);
+    }
+    key
+}
