@@ -1,8 +1,13 @@
 -- Classic capture files: pcap-savefile(5), and the IETF draft "PCAP Capture File Format" (draft-ietf-opsawg-pcap).
-use Rattle.std.specs.Prelude.{ℕ, zero, suc, ◌+◌, ◌-◌, ◌*◌, ◌/◌, ◌%◌, ◌^◌, Bool, false, ◌&&◌, ◌==◌, nat_le, nat_lt, if◌then◌else◌, List, [], ◌∷◌, ◌++◌, length, take, drop, slice_index_or, Option, Some, None}
+use Rattle.std.specs.Prelude.{ℕ, zero, suc, ◌+◌, ◌-◌, ◌*◌, ◌/◌, ◌%◌, ◌^◌, Bool, true, false, ◌&&◌, ◌==◌, nat_le, nat_lt, if◌then◌else◌, List, [], ◌∷◌, ◌++◌, length, take, drop, slice_index_or, Option, Some, None, Result, Ok, Err}
 use Rattle.std.specs.List.{flat_map}
-use Rattle.std.specs.Option.{option_map}
-use Rattle.spec_base.specs.Bytes.{little_endian_at, little_endian}
+use Rattle.std.specs.Option.{option_or}
+use Rattle.spec_base.specs.Bytes.{little_endian_at, little_endian, big_endian_at}
+use Rattle.spec_pcap.specs.declared.format.ByteOrder.{ByteOrder}
+use Rattle.spec_pcap.specs.declared.format.ByteOrder.TheVariants.{LittleEndian, BigEndian}
+use Rattle.spec_pcap.specs.declared.format.Format.{Format}
+use Rattle.spec_pcap.specs.declared.fault.PcapFault.{PcapFault}
+use Rattle.spec_pcap.specs.declared.fault.PcapFault.TheVariants.{ShortHeader, Magic, Version, LinkType, ShortRecord, TooLong, Fraction, TooManyFrames}
 
 -- a frame: when it was captured, in nanoseconds since the beginning of 1970 (UTC), and its bytes
 pub record Frame : Type 0 where
@@ -56,71 +61,110 @@ second = 1000000000
 abbrev pub unit_of : Bool → ℕ
 unit_of nanos = if nanos then 1 else 1000
 
--- ---- what is read
+-- ---- how numbers are written
 
--- the parts of a file's header
-abbrev pub magic_of : List ℕ → ℕ
-magic_of bytes = little_endian_at 4 bytes 0
+-- the number of the n bytes at an offset
+abbrev pub number_at : ByteOrder → ℕ → List ℕ → ℕ → ℕ
+number_at LittleEndian n bytes at = little_endian_at n bytes at
+number_at BigEndian n bytes at = big_endian_at n bytes at
 
-abbrev pub major_of : List ℕ → ℕ
-major_of bytes = little_endian_at 2 bytes 4
+-- the format of a file whose first number, read in this order, is a magic one
+abbrev pub format_by : ByteOrder → ℕ → Option Format
+format_by order number =
+    if number == micros_magic then Some (record { order = order; nanos = false })
+    else (if number == nanos_magic then Some (record { order = order; nanos = true }) else None)
 
-abbrev pub minor_of : List ℕ → ℕ
-minor_of bytes = little_endian_at 2 bytes 6
+-- the format that a magic number tells
+abbrev pub told_format : List ℕ → Option Format
+told_format bytes =
+    option_or (format_by LittleEndian (number_at LittleEndian 4 bytes 0)) (format_by BigEndian (number_at BigEndian 4 bytes 0))
+
+-- ---- what is read: the header
+
+abbrev pub major_of : ByteOrder → List ℕ → ℕ
+major_of order bytes = number_at order 2 bytes 4
+
+abbrev pub minor_of : ByteOrder → List ℕ → ℕ
+minor_of order bytes = number_at order 2 bytes 6
 
 -- the upper bits of that field are no part of the type: they tell of a frame check sequence
-abbrev pub link_type_of : List ℕ → ℕ
-link_type_of bytes = little_endian_at 4 bytes 20 % 2 ^ 16
+abbrev pub link_type_of : ByteOrder → List ℕ → ℕ
+link_type_of order bytes = number_at order 4 bytes 20 % 2 ^ 16
+
+-- the format of a file that begins with a header of this version and link type
+abbrev pub with_magic : List ℕ → Option Format → Result Format PcapFault
+with_magic bytes None = Err Magic
+with_magic bytes (Some format) =
+    let major = major_of format.order bytes in
+    let minor = minor_of format.order bytes in
+    let link_type = link_type_of format.order bytes in
+    if (major == major_version) && (minor == minor_version)
+    then (if link_type == ethernet then Ok format else Err (LinkType link_type))
+    else Err (Version major minor)
+
+unfoldable pub format_of : List ℕ → Result Format PcapFault
+format_of bytes = if nat_lt (length bytes) header_length then Err ShortHeader else with_magic bytes (told_format bytes)
+
+-- ---- what is read: the records
 
 -- the parts of the record at an offset
-abbrev pub seconds_at : List ℕ → ℕ → ℕ
-seconds_at bytes at = little_endian_at 4 bytes at
+abbrev pub seconds_at : Format → List ℕ → ℕ → ℕ
+seconds_at format bytes at = number_at format.order 4 bytes at
 
-abbrev pub fraction_at : List ℕ → ℕ → ℕ
-fraction_at bytes at = little_endian_at 4 bytes (at + 4)
+abbrev pub fraction_at : Format → List ℕ → ℕ → ℕ
+fraction_at format bytes at = number_at format.order 4 bytes (at + 4)
 
-abbrev pub captured_at : List ℕ → ℕ → ℕ
-captured_at bytes at = little_endian_at 4 bytes (at + 8)
+abbrev pub captured_at : Format → List ℕ → ℕ → ℕ
+captured_at format bytes at = number_at format.order 4 bytes (at + 8)
 
 -- the offset behind the record at an offset
-abbrev pub behind : List ℕ → ℕ → ℕ
-behind bytes at = at + record_header_length + captured_at bytes at
+abbrev pub behind : Format → List ℕ → ℕ → ℕ
+behind format bytes at = at + record_header_length + captured_at format bytes at
 
--- whether the bytes begin with the header of a file in microseconds, of this version and link type
-abbrev pub is_header : List ℕ → Bool
-is_header bytes =
-    nat_le header_length (length bytes) && ((magic_of bytes == micros_magic) && ((major_of bytes == major_version)
-    && ((minor_of bytes == minor_version) && (link_type_of bytes == ethernet))))
-
--- whether a whole record stands at an offset, with no more bytes than are captured, and a fraction below a second
-abbrev pub is_record : Bool → List ℕ → ℕ → Bool
-is_record nanos bytes at =
-    nat_le (at + record_header_length) (length bytes) && (nat_le (captured_at bytes at) snap_length
-    && (nat_le (behind bytes at) (length bytes) && nat_lt (fraction_at bytes at * unit_of nanos) second))
+-- what is wrong with the record at an offset: it is cut in its header, has too many captured bytes, is cut behind its
+-- header, or has a fraction of a second or more
+unfoldable pub record_fault : Format → List ℕ → ℕ → Option PcapFault
+record_fault format bytes at =
+    if nat_lt (length bytes) (at + record_header_length) then Some (ShortRecord at)
+    else (if nat_lt snap_length (captured_at format bytes at) then Some (TooLong at (captured_at format bytes at))
+    else (if nat_lt (length bytes) (behind format bytes at) then Some (ShortRecord at)
+    else (if nat_le second (fraction_at format bytes at * unit_of format.nanos) then Some (Fraction at)
+    else None)))
 
 -- the frame of the record at an offset
-abbrev pub frame_at : Bool → List ℕ → ℕ → Frame
-frame_at nanos bytes at = record {
-  time = seconds_at bytes at * second + fraction_at bytes at * unit_of nanos;
-  bytes = take (captured_at bytes at) (drop (at + record_header_length) bytes);
+abbrev pub frame_at : Format → List ℕ → ℕ → Frame
+frame_at format bytes at = record {
+  time = seconds_at format bytes at * second + fraction_at format bytes at * unit_of format.nanos;
+  bytes = take (captured_at format bytes at) (drop (at + record_header_length) bytes);
 }
 
--- the frames of the records from an offset to the end, which are at most so many
-unfoldable pub frames_from : Bool → ℕ → List ℕ → ℕ → Option (List Frame)
-frames_from nanos zero bytes at = if at == length bytes then Some [] else None
-frames_from nanos (suc room) bytes at =
-    let others = frames_from nanos room bytes (behind bytes at) in
-    if at == length bytes then Some []
-    else (if is_record nanos bytes at then option_map (λ frames. frame_at nanos bytes at ∷ frames) others else None)
+-- a frame before others, if none is faulty
+abbrev pub preceded : Frame → Option PcapFault → Result (List Frame) PcapFault → Result (List Frame) PcapFault
+preceded frame (Some fault) others = Err fault
+preceded frame None (Ok frames) = Ok (frame ∷ frames)
+preceded frame None (Err fault) = Err fault
 
--- what a file of at most so many frames holds
-unfoldable pub capture_of : ℕ → List ℕ → Option Capture
-capture_of room bytes =
-    if is_header bytes
-    then option_map (λ frames. record { nanos = false; frames = frames }) (frames_from false room bytes header_length)
-    else None
+-- the frames of the records from an offset to the end, which are at most so many. The first fault decides.
+unfoldable pub frames_from : Format → ℕ → List ℕ → ℕ → Result (List Frame) PcapFault
+frames_from format zero bytes at = if at == length bytes then Ok [] else Err TooManyFrames
+frames_from format (suc room) bytes at =
+    if at == length bytes then Ok []
+    else preceded (frame_at format bytes at) (record_fault format bytes at) (frames_from format room bytes (behind format bytes at))
 
--- ---- what is written
+-- the frames of a file in this format
+abbrev pub captured : Bool → Result (List Frame) PcapFault → Result Capture PcapFault
+captured nanos (Ok frames) = Ok (record { nanos = nanos; frames = frames })
+captured nanos (Err fault) = Err fault
+
+abbrev pub with_format : ℕ → List ℕ → Result Format PcapFault → Result Capture PcapFault
+with_format room bytes (Ok format) = captured format.nanos (frames_from format room bytes header_length)
+with_format room bytes (Err fault) = Err fault
+
+-- what a file of at most so many frames holds, or what is wrong with it
+unfoldable pub capture_of : ℕ → List ℕ → Result Capture PcapFault
+capture_of room bytes = with_format room bytes (format_of bytes)
+
+-- ---- what is written, in little-endian order
 
 abbrev pub magic : Bool → ℕ
 magic nanos = if nanos then nanos_magic else micros_magic
