@@ -1,4 +1,3 @@
 pub mod Walk
 pub mod Captures
-pub mod Fronts
 pub mod RoundTripLaws

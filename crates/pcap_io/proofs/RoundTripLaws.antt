@@ -1,17 +1,19 @@
 -- Reading a file that was written, record by record.
-use Rattle.std.proofs.Common.{◌≡◌, ℕ, zero, suc, ◌+◌, ◌*◌, ◌/◌, ◌%◌, ◌^◌, ◌<◌, ◌≤◌, Bool, true, false, List, [], ◌∷◌, ◌++◌, length, take, drop, Some, refl, sym, ap, ◌∙◌, append_assoc, arith}
-use Rattle.std.specs.Prelude.{◌==◌, ◌&&◌}
+use Rattle.std.proofs.Common.{◌≡◌, ℕ, zero, suc, ◌+◌, ◌*◌, ◌/◌, ◌%◌, ◌^◌, ◌<◌, ◌≤◌, Bool, true, false, List, [], ◌∷◌, ◌++◌, length, take, drop, refl, sym, ap, ◌∙◌, append_assoc, arith}
+use Rattle.std.specs.Prelude.{◌==◌, nat_le, nat_lt, Ok, None}
 use Rattle.std.specs.List.{flat_map}
 use Rattle.std.proofs.Math.Seq.{drop-append-add, drop-append_seam, take-append_seam}
 use Rattle.std.proofs.lemmas.List.Elements.{recursion_from_All}
 use Rattle.std.proofs.lemmas.List.{get_or-append-add, length-append, append-nil}
 use Rattle.std.specs.List.{AllByRecursion}
-use Rattle.std.proofs.lemmas.Bool.{le-leb, lt-ltb, ne_eqb, eq-eqb}
+use Rattle.std.proofs.lemmas.Bool.{le-ltb, lt-leb, ne_eqb, eq-eqb}
 use Rattle.std.proofs.lemmas.Nat.{from_le_bytes-to_le_bytes_4}
-use Rattle.spec_base.specs.Bytes.{little_endian_at}
-use Rattle.spec_pcap.specs.Pcap.{Frame, second, snap_length, header_length, record_header_length, header, record_header, record_of, file_of, is_header, is_record, frame_at, captured_at, behind, frames_from}
+use Rattle.spec_base.specs.Bytes.{little_endian_at, big_endian_at}
+use Rattle.spec_pcap.specs.declared.format.Format.{Format}
+use Rattle.spec_pcap.specs.declared.format.ByteOrder.TheVariants.{LittleEndian}
+use Rattle.spec_pcap.specs.Pcap.{Frame, preceded, second, snap_length, header_length, record_header_length, unit_of, header, record_header, record_of, file_of, format_of, record_fault, frame_at, captured_at, behind, frames_from}
 use Rattle.pcap_io.specs.RoundTrip.{IsKept, WrittenIsRead}
-use Rattle.pcap_io.proofs.Walk.{preceded, frames_from-end, frames_from-record}
+use Rattle.pcap_io.proofs.Walk.{Walked, frames_from-end, frames_from-record}
 use Rattle.pcap_io.proofs.Captures.{capture_of-frames}
 
 -- a number behind a front is the number in the rest
@@ -23,141 +25,160 @@ little_endian_at-append (suc n) front rest at =
     let next : length front + at + 1 ≡ length front + (at + 1) = omega arith in
     rw (get_or-append-add front rest at 0, next, little_endian_at-append n front rest (at + 1)) refl
 
--- ---- the header of a record, in microseconds
+-- ---- the header of a record
 
-abbrev head_of : ℕ → ℕ → List ℕ
-head_of time len = record_header false time len
+-- the format in which files are written
+abbrev written_format : Bool → Format
+written_format nanos = record { order = LittleEndian; nanos = nanos }
 
-seconds_there : (time len : ℕ) (rest : List ℕ) → time / second < 2 ^ 32 → little_endian_at 4 (head_of time len ++ rest) 0 ≡ time / second
-unfolding little_endian_at record_header
-seconds_there time len rest fits = omega (arith, from_le_bytes-to_le_bytes_4 (time / second) fits)
+fraction-fits : (nanos : Bool) (time : ℕ) → time % second / unit_of nanos < 2 ^ 32
+fraction-fits true time = omega arith
+fraction-fits false time = omega arith
 
-fraction_there : (time len : ℕ) (rest : List ℕ) → little_endian_at 4 (head_of time len ++ rest) 4 ≡ time % second / 1000
-unfolding little_endian_at record_header
-fraction_there time len rest =
-    let fits : time % second / 1000 < 2 ^ 32 = omega arith in
-    omega (arith, from_le_bytes-to_le_bytes_4 (time % second / 1000) fits)
+fraction-below : (nanos : Bool) (time : ℕ) → time % second / unit_of nanos * unit_of nanos < second
+fraction-below true time = omega arith
+fraction-below false time = omega arith
 
-captured_there : (time len : ℕ) (rest : List ℕ) → len < 2 ^ 32 → little_endian_at 4 (head_of time len ++ rest) 8 ≡ len
-unfolding little_endian_at record_header
-captured_there time len rest fits = omega (arith, from_le_bytes-to_le_bytes_4 len fits)
+-- a time in whole units is that of its seconds and fraction
+whole_time : (nanos : Bool) (time : ℕ) → time % unit_of nanos ≡ 0
+    → time / second * second + time % second / unit_of nanos * unit_of nanos ≡ time
+whole_time true time units = omega arith
+whole_time false time units = omega (arith, units)
 
-length-head_of : (time len : ℕ) → length (head_of time len) ≡ record_header_length
-unfolding record_header
-length-head_of time len = refl
+module _ (nanos : Bool) where
+  abbrev format : Format
+  format = written_format nanos
 
--- the tests of a record, all passed
-all_passed : (a b c d : Bool) → a ≡ true → b ≡ true → c ≡ true → d ≡ true → (a && (b && (c && d))) ≡ true
-all_passed a b c d is_a is_b is_c is_d = rw (is_a, is_b, is_c, is_d) refl
+  abbrev head_of : ℕ → ℕ → List ℕ
+  head_of time len = record_header nanos time len
 
--- ---- behind a front stands the record of a frame, and then the rest of a file
+  seconds_there : (time len : ℕ) (rest : List ℕ) → time / second < 2 ^ 32 → little_endian_at 4 (head_of time len ++ rest) 0 ≡ time / second
+  unfolding little_endian_at record_header
+  seconds_there time len rest fits = omega (arith, from_le_bytes-to_le_bytes_4 (time / second) fits)
 
-module _ (front : List ℕ) (frame : Frame) (rest : List ℕ) where
-  abbrev len : ℕ
-  len = length frame.bytes
+  fraction_there : (time len : ℕ) (rest : List ℕ) → little_endian_at 4 (head_of time len ++ rest) 4 ≡ time % second / unit_of nanos
+  unfolding little_endian_at record_header
+  fraction_there time len rest = omega (arith, from_le_bytes-to_le_bytes_4 (time % second / unit_of nanos) (fraction-fits nanos time))
 
-  abbrev head : List ℕ
-  head = head_of frame.time len
+  captured_there : (time len : ℕ) (rest : List ℕ) → len < 2 ^ 32 → little_endian_at 4 (head_of time len ++ rest) 8 ≡ len
+  unfolding little_endian_at record_header
+  captured_there time len rest fits = omega (arith, from_le_bytes-to_le_bytes_4 len fits)
 
-  abbrev file : List ℕ
-  file = front ++ (head ++ (frame.bytes ++ rest))
+  length-head_of : (time len : ℕ) → length (head_of time len) ≡ record_header_length
+  unfolding record_header
+  length-head_of time len = refl
 
-  abbrev place : ℕ
-  place = length front
+  -- ---- behind a front stands the record of a frame, and then the rest of a file
 
-  length-head : length head ≡ record_header_length
-  length-head = length-head_of frame.time len
+  module _ (front : List ℕ) (frame : Frame) (rest : List ℕ) where
+    abbrev len : ℕ
+    len = length frame.bytes
 
-  length-file : length file ≡ place + (record_header_length + (len + length rest))
-  length-file =
-      let in_record = length-append head (frame.bytes ++ rest) in
-      omega (arith, length-append front (head ++ (frame.bytes ++ rest)), in_record, length-append frame.bytes rest, length-head)
+    abbrev head : List ℕ
+    head = head_of frame.time len
 
-  seconds_is : IsKept frame → little_endian_at 4 file place ≡ frame.time / second
-  seconds_is kept =
-      let here : place ≡ place + 0 = omega arith in
-      ap (little_endian_at 4 file) here ∙ little_endian_at-append 4 front (head ++ (frame.bytes ++ rest)) 0
-      ∙ seconds_there frame.time len (frame.bytes ++ rest) kept.seconds
+    abbrev file : List ℕ
+    file = front ++ (head ++ (frame.bytes ++ rest))
 
-  fraction_is : little_endian_at 4 file (place + 4) ≡ frame.time % second / 1000
-  fraction_is =
-      little_endian_at-append 4 front (head ++ (frame.bytes ++ rest)) 4 ∙ fraction_there frame.time len (frame.bytes ++ rest)
+    abbrev place : ℕ
+    place = length front
 
-  captured_is : IsKept frame → captured_at file place ≡ len
-  captured_is kept =
-      little_endian_at-append 4 front (head ++ (frame.bytes ++ rest)) 8
-      ∙ captured_there frame.time len (frame.bytes ++ rest) (omega (arith, kept.len))
+    length-head : length head ≡ record_header_length
+    length-head = length-head_of frame.time len
 
-  bytes_is : take len (drop (place + record_header_length) file) ≡ frame.bytes
-  bytes_is =
-      let behind_head : drop record_header_length (head ++ (frame.bytes ++ rest)) ≡ frame.bytes ++ rest =
-      ap (λ (n : ℕ). drop n (head ++ (frame.bytes ++ rest))) (sym length-head) ∙ drop-append_seam head (frame.bytes ++ rest) in
-      let behind_front = drop-append-add front (head ++ (frame.bytes ++ rest)) record_header_length in
-      ap (take len) (behind_front ∙ behind_head) ∙ take-append_seam frame.bytes rest
+    length-file : length file ≡ place + (record_header_length + (len + length rest))
+    length-file =
+        let in_record = length-append head (frame.bytes ++ rest) in
+        omega (arith, length-append front (head ++ (frame.bytes ++ rest)), in_record, length-append frame.bytes rest, length-head)
 
-  frame_is : IsKept frame → frame_at false file place ≡ frame
-  frame_is kept =
-      let time_is : little_endian_at 4 file place * second + little_endian_at 4 file (place + 4) * 1000 ≡ frame.time =
-      rw (seconds_is kept, fraction_is) (omega (arith, kept.micros)) in
-      let bytes_are : take (captured_at file place) (drop (place + record_header_length) file) ≡ frame.bytes =
-      rw (captured_is kept) bytes_is in
-      λ i. record { time = time_is i; bytes = bytes_are i }
+    seconds_is : IsKept nanos frame → little_endian_at 4 file place ≡ frame.time / second
+    seconds_is kept =
+        let here : place ≡ place + 0 = omega arith in
+        ap (little_endian_at 4 file) here ∙ little_endian_at-append 4 front (head ++ (frame.bytes ++ rest)) 0
+        ∙ seconds_there frame.time len (frame.bytes ++ rest) kept.seconds
 
-  behind_is : IsKept frame → behind file place ≡ place + (record_header_length + len)
-  behind_is kept = omega (arith, captured_is kept)
+    fraction_is : little_endian_at 4 file (place + 4) ≡ frame.time % second / unit_of nanos
+    fraction_is =
+        little_endian_at-append 4 front (head ++ (frame.bytes ++ rest)) 4 ∙ fraction_there frame.time len (frame.bytes ++ rest)
 
-  record_is : IsKept frame → is_record false file place ≡ true
-  record_is kept =
-      let header_in : place + record_header_length ≤ length file = omega (arith, length-file) in
-      let short : captured_at file place ≤ snap_length = omega (arith, captured_is kept, kept.len) in
-      let bytes_in : behind file place ≤ length file = omega (arith, length-file, behind_is kept) in
-      let below : little_endian_at 4 file (place + 4) * 1000 < second = omega (arith, fraction_is) in
-      all_passed _ _ _ _ (le-leb _ _ header_in) (le-leb _ _ short) (le-leb _ _ bytes_in) (lt-ltb _ _ below)
+    captured_is : IsKept nanos frame → captured_at format file place ≡ len
+    captured_is kept =
+        little_endian_at-append 4 front (head ++ (frame.bytes ++ rest)) 8
+        ∙ captured_there frame.time len (frame.bytes ++ rest) (omega (arith, kept.len))
 
-  more_is : (place == length file) ≡ false
-  more_is = ne_eqb place (length file) (λ e. omega (arith, length-file))
+    bytes_is : take len (drop (place + record_header_length) file) ≡ frame.bytes
+    bytes_is =
+        let behind_head : drop record_header_length (head ++ (frame.bytes ++ rest)) ≡ frame.bytes ++ rest =
+        ap (λ (n : ℕ). drop n (head ++ (frame.bytes ++ rest))) (sym length-head) ∙ drop-append_seam head (frame.bytes ++ rest) in
+        let behind_front = drop-append-add front (head ++ (frame.bytes ++ rest)) record_header_length in
+        ap (take len) (behind_front ∙ behind_head) ∙ take-append_seam frame.bytes rest
 
-  -- the file, with the record in front of the rest
-  file_is : front ++ (record_of false frame ++ rest) ≡ file
-  file_is = ap (λ (bytes : List ℕ). front ++ bytes) (append_assoc head frame.bytes rest)
+    frame_is : IsKept nanos frame → frame_at format file place ≡ frame
+    frame_is kept =
+        let time_is : little_endian_at 4 file place * second + little_endian_at 4 file (place + 4) * unit_of nanos ≡ frame.time =
+        rw (seconds_is kept, fraction_is) (whole_time nanos frame.time kept.units) in
+        let bytes_are : take (captured_at format file place) (drop (place + record_header_length) file) ≡ frame.bytes =
+        rw (captured_is kept) bytes_is in
+        λ i. record { time = time_is i; bytes = bytes_are i }
 
-  next_is : IsKept frame → length (front ++ record_of false frame) ≡ behind file place
-  next_is kept =
-      let in_record = length-append head frame.bytes in
-      omega (arith, length-append front (record_of false frame), in_record, length-head, behind_is kept)
+    behind_is : IsKept nanos frame → behind format file place ≡ place + (record_header_length + len)
+    behind_is kept = omega (arith, captured_is kept)
 
--- ---- all the records of a file
+    record_is : IsKept nanos frame → record_fault format file place ≡ None
+    unfolding record_fault
+    record_is kept =
+        let header_in : nat_lt (length file) (place + record_header_length) ≡ false = le-ltb _ _ (omega (arith, length-file)) in
+        let short : nat_lt snap_length (captured_at format file place) ≡ false = le-ltb _ _ (omega (arith, captured_is kept, kept.len)) in
+        let bytes_in : nat_lt (length file) (behind format file place) ≡ false = le-ltb _ _ (omega (arith, length-file, behind_is kept)) in
+        let below : nat_le second (little_endian_at 4 file (place + 4) * unit_of nanos) ≡ false =
+        rw fraction_is (lt-leb _ _ (fraction-below nanos frame.time)) in
+        rw (header_in, short, bytes_in, below) refl
 
-written : (front : List ℕ) (frames : List Frame) (room : ℕ) → AllByRecursion IsKept frames → length frames ≤ room
-    → frames_from false room (front ++ flat_map (record_of false) frames) (length front) ≡ Some frames
-written front [] room kept fits =
-    frames_from-end false (front ++ []) room (length front) (eq-eqb _ _ (ap length (sym (append-nil front))))
-written front (frame ∷ frames) zero kept fits = absurd (omega (arith, fits))
-written front (frame ∷ frames) (suc room) kept fits =
-    let rest = flat_map (record_of false) frames in
-    let all = file front frame rest in
-    let at = length front in
-    let passed : (front ++ record_of false frame) ++ rest ≡ all = append_assoc front (record_of false frame) rest ∙ file_is front frame rest in
-    let others = written (front ++ record_of false frame) frames room kept.1 (omega (arith, fits)) in
-    let others_there : frames_from false room all (behind all at) ≡ Some frames = rw (passed, next_is front frame rest kept.0) at others in
-    ap (λ (bytes : List ℕ). frames_from false (suc room) bytes at) (file_is front frame rest)
-    ∙ frames_from-record false all room at (more_is front frame rest) (record_is front frame rest kept.0)
-    ∙ ap (preceded (frame_at false all at)) others_there
-    ∙ ap (λ (first : Frame). Some (first ∷ frames)) (frame_is front frame rest kept.0)
+    more_is : (place == length file) ≡ false
+    more_is = ne_eqb place (length file) (λ e. omega (arith, length-file))
 
--- ---- the header of a file
+    -- the file, with the record in front of the rest
+    file_is : front ++ (record_of nanos frame ++ rest) ≡ file
+    file_is = ap (λ (bytes : List ℕ). front ++ bytes) (append_assoc head frame.bytes rest)
 
-length-header : length (header false) ≡ header_length
-unfolding header
-length-header = refl
+    next_is : IsKept nanos frame → length (front ++ record_of nanos frame) ≡ behind format file place
+    next_is kept =
+        let in_record = length-append head frame.bytes in
+        omega (arith, length-append front (record_of nanos frame), in_record, length-head, behind_is kept)
 
-header_is : (rest : List ℕ) → is_header (header false ++ rest) ≡ true
-unfolding header little_endian_at
-header_is rest =
-    let long : header_length ≤ length (header false ++ rest) = omega (arith, length-append (header false) rest) in
-    rw (le-leb header_length (length (header false ++ rest)) long) refl
+  -- ---- all the records of a file
+
+  written : (front : List ℕ) (frames : List Frame) (room : ℕ) → AllByRecursion (IsKept nanos) frames → length frames ≤ room
+      → frames_from format room (front ++ flat_map (record_of nanos) frames) (length front) ≡ Ok frames
+  written front [] room kept fits =
+      frames_from-end format (front ++ []) room (length front) (eq-eqb _ _ (ap length (sym (append-nil front))))
+  written front (frame ∷ frames) zero kept fits = absurd (omega (arith, fits))
+  written front (frame ∷ frames) (suc room) kept fits =
+      let rest = flat_map (record_of nanos) frames in
+      let all = file front frame rest in
+      let at = length front in
+      let passed : (front ++ record_of nanos frame) ++ rest ≡ all = append_assoc front (record_of nanos frame) rest ∙ file_is front frame rest in
+      let others = written (front ++ record_of nanos frame) frames room kept.1 (omega (arith, fits)) in
+      let others_there : frames_from format room all (behind format all at) ≡ Ok frames = rw (passed, next_is front frame rest kept.0) at others in
+      ap (λ (bytes : List ℕ). frames_from format (suc room) bytes at) (file_is front frame rest)
+      ∙ frames_from-record format all room at (more_is front frame rest) (record_is front frame rest kept.0)
+      ∙ ap (preceded (frame_at format all at) None) others_there
+      ∙ ap (λ (first : Frame). let is : Walked = Ok (first ∷ frames) in is) (frame_is front frame rest kept.0)
+
+  -- ---- the header of a file
+
+  length-header : length (header nanos) ≡ header_length
+  unfolding header
+  length-header = refl
+
+-- the header is that of the format
+header_is : (nanos : Bool) (rest : List ℕ) → format_of (header nanos ++ rest) ≡ Ok (written_format nanos)
+unfolding header format_of little_endian_at big_endian_at
+header_is true rest = rw (le-ltb (length (header true ++ rest)) header_length (omega (arith, length-append (header true) rest))) refl
+header_is false rest = rw (le-ltb (length (header false ++ rest)) header_length (omega (arith, length-append (header false) rest))) refl
 
 pub written_is_read : WrittenIsRead
-written_is_read frames room kept fits =
-    let records = written (header false) frames room (recursion_from_All IsKept frames kept) fits in
-    capture_of-frames room (file_of false frames) (Some frames) (header_is (flat_map (record_of false) frames)) (rw (← length-header) records)
+written_is_read nanos frames room kept fits =
+    let records = written nanos (header nanos) frames room (recursion_from_All (IsKept nanos) frames kept) fits in
+    capture_of-frames room (file_of nanos frames) (written_format nanos) (Ok frames) (header_is nanos (flat_map (record_of nanos) frames))
+    (rw (← length-header nanos) records)

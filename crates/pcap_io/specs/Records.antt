@@ -1,15 +1,22 @@
--- A trace as its file's bytes and the offsets of the records in them.
-use Rattle.std.specs.Prelude.{ℕ, Bool, List, map, All, IsTrue}
-use Rattle.spec_pcap.specs.Pcap.{Frame, Capture, frame_at, is_record}
+-- A trace as its file's bytes, their format, and the offsets of the records in them.
+use Rattle.std.specs.Prelude.{◌≡◌, ℕ, List, length, map, All, None, Result, Ok, Err}
+use Rattle.spec_pcap.specs.declared.fault.PcapFault.{PcapFault}
+use Rattle.spec_pcap.specs.declared.format.Format.{Format}
+use Rattle.spec_pcap.specs.Pcap.{Frame, Capture, frame_at, record_fault}
 
 -- the frames of the records at these offsets
-abbrev pub frames_at : Bool → List ℕ → List ℕ → List Frame
-frames_at nanos bytes starts = map (frame_at nanos bytes) starts
+abbrev pub frames_at : Format → List ℕ → List ℕ → List Frame
+frames_at format bytes starts = map (frame_at format bytes) starts
+
+-- how many frames there are, if none is faulty
+abbrev pub count_of : Result (List Frame) PcapFault → Result ℕ PcapFault
+count_of (Ok frames) = Ok (length frames)
+count_of (Err fault) = Err fault
 
 -- Whole records stand at these offsets.
-abbrev pub AreRecords : Bool → List ℕ → List ℕ → Type 0
-AreRecords nanos bytes starts = All (λ at. IsTrue (is_record nanos bytes at)) starts
+abbrev pub AreRecords : Format → List ℕ → List ℕ → Type 0
+AreRecords format bytes starts = All (λ at. record_fault format bytes at ≡ None) starts
 
 -- what is seen of such a trace
-abbrev pub capture_at : Bool → List ℕ → List ℕ → Capture
-capture_at nanos bytes starts = record { nanos = nanos; frames = frames_at nanos bytes starts }
+abbrev pub capture_at : Format → List ℕ → List ℕ → Capture
+capture_at format bytes starts = record { nanos = format.nanos; frames = frames_at format bytes starts }

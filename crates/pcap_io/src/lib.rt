@@ -9,8 +9,8 @@
 //!
 //! `spec_pcap` says which bytes are a capture file and what it holds, and which bytes the file of given frames has.
 //!
-//! - A file is read exactly where it is one of the form that is read and has no more frames than there is room for,
-//!   and then the trace is what it holds. Every other file is refused, with memory or without.
+//! - A file is read exactly where `spec_pcap` finds no fault in it, and then the trace is what it holds. A file with a
+//!   fault, one of more frames than there is room for among them, is refused by the first one, with memory or without.
 //! - After each call of a writer that is `Ok`, the file has exactly the header and the records so far, and no bytes
 //!   wait in a buffer. After a refusal a front of the header or of the record was written, and nothing else.
 //! - What was written is read back (`written_is_read`).
@@ -28,7 +28,7 @@
 //! # What is left to others
 //!
 //! Opening and reading the file (`edge_io::read_all`), the order of the frames that are written, and which file of a
-//! shelf is in use: a writer writes to the one that is. Files in nanoseconds or in big-endian order aren't read yet.
+//! shelf is in use: a writer writes to the one that is. Files of pcapng and of other link types are refused.
 #![tactic(auto)]
 
 mod format;
@@ -39,7 +39,8 @@ mod trace;
 mod writer;
 
 pub use round_trip::written_is_read;
-pub use trace::{PcapFault, Trace, read_trace};
+pub use spec_pcap::PcapFault;
+pub use trace::{Trace, read_trace};
 pub use writer::PcapWriter;
 
 #[cfg(test)]

@@ -1,20 +1,27 @@
 ghost use Rattle.std.specs.Prelude.{◌≡◌, ◌+◌, ◌≤◌, length};
-ghost use Rattle.spec_base.specs.Bytes.{little_endian_at};
+ghost use Rattle.spec_pcap.specs.Pcap.{number_at};
 
-/// The number of the two bytes at an offset, the least significant byte first.
-#[tactic(auto, unfolding(spec_base::specs::Bytes::little_endian_at))]
-pub fn le16(bytes: &[u8], at: usize) -> u16
+use net_bytes::{be16, be32, le16, le32};
+use spec_pcap::ByteOrder;
+
+/// The number of the two bytes at an offset.
+pub fn number16(order: ByteOrder, bytes: &[u8], at: usize) -> u16
     requires { at + 2 ≤ length bytes.now }
-    ensures { result ≡ little_endian_at 2 bytes.now at }
+    ensures { result ≡ number_at order 2 bytes.now at }
 {
-    u16::from_le_bytes([bytes[at], bytes[at + 1]])
+    match order {
+        ByteOrder::LittleEndian => le16(bytes, at),
+        ByteOrder::BigEndian => be16(bytes, at),
+    }
 }
 
-/// The number of the four bytes at an offset, the least significant byte first.
-#[tactic(auto, unfolding(spec_base::specs::Bytes::little_endian_at))]
-pub fn le32(bytes: &[u8], at: usize) -> u32
+/// The number of the four bytes at an offset.
+pub fn number32(order: ByteOrder, bytes: &[u8], at: usize) -> u32
     requires { at + 4 ≤ length bytes.now }
-    ensures { result ≡ little_endian_at 4 bytes.now at }
+    ensures { result ≡ number_at order 4 bytes.now at }
 {
-    u32::from_le_bytes([bytes[at], bytes[at + 1], bytes[at + 2], bytes[at + 3]])
+    match order {
+        ByteOrder::LittleEndian => le32(bytes, at),
+        ByteOrder::BigEndian => be32(bytes, at),
+    }
 }

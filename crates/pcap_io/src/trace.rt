@@ -1,30 +1,13 @@
-ghost use Rattle.std.specs.Prelude.{◌≡◌, ◌+◌, ◌-◌, ◌/◌, ◌^◌, ◌<◌, ◌≤◌, ◌↔◌, ◌==◌, false, [], Some, None, Err, length, IfOk, IsErrOf};
+ghost use Rattle.std.specs.Prelude.{◌≡◌, ◌+◌, ◌-◌, ◌/◌, ◌^◌, ◌<◌, ◌≤◌, ◌⊎◌, ◌==◌, false, [], Ok, Err, length, IfOk, IfErr};
 ghost use Rattle.spec_pcap.specs.Pcap.{Capture, frame_number, second, snap_length, capture_of};
-ghost use Rattle.pcap_io.specs.declared.trace.PcapFault.TheVariants.{OutOfMemory};
 
 use crate::format::{
-    RECORD_HEADER_LENGTH, SECOND, captured_at, fraction_at, has_header, seconds_at, unit_of,
+    RECORD_HEADER_LENGTH, SECOND, captured_at, format_of, fraction_at, seconds_at, unit_of,
 };
 use crate::records::{count_records, starts_of};
-use std::alloc::{AllocError, Global};
+use spec_pcap::{ByteOrder, Format, PcapFault};
+use std::alloc::Global;
 use std::marker::Model;
-
-/// Why bytes were not read as a trace.
-#[derive(Clone, Copy, Debug, PartialEq, Eq)]
-pub enum PcapFault {
-    /// They are no capture file of the form that is read, or one of too many frames.
-    NotBuilt,
-    /// There was no memory for where the records begin.
-    OutOfMemory,
-}
-
-impl From<AllocError> for PcapFault {
-    ghost from_gives = { λ _ e. e ≡ OutOfMemory };
-
-    fn from(_: AllocError) -> PcapFault {
-        PcapFault::OutOfMemory
-    }
-}
 
 /// The frames of a capture file, at places counted from 1.
 ///
@@ -33,7 +16,7 @@ impl From<AllocError> for PcapFault {
 pub struct Trace {
     bytes: Vec<u8>,
     starts: Vec<usize>,
-    nanos: bool,
+    format: Format,
 }
 
 impl Model for Trace {
@@ -42,9 +25,9 @@ impl Model for Trace {
 
     ghost Value = { Capture };
 
-    ghost view = { λ t. capture_at t.nanos t.bytes.items t.starts.items };
+    ghost view = { λ t. capture_at t.format t.bytes.items t.starts.items };
 
-    ghost invariant = { λ t. AreRecords t.nanos t.bytes.items t.starts.items };
+    ghost invariant = { λ t. AreRecords t.format t.bytes.items t.starts.items };
 }
 
 impl Trace {
@@ -55,7 +38,10 @@ impl Trace {
         Trace {
             bytes: Vec::new(alloc),
             starts: Vec::new(alloc),
-            nanos: false,
+            format: Format {
+                order: ByteOrder::LittleEndian,
+                nanos: false,
+            },
         }
     }
 
@@ -63,7 +49,7 @@ impl Trace {
     pub fn nanos(&self) -> bool
         ensures { result ≡ self.now.nanos }
     {
-        self.nanos
+        self.format.nanos
     }
 
     /// How many frames there are.
@@ -82,6 +68,7 @@ impl Trace {
     /// When the frame at a place was captured, in nanoseconds since the beginning of 1970 (UTC).
     ///
     /// It is below 2^63, and its seconds fit in 32 bits, as `PcapWriter::frame` needs them.
+    #[tactic(auto, unfolding(spec_pcap::specs::Pcap::record_fault))]
     pub fn time(&self, place: u32) -> u64
         requires first { 1 ≤ place }
         requires last { place ≤ length self.now.frames }
@@ -90,11 +77,12 @@ impl Trace {
         ensures bound { result < 2 ^ 63 }
     {
         let at = self.starts[place as usize - 1];
-        u64::from(seconds_at(&self.bytes, at)) * SECOND
-            + u64::from(fraction_at(&self.bytes, at)) * unit_of(self.nanos)
+        u64::from(seconds_at(&self.bytes, self.format, at)) * SECOND
+            + u64::from(fraction_at(&self.bytes, self.format, at)) * unit_of(self.format.nanos)
     }
 
     /// The captured bytes of the frame at a place, at most 262,144.
+    #[tactic(auto, unfolding(spec_pcap::specs::Pcap::record_fault))]
     pub fn frame(&self, place: u32) -> &[u8]
         requires first { 1 ≤ place }
         requires last { place ≤ length self.now.frames }
@@ -103,31 +91,32 @@ impl Trace {
     {
         let at = self.starts[place as usize - 1];
         let begin = at + RECORD_HEADER_LENGTH;
-        &self.bytes[begin..begin + captured_at(&self.bytes, at) as usize]
+        &self.bytes[begin..begin + captured_at(&self.bytes, self.format, at) as usize]
     }
 }
 
-/// Reads the bytes of a capture file of at most `room` frames.
+/// Reads the bytes of a capture file of at most `room` frames: version 2.4 and link type Ethernet, in either byte order
+/// and either unit.
 ///
-/// The form that is read: little-endian microseconds, version 2.4, link type Ethernet, at most 262,144 captured
-/// bytes a frame, and fractions below a second. Every other input is `NotBuilt`.
+/// # Errors
+///
+/// The first fault from the front of the file, as `capture_of` has it: of the header `ShortHeader`, `Magic`, `Version`,
+/// then `LinkType`; and of each record `TooManyFrames`, `ShortRecord` for its header, `TooLong`, `ShortRecord` for its
+/// bytes, then `Fraction`. It takes no memory to find one. `OutOfMemory` comes only of a file that has no fault.
 pub fn read_trace(alloc: Global, bytes: Vec<u8>, room: usize) -> Result<Trace, PcapFault>
-    ensures ok { IfOk result (λ trace. capture_of room bytes.items ≡ Some trace) }
+    ensures ok { IfOk result (λ trace. capture_of room bytes.items ≡ Ok trace) }
     ensures count { IfOk result (λ trace. length trace.frames ≤ room) }
-    ensures not_built { (result ≡ Err PcapFault.NotBuilt) ↔ (capture_of room bytes.items ≡ None) }
+    ensures fault { (fault : PcapFault) → capture_of room bytes.items ≡ Err fault → result ≡ Err fault }
+    ensures cause { IfErr result (λ fault. (fault ≡ PcapFault.OutOfMemory) ⊎ (capture_of room bytes.items ≡ Err fault)) }
 {
-    if !has_header(&bytes) {
-        return Err(PcapFault::NotBuilt);
-    }
-    // The one unit that is read.
-    let nanos = false;
-    let Some(count) = count_records(&bytes, nanos, room) else {
-        return Err(PcapFault::NotBuilt);
+    let format = format_of(&bytes)?;
+    let count = count_records(&bytes, format, room)?;
+    let Ok(starts) = starts_of(alloc, &bytes, format, count) else {
+        return Err(PcapFault::OutOfMemory);
     };
-    let starts = starts_of(alloc, &bytes, nanos, count)?;
     Ok(Trace {
         bytes,
         starts,
-        nanos,
+        format,
     })
 }

@@ -5,8 +5,8 @@ ghost use Rattle.edge_io.specs.declared.outside.InUse.TheVariants.{Nothing, Crea
 ghost use Rattle.edge_io.specs.Shelf.{HasCause, wrote, closed};
 
 use crate::format::{
-    ETHERNET, HEADER_LENGTH, MAJOR_VERSION, MICROS_MAGIC, MINOR_VERSION, NANOS_MAGIC,
-    RECORD_HEADER_LENGTH, SECOND, SNAP_LENGTH, unit_of,
+    ETHERNET, HEADER_LENGTH, MAJOR_VERSION, MINOR_VERSION, RECORD_HEADER_LENGTH, SECOND,
+    SNAP_LENGTH, magic, unit_of,
 };
 use edge_io::{Failed, Shelf, write_all};
 use std::marker::Model;
@@ -16,13 +16,12 @@ use std::marker::Model;
 fn header(nanos: bool) -> [u8; HEADER_LENGTH]
     ensures { result ≡ header nanos }
 {
-    let magic = if nanos { NANOS_MAGIC } else { MICROS_MAGIC };
     let mut bytes = [0; HEADER_LENGTH];
-    bytes[..4].copy_from_slice(&magic.to_le_bytes());
+    bytes[..4].copy_from_slice(&magic(nanos).to_le_bytes());
     bytes[4..6].copy_from_slice(&MAJOR_VERSION.to_le_bytes());
     bytes[6..8].copy_from_slice(&MINOR_VERSION.to_le_bytes());
     bytes[16..20].copy_from_slice(&SNAP_LENGTH.to_le_bytes());
-    bytes[20..].copy_from_slice(&ETHERNET.to_le_bytes());
+    bytes[20..].copy_from_slice(&u32::from(ETHERNET).to_le_bytes());
     bytes
 }
 

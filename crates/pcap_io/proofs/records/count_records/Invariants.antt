@@ -1,16 +1,16 @@
 use Rattle.std.proofs.Common.{◌≡◌, ◌-◌, ◌≤◌, length}
-use Rattle.std.specs.Option.{option_map}
 use Rattle.spec_pcap.specs.Pcap.{header_length, frames_from}
+use Rattle.pcap_io.specs.Records.{count_of}
 use Rattle.pcap_io.proofs.Walk.{counted}
 use Rattle.pcap_io.proofs.records.count_records.Given as goal
 
 abbrev pub invariant-records : goal.invariant-records
 invariant-records l =
-    let left = frames_from l.nanos (l.room - l.count) l.bytes l.at in
+    let left = frames_from l.format (l.room - l.count) l.bytes l.at in
     record {
       within : l.at ≤ length l.bytes;
       room : l.count ≤ l.room;
-      so_far : counted l.count left ≡ option_map length (frames_from l.nanos l.room l.bytes header_length);
+      so_far : counted l.count left ≡ count_of (frames_from l.format l.room l.bytes header_length);
     }
 
 abbrev pub decreases-records : goal.decreases-records

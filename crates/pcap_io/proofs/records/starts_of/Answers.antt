@@ -1,7 +1,7 @@
-use Rattle.std.proofs.Common.{◌≡◌, ◌+◌, ◌<◌, true, vec_len, sym, ◌∙◌, arith}
-use Rattle.std.specs.Prelude.{IsTrue}
+use Rattle.std.proofs.Common.{◌≡◌, ◌+◌, ◌<◌, vec_len, sym, ◌∙◌, arith}
+use Rattle.std.specs.Prelude.{None}
 use Rattle.std.proofs.lemmas.List.Elements.{All-push}
-use Rattle.spec_pcap.specs.Pcap.{is_record, behind}
+use Rattle.spec_pcap.specs.Pcap.{record_fault, behind}
 use Rattle.pcap_io.proofs.Walk.{has_room, has_record, rest_is_whole, behind_front-record, behind_front-end, header-within, behind-within}
 use Rattle.pcap_io.proofs.records.starts_of.Goals as goal
 
@@ -9,7 +9,7 @@ pub push_reserved-requires : goal.push_reserved-requires
 push_reserved-requires c =
     let k = vec_len c.records.starts in
     let whole = c.records.invariant.whole in
-    let free : k < c.args.count = has_room c.args.nanos c.args.bytes.now c.args.count k c.records.at c.records-test.true whole in
+    let free : k < c.args.count = has_room c.args.format c.args.bytes.now c.args.count k c.records.at c.records-test.true whole in
     omega arith
 
 pub captured_at-requires : goal.captured_at-requires
@@ -17,11 +17,11 @@ captured_at-requires c =
     let bytes = c.args.bytes.now in
     let k = vec_len c.records.starts in
     let whole = c.records.invariant.whole in
-    header-within c.args.nanos bytes c.records.at (has_record c.args.nanos bytes c.args.count k c.records.at c.records-test.true whole)
+    header-within c.args.format bytes c.records.at (has_record c.args.format bytes c.args.count k c.records.at c.records-test.true whole)
 
 pub records-preserved : goal.records-preserved
 records-preserved c =
-    let nanos = c.args.nanos in
+    let format = c.args.format in
     let bytes = c.args.bytes.now in
     let count = c.args.count in
     let starts = c.records.starts.items in
@@ -29,18 +29,18 @@ records-preserved c =
     let at = c.records.at in
     let was = c.records.invariant in
     let more = c.records-test.true in
-    let there : is_record nanos bytes at ≡ true = has_record nanos bytes count k at more was.whole in
-    let next : at + (16 + c.captured_at.result) ≡ behind bytes at = omega (arith, c.captured_at.ensures) in
+    let there : record_fault format bytes at ≡ None = has_record format bytes count k at more was.whole in
+    let next : at + (16 + c.captured_at.result) ≡ behind format bytes at = omega (arith, c.captured_at.ensures) in
     let items = c.push_reserved.ensures.items in
     let len = c.push_reserved.ensures.len in
     record {
-      within = rw next (behind-within nanos bytes at there);
+      within = rw next (behind-within format bytes at there);
       room = omega arith;
-      records = rw items (All-push (λ at. IsTrue (is_record nanos bytes at)) starts at was.records there);
-      whole = rw (len, next) (rest_is_whole nanos bytes count k at more was.whole);
-      so_far = rw (items, len, next) (sym (behind_front-record nanos bytes starts count k at more was.whole) ∙ was.so_far);
+      records = rw items (All-push (λ at. record_fault format bytes at ≡ None) starts at was.records there);
+      whole = rw (len, next) (rest_is_whole format bytes count k at more was.whole);
+      so_far = rw (items, len, next) (sym (behind_front-record format bytes starts count k at more was.whole) ∙ was.so_far);
     }
 
 pub returns-clause-frames : goal.returns-clause-frames
 returns-clause-frames c =
-    sym c.records.invariant.so_far ∙ behind_front-end c.args.nanos c.args.bytes.now _ _ c.records.at (omega arith)
+    sym c.records.invariant.so_far ∙ behind_front-end c.args.format c.args.bytes.now _ _ c.records.at (omega arith)

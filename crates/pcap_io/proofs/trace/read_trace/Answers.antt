@@ -1,51 +1,71 @@
-use Rattle.std.proofs.Common.{◌≡◌, ℕ, false, List, Some, refl, sym, ◌∙◌, length}
-use Rattle.std.specs.Option.{option_map}
+use Rattle.std.proofs.Common.{◌≡◌, ℕ, List, refl, sym, ◌∙◌, inl, inr}
+use Rattle.std.specs.Prelude.{Ok, Err}
 use Rattle.std.proofs.lemmas.Bool.{false≢true}
 use Rattle.std.proofs.lemmas.Result.{err_from_is_err_and}
-use Rattle.spec_pcap.specs.Pcap.{header_length, frames_from}
-use Rattle.pcap_io.proofs.Captures.{Found, frames_from-found, capture_of-no_header, capture_of-no_records, capture_of-frames, capture_of-found, capture_of-fits}
+use Rattle.spec_pcap.specs.declared.format.Format.{Format}
+use Rattle.spec_pcap.specs.declared.fault.PcapFault.{PcapFault}
+use Rattle.spec_pcap.specs.Pcap.{header_length, format_of, frames_from, captured, capture_of}
+use Rattle.pcap_io.specs.Records.{count_of}
+use Rattle.pcap_io.proofs.Captures.{Found, frames_from-found, frames_fit, capture_of-no_format, capture_of-no_count, capture_of-counted, capture_of-frames}
 use Rattle.pcap_io.proofs.trace.read_trace.Goals as goal
 
 -- what the walk counted stands in the file's bytes
-found : (bytes walked : List ℕ) (room count : ℕ) → walked ≡ bytes
-    → Some count ≡ option_map length (frames_from false room walked header_length) → Found false bytes room header_length count
-found bytes walked room count is counted = frames_from-found false bytes room header_length count (rw is at counted)
+found : (format : Format) (bytes walked : List ℕ) (room count : ℕ) → walked ≡ bytes
+    → Ok count ≡ count_of (frames_from format room walked header_length) → Found format bytes room header_length count
+found format bytes walked room count is counted = frames_from-found format bytes room header_length count (rw is at counted)
 
-pub returns-then-not-has_header-clause-not_built : goal.returns-then-not-has_header-clause-not_built
-returns-then-not-has_header-clause-not_built c =
-    let no_header = rw (c.has_header.ensures, c.deref.ensures.value) at c.if-not-has_header.true in
-    let none = capture_of-no_header c.args.room c.args.bytes.items no_header in
-    (λ _. none, λ _. refl)
+pub returns-in_err-format-clause-fault : goal.returns-in_err-format-clause-fault
+returns-in_err-format-clause-fault c =
+    let p = err_from_is_err_and c.from_residual.result c.from_residual.ensures.1 in
+    let refused = capture_of-no_format c.args.room c.args.bytes.items c.in_err-format.field-0.0 (sym (rw c.deref.ensures.value at c.in_err-format.ensures.format)) in
+    λ fault is. cc (p.1, p.2, is, refused)
 
-pub returns-in_default-clause-not_built : goal.returns-in_default-clause-not_built
-returns-in_default-clause-not_built c =
-    let header = rw (c.has_header.ensures, c.deref.ensures.value) at c.if-not-has_header.false in
-    let no_records = rw c.deref-2.ensures.value at c.in_default.ensures in
-    let none = capture_of-no_records c.args.room c.args.bytes.items header no_records in
-    (λ _. none, λ _. refl)
+pub returns-in_err-format-clause-cause : goal.returns-in_err-format-clause-cause
+returns-in_err-format-clause-cause c =
+    let p = err_from_is_err_and c.from_residual.result c.from_residual.ensures.1 in
+    let refused = capture_of-no_format c.args.room c.args.bytes.items c.in_err-format.field-0.0 (sym (rw c.deref.ensures.value at c.in_err-format.ensures.format)) in
+    rw (p.1, p.2) (inr refused)
+
+pub returns-in_err-count-clause-fault : goal.returns-in_err-count-clause-fault
+returns-in_err-count-clause-fault c =
+    let p = err_from_is_err_and c.from_residual-in_err-count.result c.from_residual-in_err-count.ensures.1 in
+    let there = sym (rw c.deref.ensures.value at c.in_ok-format.ensures.format) in
+    let none = rw c.deref-2.ensures.value at c.in_err-count.ensures in
+    let refused = capture_of-no_count c.args.room c.args.bytes.items c.in_ok-format.format c.in_err-count.field-0.0 there none in
+    λ fault is. cc (p.1, p.2, is, refused)
+
+pub returns-in_err-count-clause-cause : goal.returns-in_err-count-clause-cause
+returns-in_err-count-clause-cause c =
+    let p = err_from_is_err_and c.from_residual-in_err-count.result c.from_residual-in_err-count.ensures.1 in
+    let there = sym (rw c.deref.ensures.value at c.in_ok-format.ensures.format) in
+    let none = rw c.deref-2.ensures.value at c.in_err-count.ensures in
+    let refused = capture_of-no_count c.args.room c.args.bytes.items c.in_ok-format.format c.in_err-count.field-0.0 there none in
+    rw (p.1, p.2) (inr refused)
 
 pub starts_of-requires-clause-whole : goal.starts_of-requires-clause-whole
 starts_of-requires-clause-whole c =
-    let records = found c.args.bytes.items _ c.args.room c.in-Some.count c.deref-2.ensures.value c.in-Some.ensures in
+    let records = found c.in_ok-format.format c.args.bytes.items _ c.args.room c.in_ok-count.count c.deref-2.ensures.value c.in_ok-count.ensures in
     rw c.deref-3.ensures.value records.some
 
-pub returns-in_err-starts-clause-not_built : goal.returns-in_err-starts-clause-not_built
-returns-in_err-starts-clause-not_built c =
-    let p = err_from_is_err_and c.from_residual.result c.from_residual.ensures.1 in
-    let header = rw (c.has_header.ensures, c.deref.ensures.value) at c.if-not-has_header.false in
-    let records = found c.args.bytes.items _ c.args.room c.in-Some.count c.deref-2.ensures.value c.in-Some.ensures in
-    let some = capture_of-found c.args.room c.args.bytes.items c.in-Some.count header records in
-    (λ e. absurd (cc (p.1, p.2)), λ none. absurd (false≢true (rw none at some)))
+pub returns-in_default-clause-fault : goal.returns-in_default-clause-fault
+returns-in_default-clause-fault c =
+    let there = sym (rw c.deref.ensures.value at c.in_ok-format.ensures.format) in
+    let counted = rw c.deref-2.ensures.value at c.in_ok-count.ensures in
+    let whole = capture_of-counted c.args.room c.args.bytes.items c.in_ok-format.format c.in_ok-count.count there counted in
+    λ fault is. absurd (false≢true (rw is at whole))
 
 pub returns-clause-ok : goal.returns-clause-ok
 returns-clause-ok c =
-    let header = rw (c.has_header.ensures, c.deref.ensures.value) at c.if-not-has_header.false in
-    let records = found c.args.bytes.items _ c.args.room c.in-Some.count c.deref-2.ensures.value c.in-Some.ensures in
-    let frames = rw c.deref-3.ensures.value at c.in_ok-starts.ensures.frames in
-    capture_of-frames c.args.room c.args.bytes.items _ header (sym records.same ∙ frames)
+    let there = sym (rw c.deref.ensures.value at c.in_ok-format.ensures.format) in
+    let records = found c.in_ok-format.format c.args.bytes.items _ c.args.room c.in_ok-count.count c.deref-2.ensures.value c.in_ok-count.ensures in
+    let frames = rw c.deref-3.ensures.value at c.in-Ok.ensures.frames in
+    capture_of-frames c.args.room c.args.bytes.items c.in_ok-format.format _ there (sym records.same ∙ frames)
 
 pub returns-clause-count : goal.returns-clause-count
-returns-clause-count c = capture_of-fits c.args.room c.args.bytes.items _ (returns-clause-ok c)
+returns-clause-count c =
+    let records = found c.in_ok-format.format c.args.bytes.items _ c.args.room c.in_ok-count.count c.deref-2.ensures.value c.in_ok-count.ensures in
+    let frames = rw c.deref-3.ensures.value at c.in-Ok.ensures.frames in
+    frames_fit c.args.room c.args.bytes.items c.in_ok-format.format _ (sym records.same ∙ frames)
 
-pub returns-clause-not_built : goal.returns-clause-not_built
-returns-clause-not_built c = (λ e. absurd (cc), λ none. absurd (cc (none, returns-clause-ok c)))
+pub returns-clause-fault : goal.returns-clause-fault
+returns-clause-fault c = λ fault is. absurd (cc (is, returns-clause-ok c))

@@ -1,5 +1,5 @@
 use Rattle.std.proofs.lemmas.Result.{err_from_is_err_and, on_err_weaker}
-use Rattle.pcap_io.proofs.Fronts.{front_of_first, front_of_second}
+use Rattle.edge_io.proofs.Pieces.{front_of_first, front_of_second}
 use Rattle.pcap_io.proofs.writer.PcapWriter.frame.Goals as goal
 
 pub returns-in_err-write_all-clause-err : goal.returns-in_err-write_all-clause-err
