@@ -4,13 +4,16 @@ use Rattle.std.specs.Cmp.Lexicographic.{pointwise}
 use Rattle.std.specs.Fmt.{digits}
 use Rattle.spec_base.specs.Bytes.{big_endian_at, little_endian_at}
 use Rattle.spec_keys.specs.Keys.{none, masked, same, joined, only_at}
-use Rattle.spec_pcap.specs.Pcap.{Frame, capture_of, frames_from, header, record_header, file_of}
+use Rattle.spec_pcap.specs.declared.fault.PcapFault.TheVariants.{ShortHeader, Magic, Version, LinkType, ShortRecord, TooLong, Fraction, TooManyFrames}
+use Rattle.spec_pcap.specs.Pcap.{Frame, format_of, record_fault, capture_of, frames_from, header, record_header, file_of}
 use Rattle.spec_tables.specs.Rules.{winner}
 use Rattle.spec_tables.specs.Edits.{version}
 use Rattle.spec_text.specs.Numbers.{digits_upto, decimal_upto, number_upto, octet, octet_before_colon, mac}
 use Rattle.spec_text.specs.Words.{port_number, port_word, new_port, port_words, command_of}
 use Rattle.spec_text.specs.Script.{flow_port, with_priority, with_in_port, with_dl_dst, with_item, output_of, outputs_of, actions_of, flow_of, edit_of, with_line, with_lines, script_of, with_edit, with_sync, sync_time, time_of, seconds_with_fraction, seconds_of, fraction_of}
-use Rattle.spec_frames.specs.Key.{key_of}
+use Rattle.spec_frames.specs.Ethernet.{is_tagged, tci_of, carried, carried_by}
+use Rattle.spec_frames.specs.Network.{network_at}
+use Rattle.spec_frames.specs.Key.{with_network, key_of}
 use Rattle.spec_case.specs.Run.{frames_in}
 use Rattle.spec_case.specs.Arrivals.{arrivals_at, arrivals_in, put_in_order, in_order}
 use Rattle.spec_xlate.specs.Commit.{commit, commit_fields, commit_field}
@@ -21,9 +24,10 @@ use Rattle.spec_case.specs.Blocks.{ends_behind}
 use Rattle.spec_board.specs.Decisions.{decisions_from}
 use Rattle.spec_board.specs.Schedules.{Board, scheduled, finish, finish_board, least_block, with_given_steps}
 use Rattle.spec_board.specs.Texts.{Journal}
-use Rattle.spec_run.specs.Verdict.{Files, Refusal, NotBuilt, Missing, Accepted, command_in, script_in, file_in, traces_behind, verdict, traces_opened, files_opened}
+use Rattle.spec_run.specs.declared.quantity.Quantity.TheVariants.{TraceBytes, Frames}
+use Rattle.spec_run.specs.Verdict.{Files, Refusal, NotBuilt, Missing, Trace, Limit, TraceFile, Accepted, command_in, script_in, file_in, traces_behind, verdict, traces_opened, files_opened}
 use Rattle.spec_run.specs.Outputs.{File, files_of}
-use Rattle.spec_run.specs.Statuses.{read_fault_text}
+use Rattle.spec_run.specs.Statuses.{read_fault_text, trace_text, limit_text, text_of}
 
 abbrev words : List (List ℕ)
 words = codes "e" ∷ codes "o" ∷ codes "1=a" ∷ codes "2=" ∷ []
@@ -44,7 +48,7 @@ journal b = record { port = b.port; steps = b.steps }
 
 -- what becomes of a run with such files
 unfoldable outcome : List (List ℕ) → Option (List ℕ) → Option (List ℕ) → Result (List File) Refusal
-unfolding command_in script_in file_in traces_behind verdict capture_of frames_from little_endian_at digits_upto decimal_upto number_upto octet octet_before_colon mac port_number port_word new_port port_words command_of flow_port with_priority with_in_port with_dl_dst with_item output_of outputs_of actions_of flow_of edit_of with_line with_lines script_of with_edit with_sync sync_time time_of seconds_with_fraction seconds_of fraction_of files_of version winner none masked same joined big_endian_at key_of frames_in arrivals_at arrivals_in put_in_order in_order sent pipe last_state look run act output committed emit emit_all commit commit_fields commit_field commit_tags outer_tags header record_header only_at digits finish finish_board least_block with_given_steps decisions_from ends_behind
+unfolding command_in script_in file_in traces_behind verdict capture_of format_of record_fault frames_from little_endian_at digits_upto decimal_upto number_upto octet octet_before_colon mac port_number port_word new_port port_words command_of flow_port with_priority with_in_port with_dl_dst with_item output_of outputs_of actions_of flow_of edit_of with_line with_lines script_of with_edit with_sync sync_time time_of seconds_with_fraction seconds_of fraction_of files_of version winner none masked same joined big_endian_at key_of is_tagged tci_of carried carried_by network_at with_network frames_in arrivals_at arrivals_in put_in_order in_order sent pipe last_state look run act output committed emit emit_all commit commit_fields commit_field commit_tags outer_tags header record_header only_at digits finish finish_board least_block with_given_steps decisions_from ends_behind
 outcome words e a = files_in (verdict words (files e a))
   where
     files_in : Result Accepted Refusal → Result (List File) Refusal
@@ -118,14 +122,26 @@ unfolding outcome
 the_edits_come_before_the_traces = (refl, refl)
 
 a_trace_that_is_missing_or_cut_is_refused :
-    (outcome words (Some []) None ≡ Err (Missing (codes "a"))) × (outcome words (Some []) (Some (take 99 trace)) ≡ Err (NotBuilt (codes "a")))
+    (outcome words (Some []) None ≡ Err (Missing (codes "a"))) × (outcome words (Some []) (Some (take 99 trace)) ≡ Err (Trace (codes "a") (ShortRecord 24)))
 unfolding outcome
 a_trace_that_is_missing_or_cut_is_refused = (refl, refl)
+
+-- a trace for which there is room for so many bytes and frames
+abbrev within : ℕ → ℕ → Result TraceFile Refusal
+within bytes_left frames_left = file_in (files None (Some trace)) bytes_left frames_left (codes "a")
+
+there_is_room_for_100_bytes_and_a_frame : within 100 1 ≡ Ok (record { size = 100; capture = record { nanos = false; frames = frame ∷ [] } })
+unfolding file_in capture_of format_of record_fault frames_from little_endian_at header record_header
+there_is_room_for_100_bytes_and_a_frame = refl
+
+bytes_above_the_limit_come_before_frames : (within 99 0 ≡ Err (Limit TraceBytes)) × (within 100 0 ≡ Err (Limit Frames))
+unfolding file_in capture_of format_of record_fault frames_from little_endian_at header record_header
+bytes_above_the_limit_come_before_frames = (refl, refl)
 
 -- ---- what is opened
 
 unfoldable opened : Option (List ℕ) → Option (List ℕ) → List (List ℕ)
-unfolding files_opened traces_opened command_in script_in file_in traces_behind verdict capture_of frames_from little_endian_at digits_upto decimal_upto number_upto octet octet_before_colon mac port_number port_word new_port port_words command_of flow_port with_priority with_in_port with_dl_dst with_item output_of outputs_of actions_of flow_of edit_of with_line with_lines script_of with_edit with_sync sync_time time_of seconds_with_fraction seconds_of fraction_of
+unfolding files_opened traces_opened command_in script_in file_in traces_behind verdict capture_of format_of record_fault frames_from little_endian_at digits_upto decimal_upto number_upto octet octet_before_colon mac port_number port_word new_port port_words command_of flow_port with_priority with_in_port with_dl_dst with_item output_of outputs_of actions_of flow_of edit_of with_line with_lines script_of with_edit with_sync sync_time time_of seconds_with_fraction seconds_of fraction_of
 opened e a = files_opened words (files e a)
 
 nothing_is_opened_behind_a_refusal :
@@ -138,3 +154,19 @@ nothing_is_opened_behind_a_refusal = (refl, (refl, refl))
 
 the_text_of_a_read_fault : read_fault_text (codes "a") ≡ codes "read fault: a" ++ 10 ∷ []
 the_text_of_a_read_fault = refl
+
+the_texts_of_faulty_traces :
+    (trace_text (codes "a.pcap") (ShortRecord 24) ≡ codes "a.pcap: short record at 24\n")
+    × ((trace_text (codes "a") ShortHeader ≡ codes "a: short header\n")
+    × ((trace_text (codes "a") Magic ≡ codes "a: magic\n")
+    × ((trace_text (codes "a") (Version 2 10) ≡ codes "a: version 2.10\n")
+    × ((trace_text (codes "a") (LinkType 101) ≡ codes "a: link type 101\n")
+    × ((trace_text (codes "a") (TooLong 40 262145) ≡ codes "a: too long at 40\n")
+    × (trace_text (codes "a") (Fraction 40) ≡ codes "a: fraction at 40\n"))))))
+unfolding digits
+the_texts_of_faulty_traces = (refl, (refl, (refl, (refl, (refl, (refl, refl))))))
+
+the_texts_of_limits :
+    (limit_text TraceBytes ≡ codes "limit: trace-bytes 268435456\n") × (limit_text Frames ≡ codes "limit: frames 131072\n")
+unfolding digits
+the_texts_of_limits = (refl, refl)

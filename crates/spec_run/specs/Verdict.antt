@@ -1,20 +1,28 @@
 -- What becomes of a run before anything is written. The words come first, then the file of edits, then the traces in the
 -- order of the words; the first input that is refused decides.
 use Rattle.std.specs.Prelude.{ℕ, ◌-◌, nat_lt, false, if◌then◌else◌, List, [], ◌∷◌, ◌++◌, length, map, Option, None, Result, Ok, Err, codes}
-use Rattle.std.specs.Option.{option_map, ok_or}
+use Rattle.std.specs.Option.{ok_or}
+use Rattle.spec_pcap.specs.declared.fault.PcapFault.{PcapFault}
+use Rattle.spec_pcap.specs.declared.fault.PcapFault.TheVariants.{TooManyFrames}
 use Rattle.spec_pcap.specs.Pcap.{Capture, capture_of}
 use Rattle.spec_case.specs.Run.{Run}
 use Rattle.spec_text.specs.Words.{PortWord, Command, command_of, has_trace}
 use Rattle.spec_text.specs.Script.{Script, script_of}
+use Rattle.spec_run.specs.declared.quantity.Quantity.{Quantity}
+use Rattle.spec_run.specs.declared.quantity.Quantity.TheVariants.{TraceBytes, Frames}
+use Rattle.spec_run.specs.Limits.{most_trace_bytes, most_frames}
 
 -- the bytes of a file by its name, where there is one
 abbrev pub Files : Type 0
 Files = List ℕ → Option (List ℕ)
 
--- Why there is no run: an input, by name, whose form isn't built, or a file that isn't there.
+-- Why there is no run: an input, by name, whose form isn't built, a file that isn't there, a trace by its name and fault,
+-- or a quantity that is above its limit.
 pub data Refusal : Type 0 where
   NotBuilt : List ℕ → Refusal
   Missing : List ℕ → Refusal
+  Trace : List ℕ → PcapFault → Refusal
+  Limit : Quantity → Refusal
 
 -- a command, and the run that its files give
 pub record Accepted : Type 0 where
@@ -44,13 +52,6 @@ script_in files name = bytes_in files name >>= (λ bytes. ok_or (script_of bytes
 
 -- ---- the traces
 
--- the most bytes of all traces, and the most frames
-abbrev pub most_trace_bytes : ℕ
-most_trace_bytes = 268435456
-
-abbrev pub most_frames : ℕ
-most_frames = 131072
-
 -- a trace, and the bytes of its file
 pub record TraceFile : Type 0 where
   pub size : ℕ
@@ -60,16 +61,23 @@ pub record TraceFile : Type 0 where
 abbrev pub no_trace : TraceFile
 no_trace = record { size = 0; capture = record { nanos = false; frames = [] } }
 
--- a file of at most so many bytes and frames
-abbrev pub trace_within : ℕ → ℕ → List ℕ → Option TraceFile
-trace_within bytes_left frames_left bytes =
-    if nat_lt bytes_left (length bytes) then None
-    else option_map (λ capture. record { size = length bytes; capture = capture }) (capture_of frames_left bytes)
+-- a trace with this fault is refused
+abbrev pub refused_trace : List ℕ → PcapFault → Refusal
+refused_trace name TooManyFrames = Limit Frames
+refused_trace name fault = Trace name fault
+
+abbrev pub trace_file : List ℕ → ℕ → Result Capture PcapFault → Result TraceFile Refusal
+trace_file name size (Ok capture) = Ok (record { size = size; capture = capture })
+trace_file name size (Err fault) = Err (refused_trace name fault)
+
+-- a file of at most so many bytes and frames. Its size is found in reading it, before any fault.
+abbrev pub trace_within : ℕ → ℕ → List ℕ → List ℕ → Result TraceFile Refusal
+trace_within bytes_left frames_left name bytes =
+    if nat_lt bytes_left (length bytes) then Err (Limit TraceBytes) else trace_file name (length bytes) (capture_of frames_left bytes)
 
 -- the trace of a file, for which so much room is left
 unfoldable pub file_in : Files → ℕ → ℕ → List ℕ → Result TraceFile Refusal
-file_in files bytes_left frames_left name =
-    bytes_in files name >>= (λ bytes. ok_or (trace_within bytes_left frames_left bytes) (NotBuilt name))
+file_in files bytes_left frames_left name = bytes_in files name >>= trace_within bytes_left frames_left name
 
 -- the trace of a port, if it has one
 abbrev pub trace_in : Files → ℕ → ℕ → PortWord → Result TraceFile Refusal

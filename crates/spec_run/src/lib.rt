@@ -1,5 +1,6 @@
 //! What a whole run of the switch is: the verdict on its words and files, and what it writes.
 //!
+//! - `Limits`: the quantities that have a limit.
 //! - `Verdict`: the first refusal in the order of reading, or the run that the words and the files give.
 //! - `Journals`: what the journals of a run are to be: legal and complete, and each frame decided once, as a plain scan
 //!   of one version of the tables decides it, within its window.
@@ -9,3 +10,7 @@
 //! Whoever reads these, the specification crates below them and the contract of `run_switch` knows what is claimed of
 //! the switch, and needs to read no body.
 #![tactic(auto)]
+
+mod quantity;
+
+pub use quantity::Quantity;
