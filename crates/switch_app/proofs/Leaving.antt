@@ -11,11 +11,12 @@ use Rattle.spec_text.specs.Script.{Script}
 use Rattle.spec_text.specs.Words as words
 use Rattle.spec_board.specs.Texts.{Journal}
 use Rattle.spec_run.specs.Journals.{AreJournals}
+use Rattle.spec_run.specs.Limits.{most_trace_bytes, most_frames}
 use Rattle.spec_run.specs.Verdict as verdicts
 use Rattle.spec_run.specs.Outputs.{File, files_of, IsDone}
 use Rattle.switch_app.specs.declared.refusal.Refusal.{Refusal}
-use Rattle.switch_app.specs.declared.refusal.Refusal.TheVariants.{NotBuilt, ReadFault, WriteFault, OutOfMemory}
-use Rattle.egress_merge.specs.Written.{written}
+use Rattle.switch_app.specs.declared.refusal.Refusal.TheVariants.{Input, ReadFault, WriteFault, OutOfMemory}
+use Rattle.edge_io.specs.Written.{written}
 use Rattle.switch_app.specs.Written.{IsCutShort}
 use Rattle.switch_app.specs.WordViews.{ports_said}
 use Rattle.switch_app.specs.Refused.{Explains, IsOfWriting, is_read_fault, is_write_fault, name_in}
@@ -41,7 +42,7 @@ module _ (said : List (List ℕ)) (old : Told) (command : words.Command) (is_com
       → (IsTrue (is_read_fault r) → name_in r ≡ command.edits) → (IsTrue (is_read_fault r) → new.last ≡ command.edits) → OnlyRead old new
       → Leaves said old new in_use r
   unfolding verdicts.verdict verdicts.files_opened
-  leaves_edits new in_use (NotBuilt what) why fault named told = (rw (is_command, why) refl, told)
+  leaves_edits new in_use (Input of_input) why fault named told = (rw (is_command, why) refl, told)
   leaves_edits new in_use (ReadFault name) why fault named told =
       (rw is_command (Contains-append_left (command.edits ∷ []) _ name.now (rw (fault refl) (is_only command.edits))), named refl ∙ sym (fault refl), told)
     where
@@ -54,17 +55,17 @@ module _ (said : List (List ℕ)) (old : Told) (command : words.Command) (is_com
 
   module _ (script : Script) (is_script : verdicts.script_in old.holds command.edits ≡ Ok script) where
     pub leaves_traces : (mid new : Told) (in_use : InUse) (r : Refusal) → OnlyRead old mid → Explains (verdicts.traces_in mid.holds command.ports) r
-        → (IsTrue (is_read_fault r) → Contains (verdicts.traces_opened mid.holds verdicts.most_trace_bytes verdicts.most_frames command.ports) (name_in r))
+        → (IsTrue (is_read_fault r) → Contains (verdicts.traces_opened mid.holds most_trace_bytes most_frames command.ports) (name_in r))
         → (IsTrue (is_read_fault r) → new.last ≡ name_in r) → OnlyRead mid new → Leaves said old new in_use r
     unfolding verdicts.verdict verdicts.files_opened
-    leaves_traces mid new in_use (NotBuilt what) before why opened named told =
+    leaves_traces mid new in_use (Input fault) before why opened named told =
         let same = ap (λ (w : Told). w.holds) before in
         (rw (is_command, is_script, rw same at why) refl, only_read-trans old mid new before told)
     leaves_traces mid new in_use (ReadFault name) before why opened named told =
         let same = ap (λ (w : Told). w.holds) before in
-        let first : verdicts.files_opened said old.holds ≡ command.edits ∷ verdicts.if_passed (verdicts.script_in old.holds command.edits) (λ _. verdicts.traces_opened old.holds verdicts.most_trace_bytes verdicts.most_frames command.ports) = rw is_command refl in
-        let all : verdicts.files_opened said old.holds ≡ command.edits ∷ verdicts.traces_opened old.holds verdicts.most_trace_bytes verdicts.most_frames command.ports =
-        first ∙ ap (λ passed. command.edits ∷ verdicts.if_passed passed (λ _. verdicts.traces_opened old.holds verdicts.most_trace_bytes verdicts.most_frames command.ports)) is_script in
+        let first : verdicts.files_opened said old.holds ≡ command.edits ∷ verdicts.if_passed (verdicts.script_in old.holds command.edits) (λ _. verdicts.traces_opened old.holds most_trace_bytes most_frames command.ports) = rw is_command refl in
+        let all : verdicts.files_opened said old.holds ≡ command.edits ∷ verdicts.traces_opened old.holds most_trace_bytes most_frames command.ports =
+        first ∙ ap (λ passed. command.edits ∷ verdicts.if_passed passed (λ _. verdicts.traces_opened old.holds most_trace_bytes most_frames command.ports)) is_script in
         (rw all (Contains-append_right (command.edits ∷ []) _ name.now (rw same at opened refl)), named refl, only_read-trans old mid new before told)
     leaves_traces mid new in_use (WriteFault name) before why opened named told = absurd why
     leaves_traces mid new in_use OutOfMemory before why opened named told = inl (only_read-trans old mid new before told)
@@ -115,7 +116,7 @@ module _ (said : List (List ℕ)) (old mid : Told) (command : words.Command) (po
 
   stopped_leaves : (new : Told) (in_use : InUse) (r : Refusal) → StopsIn (run_with ports script traces) command.out mid.done (written in_use new) r
       → IsOfWriting r → (IsTrue (is_write_fault r) → new.last ≡ name_in r) → Leaves said old new in_use r
-  stopped_leaves new in_use (NotBuilt what) stops only named = absurd only
+  stopped_leaves new in_use (Input fault) stops only named = absurd only
   stopped_leaves new in_use (ReadFault name) stops only named = absurd only
   stopped_leaves new in_use (WriteFault name) stops only named =
       (stopped (written in_use new) (WriteFault name) new.last stops (named refl ∙ stops.cut.named refl), named refl)

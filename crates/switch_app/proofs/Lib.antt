@@ -3,7 +3,6 @@ pub mod PortWords
 pub mod Printing
 pub mod Stages
 pub mod Walk
-pub mod Fronts
 pub mod Plainness
 pub mod Soundness
 pub mod Leaving

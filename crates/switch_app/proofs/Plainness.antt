@@ -1,13 +1,10 @@
 -- Edits of a script are plain.
 use Rattle.std.proofs.Common.{◌≡◌, ℕ, Bool, true, false, List, [], ◌∷◌, length, IsTrue, refl, sym, ◌∙◌, arith}
-use Rattle.std.specs.Prelude.{◌&&◌, All, nat_le}
+use Rattle.std.specs.Prelude.{◌&&◌, nat_le}
 use Rattle.std.specs.List.{list_all}
 use Rattle.std.proofs.lemmas.Bool.Decides.{nat_tests}
-use Rattle.std.proofs.lemmas.List.Sums.{AllPass-from_list_all}
 use Rattle.spec_actions.specs.declared.action.OfAction.{OfAction}
 use Rattle.spec_actions.specs.declared.action.OfAction.TheVariants as actions
-use Rattle.spec_tables.specs.declared.edit_word.EditWord.{EditWord}
-use Rattle.spec_tables.specs.declared.edit_word.EditWord.TheVariants as edit_words
 use Rattle.spec_tables.specs.Edits.{Edit}
 use Rattle.edit_script.specs.Plain as plain
 use Rattle.step_runner.specs.Plain.{is_output, is_plain_edit}
@@ -39,13 +36,3 @@ plain_edits [] only small = refl
 plain_edits (e ∷ edits) only small =
     both (is_plain_edit e) _ (both (list_all is_output e.actions) _ (outputs e.actions (first (plain.has_outputs_only e) _ only)) (few (length e.actions) (first (plain.has_few_actions e) _ small)))
     (plain_edits edits (second (plain.has_outputs_only e) _ only) (second (plain.has_few_actions e) _ small))
-
-is_add : (word : EditWord) → plain.is_add word ≡ true → word ≡ edit_words.Add
-is_add edit_words.Add p = refl
-is_add edit_words.Modify p = cc p
-is_add edit_words.ModifyStrict p = cc p
-is_add edit_words.Delete p = cc p
-is_add edit_words.DeleteStrict p = cc p
-
-pub all_add : (edits : List Edit) → IsTrue (list_all plain.adds_plainly edits) → All (λ (e : Edit). e.word ≡ edit_words.Add) edits
-all_add edits all k d lt = is_add _ (first _ _ (AllPass-from_list_all plain.adds_plainly edits all k d lt))

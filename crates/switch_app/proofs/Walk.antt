@@ -10,11 +10,11 @@ use Rattle.spec_run.specs.Verdict.{Files, Refusal, TraceFile, trace_in, trace_na
 use Rattle.edge_io.specs.Shelf.{Told, kept}
 use Rattle.edge_io.specs.ReadAll.{OnlyRead}
 use Rattle.spec_run.specs.Outputs.{File}
-use Rattle.egress_merge.specs.Written.{IsFrontOf}
+use Rattle.edge_io.specs.Written.{IsFrontOf}
 use Rattle.switch_app.specs.Written.{IsCutShort}
 use Rattle.switch_app.specs.declared.words.PortWord.{PortWord}
 use Rattle.switch_app.specs.declared.refusal.Refusal as code
-use Rattle.switch_app.specs.declared.refusal.Refusal.TheVariants.{NotBuilt, ReadFault, WriteFault, OutOfMemory}
+use Rattle.switch_app.specs.declared.refusal.Refusal.TheVariants.{Input, ReadFault, WriteFault, OutOfMemory}
 use Rattle.switch_app.specs.Refused.{Explains, IsCutIn, is_write_fault, name_in}
 use Rattle.switch_app.specs.WordViews.{port_view, ports_view}
 
@@ -60,7 +60,7 @@ module _ (files : Files) (bytes_left frames_left : ℕ) (ports : List PortWord) 
   pub explained : (before : List Capture) (d : PortWord) (all : Result (List Capture) Refusal) (r : code.Refusal) → i < length ports
       → Explains (trace_in files bytes_left frames_left (port_view (get_or ports i d))) r → traces_behind files before bytes_left frames_left (ports_view (drop i ports)) ≡ all
       → Explains all r
-  explained before d all (NotBuilt what) lt why so_far = no_next_trace before d _ all lt why so_far
+  explained before d all (Input fault) lt why so_far = no_next_trace before d _ all lt why so_far
   explained before d all (ReadFault name) lt why so_far = tt
   explained before d all (WriteFault name) lt why so_far = why
   explained before d all OutOfMemory lt why so_far = tt

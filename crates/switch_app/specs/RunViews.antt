@@ -5,15 +5,14 @@ use Rattle.spec_board.specs.Texts.{Journal}
 use Rattle.spec_run.specs.Verdict as verdicts
 use Rattle.spec_run.specs.Journals.{AreJournals}
 use Rattle.spec_run.specs.Outputs.{File, port_file, journal_file, files_of}
-use Rattle.spec_run.specs.Statuses.{PrintsFront, not_built_text}
 use Rattle.edge_io.specs.declared.outside.InUse.{InUse}
 use Rattle.edge_io.specs.Shelf.{Told}
 use Rattle.edge_io.specs.ReadAll.{OnlyRead}
 use Rattle.switch_app.specs.declared.refusal.Refusal.{Refusal}
-use Rattle.switch_app.specs.declared.refusal.Refusal.TheVariants.{NotBuilt, ReadFault, WriteFault, OutOfMemory}
-use Rattle.egress_merge.specs.Written.{written}
+use Rattle.switch_app.specs.declared.refusal.Refusal.TheVariants.{Input, ReadFault, WriteFault, OutOfMemory}
+use Rattle.edge_io.specs.Written.{written}
 use Rattle.switch_app.specs.Written.{IsCutShort}
-use Rattle.switch_app.specs.Refused.{IsCutIn, name_in}
+use Rattle.switch_app.specs.Refused.{IsCutIn, input_view, name_in}
 
 -- the files of a run by these journals
 abbrev pub files_for : List ℕ → Run → List Journal → List File
@@ -48,19 +47,9 @@ IsPartOfRun words files before now = (name : List ℕ) × IsCutRun words files b
 
 -- What stands after a refusal, and why it came.
 abbrev pub Leaves : List (List ℕ) → Told → Told → InUse → Refusal → Type 0
-Leaves words before now in_use (NotBuilt what) =
-    (verdicts.verdict words before.holds ≡ Err (verdicts.NotBuilt what.now)) × OnlyRead before now
+Leaves words before now in_use (Input fault) = (verdicts.verdict words before.holds ≡ Err (input_view fault)) × OnlyRead before now
 Leaves words before now in_use (ReadFault name) =
     Contains (verdicts.files_opened words before.holds) name.now × (now.last ≡ name.now) × OnlyRead before now
 Leaves words before now in_use (WriteFault name) =
     IsCutRun words before.holds before.done (written in_use now) now.last × (now.last ≡ name_in (WriteFault name))
 Leaves words before now in_use OutOfMemory = OnlyRead before now ⊎ IsPartOfRun words before.holds before.done (written in_use now)
-
--- The verdict is that an input has a form that isn't built.
-abbrev pub IsNotBuilt : List (List ℕ) → verdicts.Files → Type 0
-IsNotBuilt words files = (what : List ℕ) × (verdicts.verdict words files ≡ Err (verdicts.NotBuilt what))
-
--- That input is told, or a front of the text that tells it.
-abbrev pub PrintsNotBuilt : List (List ℕ) → verdicts.Files → List ℕ → List ℕ → Type 0
-PrintsNotBuilt words files before now =
-    (what : List ℕ) × (verdicts.verdict words files ≡ Err (verdicts.NotBuilt what)) × PrintsFront before now (not_built_text what)

@@ -1,7 +1,7 @@
 -- Files that were cut short.
 use Rattle.std.specs.Prelude.{◌≡◌, ℕ, List, ◌++◌, take, slice_get, Some}
 use Rattle.spec_run.specs.Outputs.{File}
-use Rattle.egress_merge.specs.Written.{IsFrontOf}
+use Rattle.edge_io.specs.Written.{IsFrontOf}
 
 -- Behind the files before, the first of these files were written whole, then this one in part or not at all, and none
 -- behind it.

@@ -44,6 +44,7 @@
 
 mod fault;
 mod journals;
+mod limits;
 mod reading;
 mod refusal;
 mod rules;

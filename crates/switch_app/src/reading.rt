@@ -1,29 +1,27 @@
-ghost use Rattle.std.specs.Prelude.{◌≡◌, ◌<◌, ◌≤◌, ◌-◌, length, List, [], map, Ok, All, Contains, IsTrue, OnOk, IfOk, IfErr};
+ghost use Rattle.std.specs.Prelude.{◌≡◌, ◌<◌, ◌≤◌, ◌-◌, ◌⊎◌, length, List, [], map, Ok, All, Contains, IsTrue, OnOk, IfOk, IfErr};
 ghost use Rattle.std.specs.List.{list_all};
 ghost use Rattle.edge_io.specs.declared.outside.InUse.TheVariants.{Nothing};
 ghost use Rattle.edge_io.specs.ReadAll.{OnlyRead};
 ghost use Rattle.spec_tables.specs.declared.edit_word.EditWord.TheVariants.{Add};
 ghost use Rattle.spec_case.specs.Blocks.{AreInOrder};
 ghost use Rattle.spec_text.specs.Script.{most_edits, most_syncs};
-ghost use Rattle.spec_run.specs.Verdict.{script_in, file_in, trace_in, traces_in, trace_names, traces_opened, most_trace_bytes, most_frames};
+ghost use Rattle.spec_run.specs.Limits.{most_trace_bytes, most_frames};
+ghost use Rattle.spec_run.specs.Verdict.{refused_trace, script_in, file_in, trace_in, traces_in, trace_names, traces_opened};
 ghost use Rattle.run_case.specs.Places.{AreCounted};
 ghost use Rattle.edit_script.specs.ScriptViews.{script_view};
 ghost use Rattle.step_runner.specs.Plain.{is_plain_edit};
 ghost use Rattle.switch_app.specs.WordViews.{port_view, ports_view};
 ghost use Rattle.switch_app.specs.ReadingViews.{trace_view};
-ghost use Rattle.switch_app.specs.Refused.{Explains, RunCause, is_read_fault, name_in};
+ghost use Rattle.switch_app.specs.Refused.{IsInput, Explains, RunCause, is_read_fault, name_in};
 
-use crate::refusal::Refusal;
+use crate::limits::{MOST_FRAMES, MOST_TRACE_BYTES};
+use crate::refusal::{InputFault, Refusal};
 use crate::words::PortWord;
 use edge_io::{ReadFault, Shelf, read_all};
 use edit_script::{MOST_BYTES, Script, ScriptFault, read_script};
 use pcap_io::{PcapFault, Trace, read_trace};
+use spec_run::Quantity;
 use std::alloc::Global;
-
-// The most bytes and frames of all traces.
-const MOST_TRACE_BYTES: usize = 268_435_456;
-
-const MOST_FRAMES: usize = 131_072;
 
 /// Reads the file of edits.
 pub fn read_edits<'a, S: Shelf>(
@@ -47,11 +45,11 @@ pub fn read_edits<'a, S: Shelf>(
 {
     match read_all(alloc, shelf, name, MOST_BYTES) {
         Err(ReadFault::Fault) => Err(Refusal::ReadFault { name }),
-        Err(ReadFault::Over) => Err(Refusal::NotBuilt { what: name }),
+        Err(ReadFault::Over) => Err(Refusal::Input(InputFault::NotBuilt { what: name })),
         Err(ReadFault::OutOfMemory) => Err(Refusal::OutOfMemory),
         Ok(bytes) => match read_script(alloc, &bytes) {
             Ok(script) => Ok(script),
-            Err(ScriptFault::NotBuilt) => Err(Refusal::NotBuilt { what: name }),
+            Err(ScriptFault::NotBuilt) => Err(Refusal::Input(InputFault::NotBuilt { what: name })),
             Err(ScriptFault::OutOfMemory) => Err(Refusal::OutOfMemory),
         },
     }
@@ -62,6 +60,18 @@ pub fn read_edits<'a, S: Shelf>(
 pub struct TraceFile {
     pub size: usize,
     pub trace: Trace,
+}
+
+// What becomes of a run whose trace of this name wasn't read.
+fn refused(name: &str, fault: PcapFault) -> Refusal<'_>
+    ensures of_input { (fault ≡ PcapFault.OutOfMemory) ⊎ IsInput result (refused_trace name.now fault) }
+    ensures no_memory { fault ≡ PcapFault.OutOfMemory → result ≡ Refusal.OutOfMemory }
+{
+    match fault {
+        PcapFault::OutOfMemory => Refusal::OutOfMemory,
+        PcapFault::TooManyFrames => Refusal::Input(InputFault::Limit(Quantity::Frames)),
+        fault => Refusal::Input(InputFault::Trace { name, fault }),
+    }
 }
 
 // Reads a trace for which so much room is left.
@@ -85,14 +95,13 @@ fn read_trace_file<'a, S: Shelf>(
 {
     match read_all(alloc, shelf, name, bytes_left) {
         Err(ReadFault::Fault) => Err(Refusal::ReadFault { name }),
-        Err(ReadFault::Over) => Err(Refusal::NotBuilt { what: name }),
+        Err(ReadFault::Over) => Err(Refusal::Input(InputFault::Limit(Quantity::TraceBytes))),
         Err(ReadFault::OutOfMemory) => Err(Refusal::OutOfMemory),
         Ok(bytes) => {
             let size = bytes.len();
             match read_trace(alloc, bytes, frames_left) {
                 Ok(trace) => Ok(TraceFile { size, trace }),
-                Err(PcapFault::NotBuilt) => Err(Refusal::NotBuilt { what: name }),
-                Err(PcapFault::OutOfMemory) => Err(Refusal::OutOfMemory),
+                Err(fault) => Err(refused(name, fault)),
             }
         }
     }

@@ -1,13 +1,26 @@
 ghost use Rattle.std.specs.Prelude.{◌≡◌};
 ghost use Rattle.switch_app.specs.declared.refusal.Refusal.TheVariants.{OutOfMemory};
 
+use pcap_io::PcapFault;
+use spec_run::Quantity;
 use std::alloc::{AllocError, AllocFailed};
+
+/// What is wrong with an input. Names are those of the words.
+#[derive(Clone, Copy, Debug)]
+pub enum InputFault<'a> {
+    /// It has a form that isn't built.
+    NotBuilt { what: &'a str },
+    /// A trace is no capture file that is read.
+    Trace { name: &'a str, fault: PcapFault },
+    /// A quantity is above its limit.
+    Limit(Quantity),
+}
 
 /// Why a run was refused. Names are those of the words.
 #[derive(Debug, Drop)]
 pub enum Refusal<'a> {
-    /// An input has a form that isn't built.
-    NotBuilt { what: &'a str },
+    /// The words or a file are refused.
+    Input(InputFault<'a>),
     /// The shelf failed in reading a file.
     ReadFault { name: &'a str },
     /// The shelf failed in writing a file.

@@ -1,4 +1,4 @@
-ghost use Rattle.std.specs.Prelude.{◌≡◌, ◌≤◌, ◌⊎◌, Ok, length, nat_eq, All, Contains, IsTrue, IsOk, IsErr, OnOk, IfOk, IfErr};
+ghost use Rattle.std.specs.Prelude.{◌≡◌, ◌≤◌, ◌⊎◌, Ok, length, nat_eq, All, Contains, IsTrue, IsOk, OnOk, IfOk, IfErr};
 ghost use Rattle.std.specs.List.{list_all, IsDistinct};
 ghost use Rattle.edge_io.specs.declared.outside.InUse.TheVariants.{Nothing};
 ghost use Rattle.edge_io.specs.ReadAll.{OnlyRead};
@@ -10,16 +10,16 @@ ghost use Rattle.run_case.specs.Places.{AreCounted};
 ghost use Rattle.step_runner.specs.Plain.{is_plain_edit};
 ghost use Rattle.spec_run.specs.Verdict.{command_in, verdict, files_opened};
 ghost use Rattle.spec_run.specs.Outputs.{IsDone};
-ghost use Rattle.spec_run.specs.Statuses.{done_status, read_fault_status, write_fault_status, out_of_memory_status, not_built_status, PrintsFront, read_fault_text, write_fault_text, out_of_memory_text};
+ghost use Rattle.spec_run.specs.Statuses.{done_status, read_fault_status, write_fault_status, out_of_memory_status, status_of as refusal_status, is_refusal, IsRefused, PrintsFront, PrintsRefusal, read_fault_text, write_fault_text, out_of_memory_text};
 ghost use Rattle.switch_app.specs.WordViews.{texts, ports_view, ports_said, command_view};
-ghost use Rattle.egress_merge.specs.Written.{written};
+ghost use Rattle.edge_io.specs.Written.{written};
 ghost use Rattle.switch_app.specs.Refused.{Explains, RunCause, IsOfWriting, is_read_fault, is_write_fault, name_in, status_of};
-ghost use Rattle.switch_app.specs.RunViews.{Writes, StopsIn, IsCutRun, IsPartOfRun, Leaves, IsNotBuilt, PrintsNotBuilt};
+ghost use Rattle.switch_app.specs.RunViews.{Writes, StopsIn, IsCutRun, IsPartOfRun, Leaves};
 
 use crate::fault::FormFault;
 use crate::journals::journals_of;
 use crate::reading::{read_edits, read_traces};
-use crate::refusal::Refusal;
+use crate::refusal::{InputFault, Refusal};
 use crate::rules::rules_of;
 use crate::say::say_refusal;
 use crate::words::{Command, ports_of, read_words};
@@ -41,9 +41,13 @@ const WORDS: &str = "words";
 // The exit statuses.
 const DONE: u8 = 0;
 
+const TRACE: u8 = 4;
+
 const READ_FAULT: u8 = 5;
 
 const WRITE_FAULT: u8 = 6;
+
+const LIMIT: u8 = 7;
 
 const OUT_OF_MEMORY: u8 = 8;
 
@@ -53,7 +57,9 @@ fn status(refusal: &Refusal<'_>) -> u8
     ensures { result ≡ status_of refusal.now }
 {
     match refusal {
-        Refusal::NotBuilt { .. } => NOT_BUILT,
+        Refusal::Input(InputFault::NotBuilt { .. }) => NOT_BUILT,
+        Refusal::Input(InputFault::Trace { .. }) => TRACE,
+        Refusal::Input(InputFault::Limit(_)) => LIMIT,
         Refusal::ReadFault { .. } => READ_FAULT,
         Refusal::WriteFault { .. } => WRITE_FAULT,
         Refusal::OutOfMemory => OUT_OF_MEMORY,
@@ -70,7 +76,7 @@ fn read_command<'a>(alloc: Global, words: &'a [String]) -> Result<Command<'a>, R
 {
     match read_words(alloc, words) {
         Ok(command) => Ok(command),
-        Err(FormFault::NotBuilt) => Err(Refusal::NotBuilt { what: WORDS }),
+        Err(FormFault::NotBuilt) => Err(Refusal::Input(InputFault::NotBuilt { what: WORDS })),
         Err(FormFault::OutOfMemory) => Err(Refusal::OutOfMemory),
     }
 }
@@ -152,8 +158,11 @@ fn run<'a, S: Shelf>(alloc: Global, words: &'a [String], shelf: &mut S) -> Resul
 /// # Statuses
 ///
 /// - 0: all is done. Nothing is printed.
+/// - 4: a trace is no capture file that is read. `NAME: REASON` is printed, REASON being `short header`, `magic`,
+///   `version M.N`, `link type N`, `short record at OFFSET`, `too long at OFFSET` or `fraction at OFFSET`.
 /// - 5: reading failed. `read fault: NAME` is printed.
 /// - 6: writing failed. `write fault: NAME` is printed.
+/// - 7: a quantity is above its limit. `limit: QUANTITY NUMBER` is printed: `trace-bytes` of all traces, or their `frames`.
 /// - 8: memory is wanting. `out of memory` is printed.
 /// - 9: an input has a form that isn't built. `not built: WHAT` is printed, WHAT being `words` or the file's name.
 ///
@@ -169,7 +178,7 @@ pub fn run_switch<R: Threads + Wait + Sync, S: Shelf, K: Sink, G: Gate + Sync>(
     gate: &G,
 ) -> u8
     requires { S.in_use shelf.old ≡ Nothing }
-    ensures only { (result ≡ done_status) ⊎ ((result ≡ read_fault_status) ⊎ ((result ≡ write_fault_status) ⊎ ((result ≡ out_of_memory_status) ⊎ (result ≡ not_built_status)))) }
+    ensures only { (result ≡ done_status) ⊎ ((result ≡ read_fault_status) ⊎ ((result ≡ write_fault_status) ⊎ ((result ≡ out_of_memory_status) ⊎ IsTrue (is_refusal result)))) }
 
     // All is done: exactly the files of the run are written, by journals that are legal and complete, nothing is printed,
     // and nothing failed.
@@ -195,13 +204,15 @@ pub fn run_switch<R: Threads + Wait + Sync, S: Shelf, K: Sink, G: Gate + Sync>(
         ⊎ IsPartOfRun (texts words.now) (S.told shelf.old).holds (S.told shelf.old).done (written (S.in_use shelf.new) (S.told shelf.new)) }
     ensures out_of_memory_text { IsTrue K.tells → result ≡ out_of_memory_status → PrintsFront (K.written say.old) (K.written say.new) out_of_memory_text }
 
-    // An input has a form that isn't built, and it is the first that is refused. Nothing is written.
-    ensures not_built { IsTrue S.tells → result ≡ not_built_status → IsNotBuilt (texts words.now) (S.told shelf.old).holds }
-    ensures not_built_writes_nothing { IsTrue S.tells → result ≡ not_built_status → OnlyRead (S.told shelf.old) (S.told shelf.new) }
-    ensures not_built_text { IsTrue S.tells → IsTrue K.tells → result ≡ not_built_status → PrintsNotBuilt (texts words.now) (S.told shelf.old).holds (K.written say.old) (K.written say.new) }
+    // The words or a file are refused: the verdict is a refusal of this status, which is the first in the order of reading.
+    // Nothing is written.
+    ensures refused { IsTrue S.tells → IsTrue (is_refusal result) → IsRefused (texts words.now) (S.told shelf.old).holds result }
+    ensures refused_writes_nothing { IsTrue S.tells → IsTrue (is_refusal result) → OnlyRead (S.told shelf.old) (S.told shelf.new) }
+    ensures refused_text { IsTrue S.tells → IsTrue K.tells → IsTrue (is_refusal result) → PrintsRefusal (texts words.now) (S.told shelf.old).holds (K.written say.old) (K.written say.new) }
 
-    // What is refused is not done, and what is accepted is done unless a count rises or memory is wanting.
-    ensures refused { IsTrue S.tells → IsErr (verdict (texts words.now) (S.told shelf.old).holds) → (result ≡ not_built_status) ⊎ ((result ≡ read_fault_status) ⊎ (result ≡ out_of_memory_status)) }
+    // What is refused ends with the status of its refusal, and what is accepted is done, unless a count rises or memory is
+    // wanting.
+    ensures refusal { IsTrue S.tells → IfErr (verdict (texts words.now) (S.told shelf.old).holds) (λ r. (result ≡ refusal_status r) ⊎ ((result ≡ read_fault_status) ⊎ (result ≡ out_of_memory_status))) }
     ensures accepted { IsTrue S.tells → IsOk (verdict (texts words.now) (S.told shelf.old).holds)
         → ¬ Rose (S.reading shelf.old) (S.reading shelf.new) → ¬ Rose (S.writing shelf.old) (S.writing shelf.new) → (result ≡ done_status) ⊎ (result ≡ out_of_memory_status) }
 {

@@ -5,7 +5,7 @@ ghost use Rattle.edge_io.specs.declared.outside.InUse.TheVariants.{Nothing};
 ghost use Rattle.edge_io.specs.Shelf.{kept};
 ghost use Rattle.flow_dump.specs.JournalViews as dumps;
 ghost use Rattle.egress_merge.specs.Boards.{journals_view, IsAllDecided};
-ghost use Rattle.egress_merge.specs.Written.{written, IsFrontOf};
+ghost use Rattle.edge_io.specs.Written.{written, IsFrontOf};
 ghost use Rattle.switch_app.specs.Refused.{RunCause, IsOfWriting, IsCutIn, is_write_fault, name_in};
 ghost use Rattle.switch_app.specs.RunViews.{files_for};
 

@@ -2,7 +2,8 @@ use Rattle.std.proofs.Common.{◌≡◌, ℕ, ◌≤◌, List, length, drop, IsT
 use Rattle.std.specs.Prelude.{Contains}
 use Rattle.edge_io.specs.declared.outside.InUse.TheVariants.{Nothing}
 use Rattle.edge_io.specs.ReadAll.{OnlyRead}
-use Rattle.spec_run.specs.Verdict.{traces_behind, traces_in, traces_opened, most_trace_bytes, most_frames}
+use Rattle.spec_run.specs.Limits.{most_trace_bytes, most_frames}
+use Rattle.spec_run.specs.Verdict.{traces_behind, traces_in, traces_opened}
 use Rattle.run_case.specs.Places.{AreCounted}
 use Rattle.switch_app.specs.WordViews.{ports_view}
 use Rattle.switch_app.proofs.reading.read_traces.Given as goal
