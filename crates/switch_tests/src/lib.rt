@@ -2,8 +2,10 @@
 //!
 //! The contract of `run_switch` says what a run reads, writes and answers. What it can't say is shown here: that runs
 //! succeed where memory is ample, and that the definitions give the files, texts and statuses that one expects, byte
-//! for byte. The crate has no code of its own, and nothing is built on it.
+//! for byte. Great traces are made while they are read (`made`). Nothing is built on this crate.
 #![tactic(auto)]
 
+#[cfg(test)]
+mod made;
 #[cfg(test)]
 mod tests;

@@ -1,6 +1,7 @@
 ghost use Rattle.std.specs.Prelude.{◌≡◌, IfOk};
 ghost use Rattle.edge_io.specs.declared.outside.InUse.TheVariants.{Nothing};
 
+use crate::made::{MadeFile, MadeShelf, Piece};
 use edge_io::{MemoryShelf, MemorySink, OpenGate, Shelf};
 use std::alloc::{AllocError, Global};
 use std::sync::Wait;
@@ -13,10 +14,17 @@ const HEADER: [u8; 24] = [
     0xd4, 0xc3, 0xb2, 0xa1, 2, 0, 4, 0, 0, 0, 0, 0, 0, 0, 0, 0, 0, 0, 4, 0, 1, 0, 0, 0,
 ];
 
+// The same in nanoseconds.
+const NANOS_HEADER: [u8; 24] = [
+    0x4d, 0x3c, 0xb2, 0xa1, 2, 0, 4, 0, 0, 0, 0, 0, 0, 0, 0, 0, 0, 0, 4, 0, 1, 0, 0, 0,
+];
+
 // A rule that sends the frames of port 1 to port 2.
 const FORWARD: &str = "in_port=1,actions=2";
 
 const WORDS: [&str; 4] = ["edits", "out", "1=a.pcap", "2="];
+
+const TWO_TRACES: [&str; 4] = ["edits", "out", "1=a.pcap", "2=b.pcap"];
 
 // The rule of port 1 changes at 2 seconds.
 const CHANGE: &str = "in_port=1,actions=2\nsync 2\npriority=40000,in_port=1,actions=3\n";
@@ -25,13 +33,46 @@ const CHANGE: &str = "in_port=1,actions=2\nsync 2\npriority=40000,in_port=1,acti
 const CHANGE_JOURNAL: &str =
     "port 1\nbegin 1\nend\nlook 1 miss\nsettle 1 1 full\nopen 1\nbegin 2\nend\nlook 2 miss\nsettle 2 2 full\nport 2\nbegin 1\nend\nopen 1\nbegin 2\nend\nport 3\nbegin 1\nend\nopen 1\nbegin 2\nend\n";
 
-// A capture file with a frame of 60 bytes at each of these seconds, from 00:00:00:00:00:01 to 00:00:00:00:00:02.
+// Adds a record to a capture file: this header, and a frame of 60 bytes from 00:00:00:00:00:01 to 00:00:00:00:00:02.
+fn push_record(file: &mut Vec<u8>, header: &[u8; 16]) -> Result<(), AllocError> {
+    file.extend_from_slice(header)?;
+    file.extend_from_slice(&[0, 0, 0, 0, 0, 2, 0, 0, 0, 0, 0, 1, 0x88, 0xb5])?;
+    file.extend_from_slice(&[0; 46])
+}
+
+// A capture file of one record, with these headers.
+fn trace_of(alloc: Global, header: &[u8; 24], record: &[u8; 16]) -> Result<Vec<u8>, AllocError> {
+    let mut file = header.to_vec(alloc)?;
+    push_record(&mut file, record)?;
+    Ok(file)
+}
+
+// A capture file with a frame at each of these seconds.
 fn trace_at(alloc: Global, seconds: &[u8]) -> Result<Vec<u8>, AllocError> {
     let mut file = HEADER.to_vec(alloc)?;
     for second in seconds {
-        file.extend_from_slice(&[*second, 0, 0, 0, 0, 0, 0, 0, 60, 0, 0, 0, 60, 0, 0, 0])?;
-        file.extend_from_slice(&[0, 0, 0, 0, 0, 2, 0, 0, 0, 0, 0, 1, 0x88, 0xb5])?;
-        file.extend_from_slice(&[0; 46])?;
+        push_record(
+            &mut file,
+            &[*second, 0, 0, 0, 0, 0, 0, 0, 60, 0, 0, 0, 60, 0, 0, 0],
+        )?;
+    }
+    Ok(file)
+}
+
+// The same without its last byte.
+fn cut_trace_at(alloc: Global, seconds: &[u8]) -> Result<Vec<u8>, AllocError> {
+    let mut file = trace_at(alloc, seconds)?;
+    file.pop();
+    Ok(file)
+}
+
+// The file with a frame at 1 second, in which these bytes stand at an offset.
+fn trace_with(alloc: Global, offset: usize, bytes: &[u8]) -> Result<Vec<u8>, AllocError> {
+    let good = trace_at(alloc, &[1])?;
+    let mut file = Vec::new(alloc);
+    for (at, byte) in good.iter().enumerate() {
+        let given = at.checked_sub(offset).and_then(|place| bytes.get(place));
+        file.push(*given.unwrap_or(byte))?;
     }
     Ok(file)
 }
@@ -69,14 +110,14 @@ fn shelf_of(
 }
 
 // Runs the switch, and gives its status.
-fn run<R: Threads + Wait + Sync>(
+fn run<R: Threads + Wait + Sync, S: Shelf>(
     rt: &R,
     alloc: Global,
     words: &[&str],
-    shelf: &mut MemoryShelf,
+    shelf: &mut S,
     say: &mut MemorySink,
 ) -> Result<u8, AllocError>
-    requires { ⟦<MemoryShelf as Shelf>⟧.in_use shelf.old ≡ Nothing }
+    requires { S.in_use shelf.old ≡ Nothing }
 {
     let mut owned = Vec::new(alloc);
     for word in words {
@@ -183,7 +224,6 @@ fn frame_behind_a_sync_point_meets_the_edits_before_it(rt: HostRuntime) -> Resul
 #[test]
 fn each_port_has_its_own_trace(rt: HostRuntime) -> Result<(), Fail> {
     let alloc = rt.alloc();
-    let words = ["edits", "out", "1=a.pcap", "2=b.pcap"];
     let first = trace_at(alloc, &[1, 3])?;
     let second = trace_at(alloc, &[2])?;
     let mut shelf = shelf_with(
@@ -193,7 +233,7 @@ fn each_port_has_its_own_trace(rt: HostRuntime) -> Result<(), Fail> {
         &[],
     )?;
     let mut say = MemorySink::new(alloc, Vec::new(alloc));
-    assert_eq!(rt; run(&rt, alloc, &words, &mut shelf, &mut say)?, 0);
+    assert_eq!(rt; run(&rt, alloc, &TWO_TRACES, &mut shelf, &mut say)?, 0);
     assert!(rt; has_port_files(&shelf, &second, &first));
     Ok(())
 }
@@ -242,6 +282,22 @@ fn failed_write_of_the_journal_leaves_its_front(rt: HostRuntime) -> Result<(), F
     Ok(())
 }
 
+// Whether a run over these edits and traces ends with this status and text, and makes no file.
+fn is_refused<R: Threads + Wait + Sync>(
+    rt: &R,
+    alloc: Global,
+    words: &[&str],
+    edits: &str,
+    traces: &[(&str, &[u8])],
+    want: (u8, &str),
+) -> Result<bool, AllocError> {
+    let mut shelf = shelf_with(alloc, edits, traces, &[])?;
+    let mut say = MemorySink::new(alloc, Vec::new(alloc));
+    let status = run(rt, alloc, words, &mut shelf, &mut say)?;
+    let no_file = shelf.made().is_empty() && shelf.current().is_none();
+    Ok(no_file && status == want.0 && say.text() == want.1.as_bytes())
+}
+
 #[test]
 fn forms_that_are_not_built_are_told_by_name(rt: HostRuntime) -> Result<(), Fail> {
     let alloc = rt.alloc();
@@ -261,14 +317,212 @@ fn forms_that_are_not_built_are_told_by_name(rt: HostRuntime) -> Result<(), Fail
             whole.as_slice(),
             "not built: edits\n",
         ),
-        (WORDS, FORWARD, &HEADER[..23], "not built: a.pcap\n"),
+        // The edits come before a trace with a fault.
+        (WORDS, "actions=flood", &HEADER[..23], "not built: edits\n"),
     ] {
-        let mut shelf = shelf_of(alloc, edits, trace, &[])?;
-        let mut say = MemorySink::new(alloc, Vec::new(alloc));
-        assert_eq!(rt; run(&rt, alloc, &words, &mut shelf, &mut say)?, 9);
-        assert_eq!(rt; say.text(), text.as_bytes());
-        assert!(rt; shelf.made().is_empty());
-        assert!(rt; shelf.current().is_none());
+        assert!(rt;
+            is_refused(&rt, alloc, &words, edits, &[("a.pcap", trace)], (9, text))?,
+            "{text}"
+        );
+    }
+    Ok(())
+}
+
+#[test]
+fn each_fault_of_a_trace_is_told_with_its_place(rt: HostRuntime) -> Result<(), Fail> {
+    let alloc = rt.alloc();
+    let long: u32 = 262_145;
+    let micros: u32 = 1_000_000;
+    // The magic is that of pcapng, and the link type LINKTYPE_RAW.
+    for (trace, text) in [
+        (HEADER[..23].to_vec(alloc)?, "a.pcap: short header\n"),
+        (
+            trace_with(alloc, 0, &[0x0a, 0x0d, 0x0d, 0x0a])?,
+            "a.pcap: magic\n",
+        ),
+        (trace_with(alloc, 4, &[3])?, "a.pcap: version 3.4\n"),
+        (trace_with(alloc, 20, &[101])?, "a.pcap: link type 101\n"),
+        (cut_trace_at(alloc, &[1])?, "a.pcap: short record at 24\n"),
+        (
+            cut_trace_at(alloc, &[1, 2])?,
+            "a.pcap: short record at 100\n",
+        ),
+        (
+            trace_with(alloc, 32, &long.to_le_bytes())?,
+            "a.pcap: too long at 24\n",
+        ),
+        (
+            trace_with(alloc, 28, &micros.to_le_bytes())?,
+            "a.pcap: fraction at 24\n",
+        ),
+    ] {
+        assert!(rt;
+            is_refused(
+                &rt,
+                alloc,
+                &WORDS,
+                FORWARD,
+                &[("a.pcap", &trace)],
+                (4, text)
+            )?,
+            "{text}"
+        );
+    }
+    Ok(())
+}
+
+#[test]
+fn first_faulty_trace_in_the_order_of_the_words_decides(rt: HostRuntime) -> Result<(), Fail> {
+    let alloc = rt.alloc();
+    let traces: [(&str, &[u8]); 2] = [("a.pcap", &HEADER[..23]), ("b.pcap", &[7; 24])];
+    let down: [&str; 4] = ["edits", "out", "2=b.pcap", "1=a.pcap"];
+    assert!(rt;
+        is_refused(
+            &rt,
+            alloc,
+            &TWO_TRACES,
+            FORWARD,
+            &traces,
+            (4, "a.pcap: short header\n")
+        )?
+    );
+    assert!(rt; is_refused(&rt, alloc, &down, FORWARD, &traces, (4, "b.pcap: magic\n"))?);
+    Ok(())
+}
+
+#[test]
+fn big_endian_nanoseconds_leave_in_nanoseconds(rt: HostRuntime) -> Result<(), Fail> {
+    let alloc = rt.alloc();
+    let header: [u8; 24] = [
+        0xa1, 0xb2, 0x3c, 0x4d, 0, 2, 0, 4, 0, 0, 0, 0, 0, 0, 0, 0, 0, 4, 0, 0, 0, 0, 0, 1,
+    ];
+    let record: [u8; 16] = [0, 0, 0, 1, 0, 0, 0, 5, 0, 0, 0, 60, 0, 0, 0, 60];
+    let trace = trace_of(alloc, &header, &record)?;
+    let mut shelf = shelf_of(alloc, FORWARD, &trace, &[])?;
+    let mut say = MemorySink::new(alloc, Vec::new(alloc));
+    assert_eq!(rt; run(&rt, alloc, &WORDS, &mut shelf, &mut say)?, 0);
+    let record: [u8; 16] = [1, 0, 0, 0, 5, 0, 0, 0, 60, 0, 0, 0, 60, 0, 0, 0];
+    let want = trace_of(alloc, &NANOS_HEADER, &record)?;
+    assert!(rt; has_port_files(&shelf, &NANOS_HEADER, &want));
+    Ok(())
+}
+
+#[test]
+fn one_trace_in_nanoseconds_makes_all_files_so(rt: HostRuntime) -> Result<(), Fail> {
+    let alloc = rt.alloc();
+    // 1 second and 5 microseconds
+    let record: [u8; 16] = [1, 0, 0, 0, 5, 0, 0, 0, 60, 0, 0, 0, 60, 0, 0, 0];
+    let micros = trace_of(alloc, &HEADER, &record)?;
+    let traces: [(&str, &[u8]); 2] = [("a.pcap", &micros), ("b.pcap", &NANOS_HEADER)];
+    let mut shelf = shelf_with(alloc, FORWARD, &traces, &[])?;
+    let mut say = MemorySink::new(alloc, Vec::new(alloc));
+    assert_eq!(rt; run(&rt, alloc, &TWO_TRACES, &mut shelf, &mut say)?, 0);
+    // 1 second and 5,000 nanoseconds
+    let record: [u8; 16] = [1, 0, 0, 0, 0x88, 0x13, 0, 0, 60, 0, 0, 0, 60, 0, 0, 0];
+    let want = trace_of(alloc, &NANOS_HEADER, &record)?;
+    assert!(rt; has_port_files(&shelf, &NANOS_HEADER, &want));
+    Ok(())
+}
+
+// A record of a frame of so many bytes, at 0 seconds.
+fn record_of(alloc: Global, len: u32) -> Result<Vec<u8>, AllocError> {
+    let mut record = vec![in alloc; 0; 8]?;
+    record.extend_from_slice(&len.to_le_bytes())?;
+    record.extend_from_slice(&len.to_le_bytes())?;
+    record.extend_from_slice(&vec![in alloc; 0; len as usize]?)?;
+    Ok(record)
+}
+
+// A file that begins with a header, and has frames of these lengths, each so many times.
+fn made_trace(
+    alloc: Global,
+    name: &str,
+    header: &[u8; 24],
+    frames: &[(u32, usize)],
+) -> Result<MadeFile, AllocError> {
+    let mut pieces = Vec::new(alloc);
+    pieces.push(Piece {
+        bytes: header.to_vec(alloc)?,
+        times: 1,
+    })?;
+    for (len, times) in frames {
+        pieces.push(Piece {
+            bytes: record_of(alloc, *len)?,
+            times: *times,
+        })?;
+    }
+    Ok(MadeFile {
+        name: String::from_str(alloc, name)?,
+        pieces,
+    })
+}
+
+// Whether a run without rules over these traces ends with this status and text.
+fn made_run_ends<R: Threads + Wait + Sync>(
+    rt: &R,
+    alloc: Global,
+    words: &[&str],
+    traces: Vec<MadeFile>,
+    want: (u8, &str),
+) -> Result<bool, AllocError> {
+    let mut shelf = MadeShelf::new(traces);
+    let mut say = MemorySink::new(alloc, Vec::new(alloc));
+    let status = run(rt, alloc, words, &mut shelf, &mut say)?;
+    Ok(status == want.0 && say.text() == want.1.as_bytes())
+}
+
+#[test]
+fn frames_of_all_traces_are_at_most_131072(rt: HostRuntime) -> Result<(), Fail> {
+    let alloc = rt.alloc();
+    let done = (0, "");
+    let limit = (7, "limit: frames 131072\n");
+    for (words, first, second, want) in [
+        (WORDS, 131_072, 0, done),
+        (WORDS, 131_073, 0, limit),
+        (TWO_TRACES, 65_536, 65_536, done),
+        (TWO_TRACES, 65_536, 65_537, limit),
+    ] {
+        let traces = vec![in alloc;
+            made_trace(alloc, "a.pcap", &HEADER, &[(0, first)])?,
+            made_trace(alloc, "b.pcap", &HEADER, &[(0, second)])?,
+        ]?;
+        assert!(rt;
+            made_run_ends(&rt, alloc, &words, traces, want)?,
+            "{first} and {second}"
+        );
+    }
+    Ok(())
+}
+
+#[test]
+fn bytes_of_all_traces_are_at_most_268435456(rt: HostRuntime) -> Result<(), Fail> {
+    let alloc = rt.alloc();
+    // A record of the first kind has 262,144 bytes, so one of the second ends a file of 2 ^ 28 bytes or of 2 ^ 27.
+    let full = [(262_128, 1_023), (262_104, 1)];
+    let over = [(262_128, 1_023), (262_105, 1)];
+    let half = [(262_128, 511), (262_104, 1)];
+    let more = [(262_128, 511), (262_105, 1)];
+    let done = (0, "");
+    let limit = (7, "limit: trace-bytes 268435456\n");
+    for (case, words, header, first, second, want) in [
+        ("all bytes in one trace", WORDS, HEADER, full, full, done),
+        ("a byte more", WORDS, HEADER, over, full, limit),
+        ("and a faulty header", WORDS, [0; 24], over, full, limit),
+        ("two halves", TWO_TRACES, HEADER, half, half, done),
+        (
+            "a byte more in a half",
+            TWO_TRACES,
+            HEADER,
+            half,
+            more,
+            limit,
+        ),
+    ] {
+        let traces = vec![in alloc;
+            made_trace(alloc, "a.pcap", &header, &first)?,
+            made_trace(alloc, "b.pcap", &HEADER, &second)?,
+        ]?;
+        assert!(rt; made_run_ends(&rt, alloc, &words, traces, want)?, "{case}");
     }
     Ok(())
 }
@@ -278,7 +532,7 @@ fn failed_output_leaves_the_status(rt: HostRuntime) -> Result<(), Fail> {
     let alloc = rt.alloc();
     let mut shelf = shelf_of(alloc, FORWARD, &[], &[])?;
     let mut say = MemorySink::new(alloc, vec![in alloc; 1]?);
-    assert_eq!(rt; run(&rt, alloc, &WORDS, &mut shelf, &mut say)?, 9);
+    assert_eq!(rt; run(&rt, alloc, &WORDS, &mut shelf, &mut say)?, 4);
     assert!(rt; say.text().is_empty());
     Ok(())
 }
