@@ -1,0 +1,111 @@
+//! The command `key_cost FILE ROUNDS`, by which `bench/keys` measures what the key of a frame costs.
+//!
+//! It reads a capture file, makes the key of every frame of it in each round, and prints a number that all keys go
+//! into, so that none is left out. It looks at no clock: two runs with different numbers of rounds differ only in
+//! keys, and whoever runs it takes the time of both.
+//!
+//! Nothing is promised of the number, which `bench/keys.c` makes too, and compares.
+#![tactic(auto)]
+
+ghost use Rattle.std.specs.Prelude.{◌^◌, ◌≤◌, length, IfOk};
+
+use anyhow::{Result, anyhow, bail};
+use edge_io::{RealShelf, read_all};
+use frame_keys::key_of;
+use ovs_fields::{FieldId, Key};
+use pcap_io::{Trace, read_trace};
+use std::alloc::Global;
+use std::env;
+
+/// The most bytes and frames of a capture file.
+const MOST_BYTES: usize = 1 << 30;
+
+const MOST_FRAMES: usize = 1 << 24;
+
+/// The port at which all frames come in.
+const PORT: u16 = 1;
+
+/// The fields that frames give. A round looks at one of them, and so no field is left out.
+const FIELDS: [FieldId; 17] = [
+    FieldId::InPort,
+    FieldId::DlSrc,
+    FieldId::DlDst,
+    FieldId::DlType,
+    FieldId::VlanTci,
+    FieldId::NwSrc,
+    FieldId::NwDst,
+    FieldId::Ipv6Src,
+    FieldId::Ipv6Dst,
+    FieldId::NwProto,
+    FieldId::NwTos,
+    FieldId::NwTtl,
+    FieldId::IpFrag,
+    FieldId::ArpSha,
+    FieldId::ArpTha,
+    FieldId::TpSrc,
+    FieldId::TpDst,
+];
+
+/// A call of its own, so that the whole key is made whichever field is looked at.
+#[inline(never)]
+fn key_at_port(frame: &[u8]) -> Key {
+    key_of(PORT, frame)
+}
+
+/// The number after the keys of all frames, of each of which one field goes in.
+fn round(number: u128, field: FieldId, frames: &[&[u8]]) -> u128 {
+    let mut number = number;
+    for frame in frames {
+        number = number.rotate_left(1) ^ key_at_port(frame).get(field);
+    }
+    number
+}
+
+fn rounds(count: u32, frames: &[&[u8]]) -> u128 {
+    let fields = FIELDS.iter().cycle();
+    fields
+        .take(count as usize)
+        .fold(0, |number, field| round(number, *field, frames))
+}
+
+fn frames_of(alloc: Global, trace: &Trace) -> Result<Vec<&[u8]>>
+    requires { length trace.now.frames ≤ 2 ^ 24 }
+{
+    let mut frames = Vec::with_capacity(alloc, trace.len())?;
+    for place in 1..=trace.len() as u32 {
+        frames.push(trace.frame(place))?;
+    }
+    Ok(frames)
+}
+
+fn trace_of(rt: &HostRuntime, name: &str) -> Result<Trace>
+    ensures { IfOk result (λ trace. length trace.frames ≤ 2 ^ 24) }
+{
+    let bytes = read_all(rt.alloc(), &mut RealShelf::new(rt), name, MOST_BYTES).map_err(
+        |fault| anyhow!("{name}: the file is not read: {fault:?}"),
+    )?;
+    read_trace(rt.alloc(), bytes, MOST_FRAMES).map_err(|fault| anyhow!(
+        "{name}: this is no capture file of Ethernet: {fault:?}"
+    ))
+}
+
+fn rounds_of(word: &str) -> Result<u32> {
+    word.parse::<u32>()
+        .map_err(|_| anyhow!("{word:?}: no number of rounds"))
+}
+
+fn main(rt: HostRuntime) -> Result<()> {
+    let words: Vec<String> = env::args(&rt)?.skip(1).collect(rt.alloc())?;
+    let [name, count] = words.as_slice() else {
+        bail!("use: key_cost FILE ROUNDS");
+    };
+    let count = rounds_of(count)?;
+    let trace = trace_of(&rt, name)?;
+    let frames = frames_of(rt.alloc(), &trace)?;
+    println!(rt;
+        "{:032x} frames={} rounds={count}",
+        rounds(count, &frames),
+        frames.len()
+    )?;
+    Ok(())
+}
