@@ -1,6 +1,8 @@
 #!/usr/bin/env python3
 """Compares the program with examples/simulate.py on made-up runs, some of them out of form.
 
+Their traces are of all four formats, mixed in a run: both orders of bytes, microseconds and nanoseconds.
+
     python3 compare.py PROGRAM ROUNDS
 
 Status, text and files of each run have to be the same, the journal among them. Round n is the same at each call. It
@@ -13,6 +15,7 @@ import struct
 import subprocess
 import sys
 import tempfile
+from collections import namedtuple
 
 sys.dont_write_bytecode = True
 sys.path.insert(0, os.path.join(os.path.dirname(os.path.abspath(__file__)), "..", "examples"))
@@ -28,12 +31,36 @@ ODD_OUTPUTS = [["drop", "1"], ["drop "], ["0"], ["65280"], [""], ["1", ""], ["ou
 ODD_WORDS = ["", "-", "--", "1", "=", "0=", "01=", "65280=", "1=", "1=a.pcap", "1=none", "none"]
 TRACES = ["a.pcap", "b.pcap", "c.pcap"]
 FRAME_LENGTHS = [0, 6, 13, 14, 60, 61, 200]
-# In seconds and microseconds, and sync times at them and round them, in order.
-FRAME_TIMES = [(0, 0), (1, 0), (2, 999998), (2, 999999), (3, 0), (4294967295, 0)]
+# In nanoseconds, and sync times at them and round them, in order. A trace in microseconds has no finer ones.
+SECOND = 1000000000
+FRAME_TIMES = [0, SECOND, SECOND + 1, 2999998000, 2999998499, 2999998500, 2999999000, 3 * SECOND - 1, 3 * SECOND]
+FRAME_TIMES += [4294967295 * SECOND, 4294967296 * SECOND - 1]
 SYNC_TIMES = ["0", "0.0", "1", "1.000000", "1.000000001", "2.9", "2.999998", "2.9999985", "2.999999", "2.999999001"]
 SYNC_TIMES += ["3", "3.00", "3.000000001", "4294967295", "4294967295.0000005", "4294967295.999999999"]
 BAD_TIMES = ["", "00", "01", "1.", ".5", "1.0000000001", "4294967296", "-1", "+1", "1e1", "0x1", "1,5", "1.5.5", "1 2"]
+ORDERS = ["<", ">"]
+# By the nanoseconds of the unit.
+MAGICS = {1000: 0xA1B2C3D4, 1: 0xA1B23C4D}
+# pcapng (both orders are the same), other formats of libpcap, and near ones.
+BAD_MAGICS = [0x0A0D0D0A, 0xA1B2CD34, 0xA1B2C3D5, 0xA1B2C34D, 0xC3D4A1B2, 0]
+BAD_VERSIONS = [(2, 3), (2, 5), (1, 4), (3, 4), (4, 2), (0x200, 0x400), (0, 0), (65535, 65535)]
+LINK_TYPES = [1, 1, 1, 0x10000001, 0xFFFF0001]
+BAD_LINK_TYPES = [0, 2, 101, 113, 0x10000, 0x01000000, 0xFFFF0000, 65535]
+SNAP_LENGTH = 262144
+BAD_LENGTHS = [SNAP_LENGTH + 1, 1 << 24, 1 << 31, (1 << 32) - 1]
 ODD_SYNCS = ["sync", " sync ", "sync1", "Sync 1", "syncs 1", "sync=1", "sync,1", "sync 1\v", "add sync 1", "sync\0 1"]
+
+
+# What a trace is made of; fraction is in the unit of the trace.
+Header = namedtuple("Header", "magic version snap_length link_type")
+Record = namedtuple("Record", "seconds fraction captured wire bytes")
+
+
+def trace_of(order, header, records):
+    made = [struct.pack(order + "IHHIIII", header.magic, *header.version, 0, 0, header.snap_length, header.link_type)]
+    for record in records:
+        made += [struct.pack(order + "IIII", *record[:4]), record.bytes]
+    return b"".join(made)
 
 
 class Maker:
@@ -118,16 +145,52 @@ class Maker:
         body = bytes(int(it, 16) for it in octets) + bytes(self.pick.randrange(256) for _ in range(8))
         return body.ljust(200, b"\x5a")[: self.one(*FRAME_LENGTHS)]
 
+    def record(self, unit):
+        frame = self.frame()
+        seconds, rest = divmod(self.one(*FRAME_TIMES), SECOND)
+        return Record(seconds, rest // unit, len(frame), self.one(len(frame), 1514), frame)
+
     def trace(self):
-        made = struct.pack("<IHHIIII", 0xA1B2C3D4, 2, 4, 0, 0, self.one(65535, 262144), self.one(1, 1, 0x10000001))
-        for _ in range(self.pick.randrange(12)):
-            frame = self.frame()
-            time = self.one(*FRAME_TIMES)
-            made += struct.pack("<IIII", *time, len(frame), self.one(len(frame), 1514)) + frame
-        if self.chance(0.05):
-            at = self.pick.randrange(len(made))
-            made = self.one(made[:at], made[:at] + bytes([self.pick.randrange(256)]) + made[at + 1 :], made + b"\0")
-        return made
+        """A trace of one of the four formats, now and then with a fault or two."""
+        order, unit = self.one(*ORDERS), self.one(1000, 1000, 1)
+        header = Header(MAGICS[unit], (2, 4), self.one(65535, SNAP_LENGTH), self.one(*LINK_TYPES))
+        records = [self.record(unit) for _ in range(self.pick.randrange(12))]
+        for _ in range(self.one(0, 0, 0, 0, 0, 0, 0, 1, 2)):
+            what = self.one("header", "record", "record", "file")
+            if what == "header":
+                header = self.bad_header(header)
+            elif what == "file":
+                return self.damaged(trace_of(order, header, records))
+            elif records:
+                self.spoil(records, unit)
+        return trace_of(order, header, records)
+
+    def bad_header(self, header):
+        changed = self.one(
+            {"magic": self.one(*BAD_MAGICS)},
+            {"version": self.one(*BAD_VERSIONS)},
+            {"link_type": self.one(*BAD_LINK_TYPES)},
+        )
+        return header._replace(**changed)
+
+    def spoil(self, records, unit):
+        """Spoils a record: bytes are missing, it is too long or very long, or its fraction is a second or more."""
+        at = self.pick.randrange(len(records))
+        length = self.one(SNAP_LENGTH, *BAD_LENGTHS)
+        fraction = self.one(SECOND // unit, SECOND // unit + 1, (1 << 32) - 1)
+        changed = self.one(
+            {"captured": len(records[at].bytes) + self.one(1, 16, 1 << 16)},
+            {"captured": length},
+            {"captured": length, "bytes": bytes(min(length, SNAP_LENGTH + 1))},
+            {"fraction": fraction},
+            {"fraction": fraction, "captured": length},
+        )
+        records[at] = records[at]._replace(**changed)
+
+    def damaged(self, made):
+        """Cut anywhere, also in the header; or with another byte, or one more."""
+        at = self.pick.randrange(self.one(24, len(made)))
+        return self.one(made[:at], made[:at] + bytes([self.pick.randrange(256)]) + made[at + 1 :], made + b"\0")
 
     def words(self):
         words = ["edits", "out", *(f"{it}={self.one('', *TRACES)}" for it in self.ports)]

@@ -6,9 +6,10 @@
 writes FOLDER/EXAMPLE/NAME.pcap for each example, and takes the folder of this script where none is given. The same
 bytes come at each run: nothing is random, and no clock is read. The traces in the repository were made so.
 
-A trace is a classic capture file (pcap-savefile(5)): little-endian, in microseconds, of Ethernet. Its frames are real:
-padded to the 60 bytes that Ethernet asks for (IEEE 802.3, 3.2.7), with right lengths and checksums. The stations have
-addresses that are set aside for documentation (RFC 5737) and MAC addresses that anyone may give (IEEE 802, 8.4).
+A trace is a classic capture file (pcap-savefile(5)) of Ethernet: little-endian and in microseconds, but for one that is
+big-endian and in nanoseconds. Its frames are real: padded to the 60 bytes that Ethernet asks for (IEEE 802.3, 3.2.7),
+with right lengths and checksums. The stations have addresses that are set aside for documentation (RFC 5737) and MAC
+addresses that anyone may give (IEEE 802, 8.4).
 """
 import os
 import struct
@@ -104,12 +105,21 @@ def spanning_tree(source, bridge_priority):
 # ---- traces
 
 
+def packed_trace(order, magic, second, frames):
+    file = struct.pack(order + "IHHIIII", magic, 2, 4, 0, 0, 262144, 1)
+    for time, frame in frames:
+        file += struct.pack(order + "IIII", time // second, time % second, len(frame), len(frame)) + frame
+    return file
+
+
 def trace(frames):
     """A capture file of frames, each with its time in microseconds."""
-    file = struct.pack("<IHHIIII", 0xA1B2C3D4, 2, 4, 0, 0, 262144, 1)
-    for time, frame in frames:
-        file += struct.pack("<IIII", time // 1000000, time % 1000000, len(frame), len(frame)) + frame
-    return file
+    return packed_trace("<", 0xA1B2C3D4, 1000000, frames)
+
+
+def big_endian_trace(frames):
+    """A capture file of frames, each with its time in nanoseconds."""
+    return packed_trace(">", 0xA1B23C4D, 1000000000, frames)
 
 
 # ---- the stations
@@ -183,10 +193,23 @@ def old_place():
     )
 
 
+# ---- two-captures
+
+
+def replies():
+    """What comes from the file server: its replies to the pings of the desk, within a microsecond."""
+    return big_endian_trace(
+        ((MORNING + number * 1000000) * 1000 + after, ping(FILE_SERVER, DESK, 0x3000 + number, number, ECHO_REPLY))
+        for number, after in [(1, 412), (2, 398)]
+    )
+
+
 TRACES = {
     "first-switch/desks.pcap": office,
     "rule-change/desk.pcap": pings,
     "rule-change/rack-a.pcap": old_place,
+    "two-captures/desk.pcap": pings,
+    "two-captures/server.pcap": replies,
 }
 
 

@@ -11,7 +11,7 @@ import struct
 import sys
 from collections import namedtuple
 
-DONE, READ_FAULT, WRITE_FAULT, NOT_BUILT = 0, 5, 6, 9
+DONE, BAD_TRACE, READ_FAULT, WRITE_FAULT, LIMIT, NOT_BUILT = 0, 4, 5, 6, 7, 9
 
 LAST_PORT = 65279
 MOST_PORTS = 32
@@ -26,8 +26,10 @@ MOST_FRAMES = 131072
 SNAP_LENGTH = 262144
 ETHERNET_HEADER = 14
 
+# In nanoseconds.
 SECOND = 1000000000
 MICROSECOND = 1000
+NANOSECOND = 1
 
 NUMBER = re.compile(rb"0|[1-9][0-9]*|0x[0-9a-fA-F]+")
 MAC = re.compile(rb"[0-9a-fA-F]{1,2}(:[0-9a-fA-F]{1,2}){5}")
@@ -41,7 +43,17 @@ Sync = namedtuple("Sync", "time after")
 # A block of a port: its frames, and how many rules are added before its end.
 Block = namedtuple("Block", "frames hi")
 Frame = namedtuple("Frame", "time port place bytes")
+# How a trace has its numbers, as struct names it, and the unit of its fractions of a second.
+Format = namedtuple("Format", "order unit")
 Result = namedtuple("Result", "status text files")
+
+# By the first four bytes of a file.
+FORMATS = {
+    b"\xd4\xc3\xb2\xa1": Format("<", MICROSECOND),
+    b"\x4d\x3c\xb2\xa1": Format("<", NANOSECOND),
+    b"\xa1\xb2\xc3\xd4": Format(">", MICROSECOND),
+    b"\xa1\xb2\x3c\x4d": Format(">", NANOSECOND),
+}
 
 
 class Refused(Exception):
@@ -51,6 +63,16 @@ class Refused(Exception):
 def check(holds, what):
     if not holds:
         raise Refused(NOT_BUILT, f"not built: {what}")
+
+
+def check_trace(holds, name, reason):
+    if not holds:
+        raise Refused(BAD_TRACE, f"{name}: {reason}")
+
+
+def check_limit(holds, quantity, most):
+    if not holds:
+        raise Refused(LIMIT, f"limit: {quantity} {most}")
 
 
 # ---- the words
@@ -134,39 +156,53 @@ def read_edits(data, name):
 # ---- traces
 
 
-def read_trace(data, port, name, bytes_left, frames_left):
-    check(24 <= len(data) <= bytes_left, name)
-    magic, major, minor, _, _, _, link_type = struct.unpack_from("<IHHIIII", data)
-    check((magic, major, minor, link_type & 0xFFFF) == (0xA1B2C3D4, 2, 4, 1), name)
+def read_format(data, name):
+    check_trace(len(data) >= 24, name, "short header")
+    check_trace(data[:4] in FORMATS, name, "magic")
+    form = FORMATS[data[:4]]
+    major, minor, _, _, _, link_type = struct.unpack_from(form.order + "HHIIII", data, 4)
+    check_trace((major, minor) == (2, 4), name, f"version {major}.{minor}")
+    check_trace(link_type & 0xFFFF == 1, name, f"link type {link_type & 0xFFFF}")
+    return form
+
+
+def read_frames(data, form, port, name, frames_left):
     frames, at = [], 24
     while at < len(data):
-        check(len(frames) < frames_left and at + 16 <= len(data), name)
-        seconds, fraction, length, _ = struct.unpack_from("<IIII", data, at)
-        at += 16
-        check(fraction < 1000000 and length <= SNAP_LENGTH and at + length <= len(data), name)
-        frames.append(Frame(seconds * SECOND + fraction * MICROSECOND, port, len(frames) + 1, data[at : at + length]))
-        at += length
+        check_limit(len(frames) < frames_left, "frames", MOST_FRAMES)
+        begin, end = at, at + 16
+        check_trace(end <= len(data), name, f"short record at {begin}")
+        seconds, fraction, length, _ = struct.unpack_from(form.order + "IIII", data, begin)
+        check_trace(length <= SNAP_LENGTH, name, f"too long at {begin}")
+        at = end + length
+        check_trace(at <= len(data), name, f"short record at {begin}")
+        check_trace(fraction * form.unit < SECOND, name, f"fraction at {begin}")
+        frames.append(Frame(seconds * SECOND + fraction * form.unit, port, len(frames) + 1, data[end:at]))
     return frames
 
 
 def read_traces(traces, read):
-    """The frames of each port. The limits are on all traces together."""
-    bytes_left, frames_left, frames = MOST_TRACE_BYTES, MOST_FRAMES, {}
+    """The frames of each port, and the finest unit of the traces. The limits are on all traces together."""
+    bytes_left, frames_left, frames, units = MOST_TRACE_BYTES, MOST_FRAMES, {}, [MICROSECOND]
     for port, name in traces.items():
         frames[port] = []
         if name:
             data = read(name)
-            frames[port] = read_trace(data, port, name, bytes_left, frames_left)
+            check_limit(len(data) <= bytes_left, "trace-bytes", MOST_TRACE_BYTES)
+            form = read_format(data, name)
+            frames[port] = read_frames(data, form, port, name, frames_left)
             bytes_left -= len(data)
             frames_left -= len(frames[port])
-    return frames
+            units.append(form.unit)
+    return frames, min(units)
 
 
-def write_trace(frames):
-    records = [struct.pack("<IHHIIII", 0xA1B2C3D4, 2, 4, 0, 0, SNAP_LENGTH, 1)]
+def write_trace(frames, unit):
+    magic = next(magic for magic, form in FORMATS.items() if form == Format("<", unit))
+    records = [magic + struct.pack("<HHIIII", 2, 4, 0, 0, SNAP_LENGTH, 1)]
     for frame in frames:
         seconds, rest, length = frame.time // SECOND, frame.time % SECOND, len(frame.bytes)
-        records += [struct.pack("<IIII", seconds, rest // MICROSECOND, length, length), frame.bytes]
+        records += [struct.pack("<IIII", seconds, rest // unit, length, length), frame.bytes]
     return b"".join(records)
 
 
@@ -242,12 +278,12 @@ def simulate(words, contents):
     try:
         edits, out, traces = read_words(words)
         added, syncs = read_edits(read(edits), edits)
-        frames = read_traces(traces, read)
+        frames, unit = read_traces(traces, read)
     except Refused as refused:
         return Result(refused.args[0], refused.args[1] + "\n", [])
     blocks = {port: blocks_of(frames[port], added, syncs) for port in traces}
     sent = sent_frames([block for port in traces for block in blocks[port]], added, traces)
-    files = [(f"{out}.p{port}.pcap", write_trace(sent[port])) for port in traces]
+    files = [(f"{out}.p{port}.pcap", write_trace(sent[port], unit)) for port in traces]
     journal = "".join(journal_of(port, blocks[port]) for port in traces)
     return Result(DONE, "", [*files, (f"{out}.journal", journal.encode())])
 
