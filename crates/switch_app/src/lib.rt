@@ -19,9 +19,10 @@
 //!   completed before, and no newer than the newest version that the board had carried.
 //! - The bytes of a port's file are those of the frames that these decisions send there, in the order of time, ingress
 //!   port and place.
-//! - Every other status has its cause: a count of faults that rose, or the first input in the order of reading whose
-//!   form isn't built. What stands then is said too: nothing is written before the run is accepted, and where writing
-//!   fails, the files before are whole, one has a front of its bytes, and none behind it is written.
+//! - Every other status has its cause: a count of faults that rose, or the first refusal in the order of reading, which
+//!   is a trace by its fault, a quantity above its limit, or an input whose form isn't built. The status and the text
+//!   are those of that refusal. What stands then is said too: nothing is written before the run is accepted, and where
+//!   writing fails, the files before are whole, one has a front of its bytes, and none behind it is written.
 //! - A run that is accepted and meets no fault ends with status 0, unless memory is wanting.
 //!
 //! # How
