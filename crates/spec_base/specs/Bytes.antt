@@ -1,4 +1,4 @@
--- Numbers that stand in bytes. A byte behind the end of the list reads as 0.
+-- Numbers that stand in bytes. A byte after the end of the list reads as 0.
 use Rattle.std.specs.Prelude.{ℕ, zero, suc, ◌+◌, ◌*◌, ◌^◌, List, slice_index}
 use Rattle.std.specs.Int.{bytes_high_first, bytes_low_first}
 

@@ -1,4 +1,5 @@
 pub mod Counts
+pub mod Files
 pub mod Bytes
 pub mod Bits
 pub mod Machine

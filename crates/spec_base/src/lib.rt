@@ -1,6 +1,7 @@
 //! The words that every other specification crate uses, and no code.
 //!
 //! - `Counts`: when a count of faults rose in a call.
+//! - `Files`: files by name and bytes, and when a prefix of one was written.
 //! - `Bytes`: numbers that stand in bytes, most or least significant byte first.
 //! - `Bits`: the leading bits of a number of a given width.
 //! - `Machine`: a journal of steps of any machine: when it is legal, and the state that it leads to.

@@ -1,12 +1,12 @@
 -- Worked rows: what the definitions say of chosen fields, keys and masks. Each row tells a wrong definition.
-use Rattle.std.specs.Prelude.{◌≡◌, ℕ, zero, suc, true, false, List, [], ◌∷◌, length, map, take, slice_set, refl}
-use Rattle.std.proofs.Common.{lit<, lit≤, arith}
-use Rattle.std.proofs.lemmas.List.{get_or-replicate}
-use Rattle.std.proofs.Math.Nat.{ne_of_lt, ne_of_gt}
+use Rattle.std.specs.Prelude.{◌≡◌, ℕ, true, false, not, List, [], ◌∷◌, length, map, filter, drop, slice_set, refl}
+use Rattle.std.specs.List.{range_with_len}
+use Rattle.std.proofs.Common.{lit<}
+use Rattle.std.proofs.Math.Nat.{ne_of_lt}
 use Rattle.spec_keys.specs.declared.field_id.FieldId.{FieldId}
-use Rattle.spec_keys.specs.declared.field_id.FieldId.TheVariants.{InPort, Metadata, Reg15, DlSrc, DlDst, DlType, VlanTci, NwSrc, NwDst, Ipv6Src, Ipv6Dst, NwProto, NwTos, NwTtl, IpFrag, ArpSha, ArpTha, TpSrc, TpDst}
-use Rattle.spec_keys.specs.Fields.{Decimal, Hexadecimal, FourDigits, Mac, Ipv4, Ipv6, Fragment, field_of, place_of, width_of, stage_of, fields, widths, stages}
-use Rattle.spec_keys.specs.Keys.{value_of, none, masked, same, agree, joined, common_bits, covers, overlap, only_at, IsKey, IsClean}
+use Rattle.spec_keys.specs.declared.field_id.FieldId.TheVariants.{InPort, Metadata, Reg0, Reg1, Reg2, Reg3, Reg4, Reg5, Reg6, Reg7, Reg8, Reg9, Reg10, Reg11, Reg12, Reg13, Reg14, Reg15, DlSrc, DlDst, DlType, VlanTci, NwSrc, NwDst, Ipv6Src, Ipv6Dst, NwProto, NwTos, NwTtl, IpFrag, ArpSha, ArpTha, TpSrc, TpDst}
+use Rattle.spec_keys.specs.Fields.{Decimal, Hexadecimal, FourDigits, Mac, Ipv4, Ipv6, Fragment, field_of, place_of, width_of, stage_of, fields, register_fields, field_count, widths, stages}
+use Rattle.spec_keys.specs.Keys.{value_of, none, masked, same, agree, joined, common_bits, covers, overlap, only_at, are_zero, IsKey, IsClean}
 use Rattle.spec_keys.specs.Hash.{hash_bytes, field_bytes, key_hash}
 
 -- The table of the fields.
@@ -22,9 +22,10 @@ arp_sha_is_of_stage_two = refl
 tp_dst_is_of_stage_three : stage_of TpDst ≡ 3
 tp_dst_is_of_stage_three = refl
 
-fields_stand_in_their_places : map place_of fields ≡
-    0 ∷ 1 ∷ 2 ∷ 3 ∷ 4 ∷ 5 ∷ 6 ∷ 7 ∷ 8 ∷ 9 ∷ 10 ∷ 11 ∷ 12 ∷ 13 ∷ 14 ∷ 15 ∷ 16 ∷ 17 ∷
-    18 ∷ 19 ∷ 20 ∷ 21 ∷ 22 ∷ 23 ∷ 24 ∷ 25 ∷ 26 ∷ 27 ∷ 28 ∷ 29 ∷ 30 ∷ 31 ∷ 32 ∷ 33 ∷ []
+a_key_has_34_fields : field_count ≡ 34
+a_key_has_34_fields = refl
+
+fields_stand_in_their_places : map place_of fields ≡ range_with_len 0 field_count
 fields_stand_in_their_places = refl
 
 width_of_each_field : widths ≡
@@ -75,9 +76,9 @@ abbrev two : List ℕ
 two = with_field (with_field none NwDst 0x0a000002) TpDst 80
 
 -- Keys and masks.
-none_has_34_numbers : length none ≡ 34
+none_has_a_number_for_each_field : length none ≡ field_count
 unfolding none
-none_has_34_numbers = refl
+none_has_a_number_for_each_field = refl
 
 none_is_zero_in_the_last_field : value_of none TpDst ≡ 0
 unfolding none
@@ -152,18 +153,20 @@ a_number_beyond_its_width_is_no_key : IsKey (with_field none IpFrag 4) → ⊥
 unfolding none widths
 a_number_beyond_its_width_is_no_key is_key = ne_of_lt (is_key.fit 29) refl
 
-a_list_of_33_numbers_is_no_key : IsKey (take 33 none) → ⊥
+a_list_without_its_last_number_is_no_key : IsKey (drop 1 none) → ⊥
 unfolding none
-a_list_of_33_numbers_is_no_key is_key = ne_of_lt (lit< tt) is_key.fields
+a_list_without_its_last_number_is_no_key is_key = ne_of_lt (lit< tt) is_key.fields
 
 a_key_with_a_port_is_clean : IsClean (with_field none InPort 5)
 unfolding none
-a_key_with_a_port_is_clean zero at_least_one at_most_17 = absurd (omega arith)
-a_key_with_a_port_is_clean (suc place) at_least_one at_most_17 = get_or-replicate 33 place 0 0 (omega arith)
+a_key_with_a_port_is_clean = refl
 
-a_key_with_a_register_is_not_clean : IsClean (with_field none Reg15 1) → ⊥
+-- the fields that are 0 in every clean key
+metadata_and_the_registers_are_never_in_a_clean_key :
+    filter (λ f. not (are_zero register_fields (with_field none f 1))) fields
+    ≡ Metadata ∷ Reg0 ∷ Reg1 ∷ Reg2 ∷ Reg3 ∷ Reg4 ∷ Reg5 ∷ Reg6 ∷ Reg7 ∷ Reg8 ∷ Reg9 ∷ Reg10 ∷ Reg11 ∷ Reg12 ∷ Reg13 ∷ Reg14 ∷ Reg15 ∷ []
 unfolding none
-a_key_with_a_register_is_not_clean is_clean = ne_of_gt (lit< tt) (is_clean 17 (lit≤ tt) (lit≤ tt))
+metadata_and_the_registers_are_never_in_a_clean_key = refl
 
 -- The hash: numbers computed by an independent FNV-1a.
 hash_of_the_zero_key : key_hash none ≡ 0xb0f1e1ed2939f27d

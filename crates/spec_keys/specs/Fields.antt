@@ -1,6 +1,6 @@
 -- The fields of a key: ovs-fields(7) has their names, widths and meanings. The stages, in which a lookup tests the
 -- fields (NSDI 2015, section 5.3), are this profile's.
-use Rattle.std.specs.Prelude.{ℕ, List, [], ◌∷◌, map}
+use Rattle.std.specs.Prelude.{ℕ, List, [], ◌∷◌, length, map}
 use Rattle.spec_keys.specs.declared.field_id.FieldId.{FieldId}
 use Rattle.spec_keys.specs.declared.field_id.FieldId.TheVariants.{InPort, Metadata, Reg0, Reg1, Reg2, Reg3, Reg4, Reg5, Reg6, Reg7, Reg8, Reg9, Reg10, Reg11, Reg12, Reg13, Reg14, Reg15, DlSrc, DlDst, DlType, VlanTci, NwSrc, NwDst, Ipv6Src, Ipv6Dst, NwProto, NwTos, NwTtl, IpFrag, ArpSha, ArpTha, TpSrc, TpDst}
 
@@ -77,6 +77,16 @@ fields =
     Reg14 ∷ Reg15 ∷ DlSrc ∷ DlDst ∷ DlType ∷ VlanTci ∷ NwSrc ∷ NwDst ∷
     Ipv6Src ∷ Ipv6Dst ∷ NwProto ∷ NwTos ∷ NwTtl ∷ IpFrag ∷ ArpSha ∷ ArpTha ∷
     TpSrc ∷ TpDst ∷ []
+
+-- metadata and the registers, which no frame carries
+abbrev pub register_fields : List FieldId
+register_fields =
+    Metadata ∷ Reg0 ∷ Reg1 ∷ Reg2 ∷ Reg3 ∷ Reg4 ∷ Reg5 ∷ Reg6 ∷ Reg7 ∷ Reg8 ∷ Reg9 ∷ Reg10 ∷
+    Reg11 ∷ Reg12 ∷ Reg13 ∷ Reg14 ∷ Reg15 ∷ []
+
+-- how many fields a key has
+abbrev pub field_count : ℕ
+field_count = length fields
 
 -- the width of each field, in the order of the key
 unfoldable pub widths : List ℕ

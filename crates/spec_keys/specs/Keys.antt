@@ -1,11 +1,8 @@
 -- Keys and masks: lists with one number for each field (NSDI 2015, section 3: flow keys and wildcards).
-use Rattle.std.specs.Prelude.{◌≡◌, ℕ, zero, suc, ◌≤◌, ◌<◌, ◌^◌, Bool, true, false, ◌&&◌, ◌==◌, List, [], ◌∷◌, length, replicate, get_or, bit_and, bit_or}
+use Rattle.std.specs.Prelude.{◌≡◌, ℕ, zero, suc, ◌<◌, ◌^◌, Bool, true, false, ◌&&◌, ◌==◌, IsTrue, List, [], ◌∷◌, length, replicate, get_or, bit_and, bit_or}
+use Rattle.std.specs.List.{list_all}
 use Rattle.spec_keys.specs.declared.field_id.FieldId.{FieldId}
-use Rattle.spec_keys.specs.Fields.{place_of, widths}
-
--- how many fields a key has
-abbrev pub field_count : ℕ
-field_count = 34
+use Rattle.spec_keys.specs.Fields.{place_of, widths, field_count, register_fields}
 
 -- the number at a place of a key or a mask
 abbrev pub number_at : List ℕ → ℕ → ℕ
@@ -64,6 +61,10 @@ pub record IsKey (key : List ℕ) : Type 0 where
   pub fields : length key ≡ field_count
   pub fit : (place : ℕ) → number_at key place < 2 ^ number_at widths place
 
--- Metadata and the registers, which no frame carries, are 0.
+-- whether each of these fields is 0 in a key
+abbrev pub are_zero : List FieldId → List ℕ → Bool
+are_zero fs key = list_all (λ f. value_of key f == 0) fs
+
+-- Metadata and the registers are 0.
 abbrev pub IsClean : List ℕ → Type 0
-IsClean key = (place : ℕ) → 1 ≤ place → place ≤ 17 → number_at key place ≡ 0
+IsClean key = IsTrue (are_zero register_fields key)

@@ -1,7 +1,7 @@
 //! Fields, keys and masks of a packet, after ovs-fields(7).
 //!
-//! A packet is classified by 34 fields. A *key* has a number for each field and a *mask* a number whose bits say
-//! which bits of the field count; definitions see both as lists of 34 numbers, in the order of the fields.
+//! A packet is classified by its fields. A *key* has a number for each field and a *mask* a number whose bits say
+//! which bits of the field count; definitions see both as lists of these numbers, in the order of the fields.
 //!
 //! - `Fields`: the one table of the fields, with the number, width, stage and printed form of each.
 //! - `Keys`: two keys *agree* under a mask where they have the same bits wherever the mask has 1; a mask *covers*
