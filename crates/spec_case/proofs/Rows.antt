@@ -5,8 +5,8 @@ use Rattle.spec_tables.specs.declared.edit_word.EditWord.TheVariants.{Add}
 use Rattle.spec_tables.specs.Edits.{Edit}
 use Rattle.spec_case.specs.declared.arrival.Arrival.{Arrival}
 use Rattle.spec_case.specs.Run.{Run, frames_in, frame_at, is_nanos}
-use Rattle.spec_case.specs.declared.sync_point.SyncPoint.{SyncPoint}
-use Rattle.spec_case.specs.Blocks.{hi, lo, ends_behind, block_ends, last_place, block_of}
+use Rattle.spec_tables.specs.declared.sync_point.SyncPoint.{SyncPoint}
+use Rattle.spec_case.specs.Blocks.{hi, lo, ends_after, block_ends, last_place, block_of}
 use Rattle.spec_case.specs.Arrivals.{arrivals_at, arrivals_in, arrivals, put_in_order, in_order}
 
 abbrev at : ℕ → ℕ → ℕ → Arrival
@@ -18,7 +18,7 @@ frame time byte = record { time = time; bytes = byte ∷ [] }
 abbrev trace : Bool → List Frame → Capture
 trace nanos frames = record { nanos = nanos; frames = frames }
 
--- Port 7 comes first in the words, and port 2 behind it. The times of port 7 fall and rise.
+-- Port 7 comes first in the words, and port 2 after it. The times of port 7 fall and rise.
 abbrev run : Run
 run = record {
   ports = 7 ∷ 2 ∷ 9 ∷ [];
@@ -74,30 +74,30 @@ blocks times syncs places = map (block_of (timed times syncs) 1) places
 a_block_ends_before_the_first_frame_that_is_not_before_the_next_sync_point :
     (blocks (1 ∷ 3 ∷ 2 ∷ []) (sync 2 0 ∷ []) (1 ∷ 2 ∷ 3 ∷ []) ≡ 0 ∷ 1 ∷ 1 ∷ [])
     × (last_place (timed (1 ∷ 3 ∷ 2 ∷ []) (sync 2 0 ∷ [])) 1 0 ≡ 1)
-unfolding ends_behind frames_in
+unfolding ends_after frames_in
 a_block_ends_before_the_first_frame_that_is_not_before_the_next_sync_point = (refl, refl)
 
-a_frame_of_the_time_of_a_sync_point_is_behind_it : blocks (1 ∷ 2 ∷ []) (sync 2 0 ∷ []) (1 ∷ 2 ∷ []) ≡ 0 ∷ 1 ∷ []
-unfolding ends_behind frames_in
-a_frame_of_the_time_of_a_sync_point_is_behind_it = refl
+a_frame_of_the_time_of_a_sync_point_is_after_it : blocks (1 ∷ 2 ∷ []) (sync 2 0 ∷ []) (1 ∷ 2 ∷ []) ≡ 0 ∷ 1 ∷ []
+unfolding ends_after frames_in
+a_frame_of_the_time_of_a_sync_point_is_after_it = refl
 
 a_sync_point_at_0_leaves_block_0_without_frames : blocks (0 ∷ 5 ∷ []) (sync 0 0 ∷ []) (1 ∷ 2 ∷ []) ≡ 1 ∷ 1 ∷ []
-unfolding ends_behind frames_in
+unfolding ends_after frames_in
 a_sync_point_at_0_leaves_block_0_without_frames = refl
 
 between_sync_points_of_one_time_no_frame_stands :
     blocks (1 ∷ 2 ∷ 3 ∷ []) (sync 2 0 ∷ sync 2 0 ∷ sync 3 0 ∷ []) (1 ∷ 2 ∷ 3 ∷ []) ≡ 0 ∷ 2 ∷ 3 ∷ []
-unfolding ends_behind frames_in
+unfolding ends_after frames_in
 between_sync_points_of_one_time_no_frame_stands = refl
 
 a_port_without_frames_has_empty_blocks : block_ends (timed [] (sync 2 0 ∷ sync 3 0 ∷ [])) 1 ≡ 0 ∷ 0 ∷ 0 ∷ []
-unfolding ends_behind frames_in
+unfolding ends_after frames_in
 a_port_without_frames_has_empty_blocks = refl
 
 abbrev edit : Edit
 edit = record { word = Add; table = None; priority = 0; cookie = None; matching = record { key = []; mask = [] }; actions = [] }
 
--- Three edits, with a sync point behind the first and another behind the second.
+-- Three edits, with a sync point after the first and another after the second.
 abbrev edited : Run
 edited = record (timed [] (sync 2 1 ∷ sync 2 2 ∷ [])) { edits = replicate 3 edit }
 

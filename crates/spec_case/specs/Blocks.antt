@@ -3,8 +3,8 @@ use Rattle.std.specs.Prelude.{ℕ, zero, suc, ◌+◌, ◌≤◌, nat_lt, List, 
 use Rattle.std.specs.List.{prefix_len}
 use Rattle.std.specs.Option.{option_map_or}
 use Rattle.spec_pcap.specs.Pcap.{Frame}
-use Rattle.spec_case.specs.declared.sync_point.SyncPoint.{SyncPoint}
-use Rattle.spec_case.specs.Run.{Run, frames_of}
+use Rattle.spec_tables.specs.declared.sync_point.SyncPoint.{SyncPoint}
+use Rattle.spec_case.specs.Run.{Run, last_version, frames_of}
 
 abbrev pub last_block : Run → ℕ
 last_block run = length run.syncs
@@ -13,14 +13,14 @@ last_block run = length run.syncs
 abbrev pub edits_through : List SyncPoint → ℕ → ℕ → ℕ
 edits_through syncs edits block = option_map_or (λ (s : SyncPoint). s.after) (slice_get syncs block) edits
 
--- Behind each sync point stand at least as many edits as behind the one before it, and at most all.
+-- After each sync point stand at least as many edits as after the one before it, and at most all.
 abbrev pub AreInOrder : List SyncPoint → ℕ → Type 0
 AreInOrder syncs edits =
     (block : ℕ) → (edits_through syncs edits block ≤ edits_through syncs edits (block + 1)) × (edits_through syncs edits block ≤ edits)
 
 -- the number of edits through a block
 abbrev pub hi : Run → ℕ → ℕ
-hi run block = edits_through run.syncs (length run.edits) block
+hi run block = edits_through run.syncs (last_version run) block
 
 -- the number of edits before a block
 abbrev pub lo : Run → ℕ → ℕ
@@ -31,16 +31,16 @@ lo run (suc block) = hi run block
 abbrev pub frames_before : ℕ → List Frame → ℕ
 frames_before time frames = prefix_len (λ (f : Frame). nat_lt f.time time) frames
 
--- The last place of each block of a trace, behind these many places of earlier blocks. A block ends before the first
+-- The last place of each block of a trace, after these many places of earlier blocks. A block ends before the first
 -- remaining frame that isn't before the time of the next sync point; the last block has all that is left.
-unfoldable pub ends_behind : ℕ → List SyncPoint → List Frame → List ℕ
-ends_behind places [] frames = (places + length frames) ∷ []
-ends_behind places (s ∷ syncs) frames =
+unfoldable pub ends_after : ℕ → List SyncPoint → List Frame → List ℕ
+ends_after places [] frames = (places + length frames) ∷ []
+ends_after places (s ∷ syncs) frames =
     let n = frames_before s.time frames in
-    (places + n) ∷ ends_behind (places + n) syncs (drop n frames)
+    (places + n) ∷ ends_after (places + n) syncs (drop n frames)
 
 abbrev pub block_ends : Run → ℕ → List ℕ
-block_ends run port = ends_behind 0 run.syncs (frames_of run port)
+block_ends run port = ends_after 0 run.syncs (frames_of run port)
 
 -- the last place of a port's trace that is in a block or before it
 abbrev pub last_place : Run → ℕ → ℕ → ℕ

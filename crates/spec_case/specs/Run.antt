@@ -1,9 +1,9 @@
 -- What the words and the files of one run give.
-use Rattle.std.specs.Prelude.{ℕ, ◌==◌, Bool, if◌then◌else◌, List, [], ◌∷◌}
+use Rattle.std.specs.Prelude.{ℕ, ◌==◌, Bool, if◌then◌else◌, List, [], ◌∷◌, length}
 use Rattle.std.specs.List.{list_any}
 use Rattle.spec_pcap.specs.Pcap.{Frame, Capture, frame_number}
 use Rattle.spec_tables.specs.Edits.{Edit}
-use Rattle.spec_case.specs.declared.sync_point.SyncPoint.{SyncPoint}
+use Rattle.spec_tables.specs.declared.sync_point.SyncPoint.{SyncPoint}
 use Rattle.spec_case.specs.declared.run_step.RunStep.{RunStep}
 
 -- the ports in the order of the words, the edits and the sync points of their tables, and the trace of each port; the
@@ -15,6 +15,10 @@ pub record Run : Type 0 where
   pub traces : List Capture
   pub flow_limit : ℕ
   pub steps : List RunStep
+
+-- the last version of the tables: each edit makes one
+abbrev pub last_version : Run → ℕ
+last_version run = length run.edits
 
 -- the frames of a port's trace
 unfoldable pub frames_in : List ℕ → List Capture → ℕ → List Frame

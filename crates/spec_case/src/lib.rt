@@ -9,8 +9,6 @@
 
 mod arrival;
 mod run_step;
-mod sync_point;
 
 pub use arrival::Arrival;
 pub use run_step::RunStep;
-pub use sync_point::SyncPoint;

@@ -1,5 +1,6 @@
 -- Rows: winners, and the versions that edits make.
-use Rattle.std.proofs.Common.{◌≡◌, ℕ, List, [], ◌∷◌, map, Option, Some, None, refl}
+use Rattle.std.proofs.Common.{◌≡◌, ℕ, true, false, List, [], ◌∷◌, map, Option, Some, None, refl}
+use Rattle.std.specs.Option.{option_map}
 use Rattle.spec_keys.specs.declared.field_id.FieldId.TheVariants as field
 use Rattle.spec_keys.specs.Keys.{none, masked, same, joined}
 use Rattle.spec_actions.specs.declared.action.OfAction.{OfAction}
@@ -8,6 +9,7 @@ use Rattle.spec_tables.specs.declared.edit_word.EditWord.{EditWord}
 use Rattle.spec_tables.specs.declared.edit_word.EditWord.TheVariants.{Add, Modify, ModifyStrict, Delete, DeleteStrict}
 use Rattle.spec_tables.specs.Rules.{Rule, rules_in, winner}
 use Rattle.spec_tables.specs.Edits.{Edit, version}
+use Rattle.spec_tables.specs.Live.{rule_added, rule_numbered, is_live}
 use Rattle.spec_tables.proofs.Packets.{Stated, is, begins, key_of, mask_of, match_of}
 
 -- ---- winners
@@ -68,9 +70,12 @@ record Live : Type 0 where
   cookie : ℕ
   actions : List OfAction
 
+abbrev shown : Rule → Live
+shown r = record { number = r.number; table = r.table; priority = r.priority; cookie = r.cookie; actions = r.actions }
+
 unfoldable live : List Edit → ℕ → List Live
 unfolding none masked same joined key_of mask_of version
-live edits v = map (λ r. record { number = r.number; table = r.table; priority = r.priority; cookie = r.cookie; actions = r.actions }) (version edits v)
+live edits v = map shown (version edits v)
 
 -- a rule of table 0, the usual priority and no cookie, with one output
 abbrev sends : ℕ → ℕ → Live
@@ -117,6 +122,35 @@ a_loose_delete_reaches_more_specific_rules_and_no_wider_ones :
 unfolding live
 a_loose_delete_reaches_more_specific_rules_and_no_wider_ones = (refl, refl)
 
+a_version_after_the_last_edit_is_that_of_the_last_edit : live five_edits 9 ≡ sends 5 5 ∷ []
+unfolding live
+a_version_after_the_last_edit_is_that_of_the_last_edit = refl
+
+a_modify_that_reaches_no_rule_adds_none :
+    (live (edit Modify port_1 4 ∷ []) 1 ≡ []) × (live (edit ModifyStrict port_1 4 ∷ []) 1 ≡ [])
+unfolding live
+a_modify_that_reaches_no_rule_adds_none = (refl, refl)
+
+-- two networks whose addresses are the same number
+abbrev slash_8 : List Stated
+slash_8 = begins field.NwDst 0x0a000000 8 ∷ []
+
+abbrev slash_16 : List Stated
+slash_16 = begins field.NwDst 0x0a000000 16 ∷ []
+
+matches_of_the_same_number_under_other_masks_are_two :
+    (live (edit Add slash_8 2 ∷ edit Add slash_16 3 ∷ []) 2 ≡ sends 1 2 ∷ sends 2 3 ∷ [])
+    × (live (edit Add slash_8 2 ∷ edit Add slash_16 3 ∷ edit DeleteStrict slash_16 0 ∷ []) 3 ≡ sends 1 2 ∷ [])
+unfolding live
+matches_of_the_same_number_under_other_masks_are_two = (refl, refl)
+
+-- of another number under the same mask, and of the same number without a mask
+a_loose_word_reaches_no_rule_of_another_number_or_of_fewer_bits :
+    (live (edit Add port_1 2 ∷ edit Modify (is field.InPort 2 ∷ []) 4 ∷ []) 2 ≡ sends 1 2 ∷ [])
+    × (live (edit Add [] 2 ∷ edit Delete (is field.InPort 0 ∷ []) 0 ∷ []) 2 ≡ sends 1 2 ∷ [])
+unfolding live
+a_loose_word_reaches_no_rule_of_another_number_or_of_fewer_bits = (refl, refl)
+
 -- the same edit at another priority, in another table, or with a cookie
 abbrev at_priority : ℕ → Edit → Edit
 at_priority p e = record e { priority = p }
@@ -135,9 +169,11 @@ an_add_of_another_priority_replaces_nothing = refl
 
 the_loose_words_do_not_mind_priorities_and_the_strict_ones_do :
     (live (edit Add port_1 2 ∷ at_priority 7 (edit Modify port_1 4) ∷ []) 2 ≡ sends 1 4 ∷ [])
-    × (live (edit Add port_1 2 ∷ at_priority 7 (edit ModifyStrict port_1 4) ∷ []) 2 ≡ sends 1 2 ∷ [])
+    × ((live (edit Add port_1 2 ∷ at_priority 7 (edit ModifyStrict port_1 4) ∷ []) 2 ≡ sends 1 2 ∷ [])
+    × ((live (edit Add port_1 2 ∷ at_priority 7 (edit Delete port_1 0) ∷ []) 2 ≡ [])
+    × (live (edit Add port_1 2 ∷ at_priority 7 (edit DeleteStrict port_1 0) ∷ []) 2 ≡ sends 1 2 ∷ [])))
 unfolding live
-the_loose_words_do_not_mind_priorities_and_the_strict_ones_do = (refl, refl)
+the_loose_words_do_not_mind_priorities_and_the_strict_ones_do = (refl, (refl, (refl, refl)))
 
 abbrev in_table_3 : Live
 in_table_3 = record { number = 1; table = 3; priority = 32768; cookie = 0; actions = Output 2 ∷ [] }
@@ -161,6 +197,40 @@ a_modify_without_a_cookie_keeps_that_of_the_rule :
     × (live (edit Add port_1 2 ∷ with_cookie 9 (edit Modify port_1 4) ∷ []) 2 ≡ cookie_9 4 ∷ [])
 unfolding live
 a_modify_without_a_cookie_keeps_that_of_the_rule = (refl, refl)
+
+no_delete_minds_a_cookie :
+    (live (edit Add port_1 2 ∷ with_cookie 9 (edit Delete port_1 0) ∷ []) 2 ≡ [])
+    × (live (edit Add port_1 2 ∷ with_cookie 9 (edit DeleteStrict port_1 0) ∷ []) 2 ≡ [])
+unfolding live
+no_delete_minds_a_cookie = (refl, refl)
+
+-- ---- rules by their numbers
+
+-- one edit of each kind, after two rules; the fifth edit leaves the first of them
+abbrev each_word : List Edit
+each_word = edit Add port_1 2 ∷ edit Add port_1_to_2 3 ∷ edit Modify port_1 4 ∷ edit ModifyStrict port_1 5
+    ∷ edit DeleteStrict port_1_to_2 0 ∷ edit Delete port_1 0 ∷ []
+
+abbrev added : ℕ → Option Live
+added number = option_map shown (rule_added each_word number)
+
+adds_alone_add_a_rule_of_their_number_and_it_is_shown_as_it_was_added :
+    map added (0 ∷ 1 ∷ 2 ∷ 3 ∷ 4 ∷ 5 ∷ 6 ∷ 7 ∷ [])
+    ≡ None ∷ Some (sends 1 2) ∷ Some (sends 2 3) ∷ None ∷ None ∷ None ∷ None ∷ None ∷ []
+unfolding live
+adds_alone_add_a_rule_of_their_number_and_it_is_shown_as_it_was_added = refl
+
+a_rule_among_rules_is_found_by_its_number_as_it_is_there :
+    map (λ number. option_map shown (rule_numbered number (version each_word 5))) (0 ∷ 1 ∷ 2 ∷ 4 ∷ [])
+    ≡ None ∷ Some (sends 1 5) ∷ None ∷ None ∷ []
+unfolding live
+a_rule_among_rules_is_found_by_its_number_as_it_is_there = refl
+
+a_rule_is_live_from_its_add_to_its_delete :
+    (map (λ v. is_live 2 (version each_word v)) (1 ∷ 2 ∷ 4 ∷ 5 ∷ []) ≡ false ∷ true ∷ true ∷ false ∷ [])
+    × (map (λ v. is_live 0 (version each_word v)) (2 ∷ []) ≡ false ∷ [])
+unfolding live
+a_rule_is_live_from_its_add_to_its_delete = (refl, refl)
 
 -- ---- tables
 

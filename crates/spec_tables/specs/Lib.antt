@@ -1,3 +1,4 @@
 pub mod Rules
 pub mod Edits
 pub mod Live
+pub mod Outputs

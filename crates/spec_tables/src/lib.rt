@@ -6,8 +6,11 @@
 //! - `Rules`: matches, rules, and the *winner* of a table for a key: the matching rule of the greatest priority, of
 //!   equal ones that of the least number.
 //! - `Edits`: what each kind of edit does, and the versions.
+//! - `SyncPoint`: a time that stands between two edits.
 #![tactic(auto)]
 
 mod edit_word;
+mod sync_point;
 
 pub use edit_word::EditWord;
+pub use sync_point::SyncPoint;
