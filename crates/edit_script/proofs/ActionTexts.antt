@@ -6,11 +6,11 @@ use Rattle.std.specs.Option.{option_map}
 use denote.Ref.{Bor}
 use Rattle.spec_actions.specs.declared.action.OfAction.{OfAction}
 use Rattle.spec_tables.specs.Edits.{Edit}
-use Rattle.spec_text.specs.Numbers.{behind}
-use Rattle.spec_text.specs.Script.{Stated, output_of, outputs_of, actions_of, with_item, added, flow_of}
+use Rattle.spec_numbers.specs.Numbers.{strip_prefix}
+use Rattle.spec_flow_text.specs.FlowText.{Stated, output_of, outputs_of, actions_of, with_item, added, flow_of}
 use Rattle.edit_script.specs.ScriptViews.{texts_of}
 
--- the text at a place, and those behind it
+-- the text at a place, and those after it
 text_at : (texts : List (Bor (List ℕ))) (i : ℕ) (d : Bor (List ℕ)) → i < length texts
     → texts_of (drop i texts) ≡ (get_or texts i d).now ∷ texts_of (drop (i + 1) texts)
 text_at texts i d lt = rw (drop_more texts i d lt) refl
@@ -54,7 +54,7 @@ all_outputs before texts i all le so_far =
 -- ---- items
 
 pub next_is_actions : (s : Stated) (texts : List (Bor (List ℕ))) (i : ℕ) (d : Bor (List ℕ)) (first : List ℕ) (all : Option Edit) → i < length texts
-    → Some first ≡ behind (codes "actions=") (get_or texts i d).now → flow_of s (texts_of (drop i texts)) ≡ all
+    → Some first ≡ strip_prefix (codes "actions=") (get_or texts i d).now → flow_of s (texts_of (drop i texts)) ≡ all
     → all ≡ option_map (added s) (actions_of (first ∷ texts_of (drop (i + 1) texts)))
 unfolding flow_of
 next_is_actions s texts i d first all lt is so_far =
@@ -62,7 +62,7 @@ next_is_actions s texts i d first all lt is so_far =
     sym so_far ∙ step
 
 pub next_is_item : (s more : Stated) (texts : List (Bor (List ℕ))) (i : ℕ) (d : Bor (List ℕ)) (all : Option Edit) → i < length texts
-    → None ≡ behind (codes "actions=") (get_or texts i d).now → Some more ≡ with_item s (get_or texts i d).now
+    → None ≡ strip_prefix (codes "actions=") (get_or texts i d).now → Some more ≡ with_item s (get_or texts i d).now
     → flow_of s (texts_of (drop i texts)) ≡ all → flow_of more (texts_of (drop (i + 1) texts)) ≡ all
 unfolding flow_of
 next_is_item s more texts i d all lt none is so_far =
@@ -70,7 +70,7 @@ next_is_item s more texts i d all lt none is so_far =
     sym step ∙ so_far
 
 pub next_is_neither : (s : Stated) (texts : List (Bor (List ℕ))) (i : ℕ) (d : Bor (List ℕ)) (all : Option Edit) → i < length texts
-    → None ≡ behind (codes "actions=") (get_or texts i d).now → None ≡ with_item s (get_or texts i d).now
+    → None ≡ strip_prefix (codes "actions=") (get_or texts i d).now → None ≡ with_item s (get_or texts i d).now
     → flow_of s (texts_of (drop i texts)) ≡ all → all ≡ None
 unfolding flow_of
 next_is_neither s texts i d all lt none is so_far =

@@ -9,11 +9,14 @@ use Rattle.std.proofs.lemmas.Option.{same_Some}
 use Rattle.spec_actions.specs.declared.action.OfAction.{OfAction}
 use Rattle.spec_actions.specs.declared.action.OfAction.TheVariants.{Output}
 use Rattle.spec_tables.specs.Edits.{Edit}
-use Rattle.spec_case.specs.declared.sync_point.SyncPoint.{SyncPoint}
+use Rattle.spec_tables.specs.declared.sync_point.SyncPoint.{SyncPoint}
 use Rattle.spec_case.specs.Blocks.{edits_through, AreInOrder}
-use Rattle.spec_text.specs.Numbers.{◌>>=◌, behind}
-use Rattle.spec_text.specs.Script.{Stated, Script, most_line_bytes, most_actions, most_edits, most_syncs, where_found, flow_port, with_item, output_of, outputs_of, is_drop, actions_of, added, flow_of, pieces_of, nothing_stated, edit_of, is_white, first_word, sync_time, is_sync, nothing_said, last_time, sync_at, with_edit, with_sync, with_line, with_lines, lines_of}
-use Rattle.edit_script.specs.Plain.{is_output, adds_plainly, has_outputs_only, has_few_actions}
+use Rattle.spec_numbers.specs.Numbers.{◌>>=◌, strip_prefix}
+use Rattle.spec_numbers.specs.Numbers.{where_found}
+use Rattle.spec_flow_text.specs.FlowText.{Stated, most_actions, flow_port, with_item, output_of, outputs_of, is_drop, actions_of, added, flow_of, pieces_of, nothing_stated, edit_of}
+use Rattle.spec_script.specs.Script.{Script, most_line_bytes, most_edits, most_syncs, is_white, first_word, sync_time, is_sync, nothing_said, last_time, sync_at, with_edit, with_sync, with_line, with_lines, lines_of}
+use Rattle.spec_tables.specs.Outputs.{is_output, has_outputs_only}
+use Rattle.edit_script.specs.Plain.{adds_plainly, has_few_actions}
 
 -- ---- facts of what is found, if anything is
 
@@ -65,7 +68,7 @@ record IsBuiltEdit (e : Edit) : Type 0 where
 
 built_output : (text : List ℕ) → IfSome (output_of text) (λ a. is_output a ≡ true)
 unfolding output_of
-built_output text = of_port (flow_port (unwrap_or (behind (codes "output:") text) text))
+built_output text = of_port (flow_port (unwrap_or (strip_prefix (codes "output:") text) text))
   where
     of_port : (o : Option ℕ) → IfSome (option_map (λ port. Output port) o) (λ a. is_output a ≡ true)
     of_port None = tt
@@ -103,13 +106,13 @@ built_flow : (pieces : List (List ℕ)) (s : Stated) → IfSome (flow_of s piece
 unfolding flow_of
 built_flow [] s = tt
 built_flow (piece ∷ pieces) s =
-    after_found IsBuiltEdit (behind (codes "actions=") piece) (λ first. option_map (added s) (actions_of (first ∷ pieces))) (with_item s piece >>= (λ more. flow_of more pieces))
+    after_found IsBuiltEdit (strip_prefix (codes "actions=") piece) (λ first. option_map (added s) (actions_of (first ∷ pieces))) (with_item s piece >>= (λ more. flow_of more pieces))
     (λ first. after_map (AreOutputs most_actions) IsBuiltEdit (actions_of (first ∷ pieces)) (added s) (built_actions (first ∷ pieces)) (built_added s))
     (after_any IsBuiltEdit (with_item s piece) (λ more. flow_of more pieces) (λ more. built_flow pieces more))
 
 built_edit : (line : List ℕ) → IfSome (edit_of line) IsBuiltEdit
 unfolding edit_of
-built_edit line = built_flow (pieces_of (unwrap_or (behind (codes "add ") line) line)) nothing_stated
+built_edit line = built_flow (pieces_of (unwrap_or (strip_prefix (codes "add ") line) line)) nothing_stated
 
 -- ---- sync points
 
@@ -128,10 +131,10 @@ more_steps [] edits steps = λ block. (omega arith, omega arith)
 more_steps (s ∷ syncs) edits steps = from (more_steps syncs edits (λ block. steps (suc block)))
   where
     from : Steps syncs (edits + 1) → Steps (s ∷ syncs) (edits + 1)
-    from behind zero = (omega (arith, (steps 0).0, through_more syncs edits 0), omega (arith, (steps 0).1))
-    from behind (suc block) = behind block
+    from steps_after zero = (omega (arith, (steps 0).0, through_more syncs edits 0), omega (arith, (steps 0).1))
+    from steps_after (suc block) = steps_after block
 
--- an edit more behind all sync points
+-- an edit more after all sync points
 more_edits : (syncs : List SyncPoint) (edits : ℕ) → AreInOrder syncs edits → AreInOrder syncs (edits + 1)
 unfolding Steps
 more_edits syncs edits in_order = λ block. rw (add-one block) (more_steps syncs edits (λ k. rw (add-one k) at (in_order k)) block)
@@ -144,7 +147,7 @@ same_through [] edits time (suc block) = refl
 same_through (s ∷ syncs) edits time zero = refl
 same_through (s ∷ syncs) edits time (suc block) = same_through syncs edits time block
 
--- a sync point more behind all edits
+-- a sync point more after all edits
 one_more_sync : (syncs : List SyncPoint) (edits time : ℕ) → AreInOrder syncs edits → AreInOrder (syncs ++ record { time = time; after = edits } ∷ []) edits
 one_more_sync syncs edits time in_order = λ block. rw (same_through syncs edits time block, same_through syncs edits time (block + 1)) (in_order block)
 

@@ -1,16 +1,9 @@
 -- What every edit of a file is, in the form that is built.
 use Rattle.std.specs.Prelude.{Bool, true, false, ◌&&◌, nat_le, is_none, length}
-use Rattle.std.specs.List.{list_all}
-use Rattle.spec_actions.specs.declared.action.OfAction.{OfAction}
-use Rattle.spec_actions.specs.declared.action.OfAction.TheVariants.{Output}
 use Rattle.spec_tables.specs.declared.edit_word.EditWord.{EditWord}
 use Rattle.spec_tables.specs.declared.edit_word.EditWord.TheVariants.{Add}
 use Rattle.spec_tables.specs.Edits.{Edit}
-use Rattle.spec_text.specs.Script.{most_actions}
-
-abbrev pub is_output : OfAction → Bool
-is_output (Output port) = true
-is_output a = false
+use Rattle.spec_flow_text.specs.FlowText.{most_actions}
 
 abbrev pub is_add : EditWord → Bool
 is_add Add = true
@@ -19,9 +12,6 @@ is_add word = false
 -- whether an edit adds a rule, and names neither a table nor a cookie
 abbrev pub adds_plainly : Edit → Bool
 adds_plainly e = is_add e.word && (is_none e.table && is_none e.cookie)
-
-abbrev pub has_outputs_only : Edit → Bool
-has_outputs_only e = list_all is_output e.actions
 
 abbrev pub has_few_actions : Edit → Bool
 has_few_actions e = nat_le (length e.actions) most_actions

@@ -1,21 +1,21 @@
 ghost use Rattle.std.specs.Prelude.{◌≡◌, ◌∷◌, [], Some, None, IfOk, IsErrOf};
-ghost use Rattle.spec_text.specs.Script.{output_of, outputs_of, is_drop, actions_of};
+ghost use Rattle.spec_flow_text.specs.FlowText.{output_of, outputs_of, is_drop, actions_of};
 ghost use Rattle.edit_script.specs.ScriptViews.{texts_of};
 
 use crate::fault::ScriptFault;
 use crate::items::read_flow_port;
-use crate::line_words::{behind_or_whole, is_text};
+use crate::line_words::{after_or_whole, is_text};
 use rule_tables::OfAction;
 use std::alloc::Global;
 
 // The most actions of an edit.
 const MOST_ACTIONS: usize = 64;
 
-#[tactic(auto, unfolding(spec_text::specs::Script::output_of))]
+#[tactic(auto, unfolding(spec_flow_text::specs::FlowText::output_of))]
 fn read_output(text: &[u8]) -> Option<OfAction>
     ensures { result ≡ output_of text.now }
 {
-    let port = behind_or_whole(b"output:", text);
+    let port = after_or_whole(b"output:", text);
     let port = read_flow_port(port)?;
     Some(OfAction::Output(port))
 }
@@ -44,8 +44,8 @@ fn read_outputs(alloc: Global, first: &[u8], others: &[&[u8]]) -> Result<Vec<OfA
     Ok(actions)
 }
 
-/// The actions of the texts behind `actions=`, of which there is at least one: `drop`, or at most 64 outputs.
-#[tactic(auto, unfolding(spec_text::specs::Script::actions_of))]
+/// The actions of the texts after `actions=`, of which there is at least one: `drop`, or at most 64 outputs.
+#[tactic(auto, unfolding(spec_flow_text::specs::FlowText::actions_of))]
 pub fn read_actions(
     alloc: Global,
     first: &[u8],

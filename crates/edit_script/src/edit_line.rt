@@ -1,17 +1,17 @@
 ghost use Rattle.std.specs.Prelude.{◌≡◌, ◌∷◌, Some, None, IfOk, IsErrOf};
 ghost use Rattle.std.specs.Option.{option_map};
-ghost use Rattle.spec_text.specs.Script.{nothing_stated, actions_of, added, flow_of, pieces_of, edit_of};
+ghost use Rattle.spec_flow_text.specs.FlowText.{nothing_stated, actions_of, added, flow_of, pieces_of, edit_of};
 ghost use Rattle.edit_script.specs.ScriptViews.{texts_of, stated_view};
 
 use crate::actions::read_actions;
 use crate::fault::ScriptFault;
 use crate::items::read_item;
-use crate::line_words::behind_or_whole;
+use crate::line_words::after_or_whole;
 use crate::matching::match_of;
 use crate::stated::Stated;
 use rule_tables::{Actions, Edit, EditWord, OfAction};
 use std::alloc::{AllocError, Global};
-use text_numbers::behind_start;
+use text_numbers::after_start;
 
 // The priority of an edit that states none (ovs-ofctl(8)).
 const DEFAULT_PRIORITY: u16 = 32_768;
@@ -50,7 +50,7 @@ fn read_pieces(alloc: Global, pieces: &[&[u8]]) -> Result<Edit, ScriptFault>
 {
     let mut stated = Stated::nothing();
     'items: for (i, piece) in pieces.iter().enumerate() {
-        if let Some(first) = behind_start(b"actions=", piece) {
+        if let Some(first) = after_start(b"actions=", piece) {
             let (_, others) = pieces.split_at(i + 1);
             return edit_with(alloc, stated, first, others);
         }
@@ -69,12 +69,12 @@ fn split_at_commas(alloc: Global, text: &[u8]) -> Result<Vec<&[u8]>, AllocError>
 }
 
 /// The edit of a line, which may begin with `add` and one space (ovs-ofctl(8), `add-flow`).
-#[tactic(auto, unfolding(spec_text::specs::Script::edit_of))]
+#[tactic(auto, unfolding(spec_flow_text::specs::FlowText::edit_of))]
 pub fn read_edit(alloc: Global, line: &[u8]) -> Result<Edit, ScriptFault>
     ensures ok { IfOk result (λ e. edit_of line.now ≡ Some e) }
     ensures not_built { IsErrOf result ScriptFault.NotBuilt → edit_of line.now ≡ None }
 {
-    let flow = behind_or_whole(b"add ", line);
+    let flow = after_or_whole(b"add ", line);
     let pieces = split_at_commas(alloc, flow)?;
     read_pieces(alloc, &pieces)
 }

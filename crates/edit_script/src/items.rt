@@ -1,13 +1,13 @@
 ghost use Rattle.std.specs.Prelude.{◌≡◌};
 ghost use Rattle.std.specs.Option.{option_map};
-ghost use Rattle.spec_text.specs.Script.{flow_port, with_priority, with_in_port, with_dl_dst, with_item};
+ghost use Rattle.spec_flow_text.specs.FlowText.{flow_port, with_priority, with_in_port, with_dl_dst, with_item};
 ghost use Rattle.edit_script.specs.ScriptViews.{stated_view};
 
 use crate::stated::Stated;
-use text_numbers::{LAST_PORT, as_port, behind_start, read_mac, read_number};
+use text_numbers::{LAST_PORT, after_start, as_port, read_mac, read_number};
 
-/// The number of a port, in decimal, or in hexadecimal behind `0x`, from 1 to 65,279.
-#[tactic(auto, unfolding(spec_text::specs::Script::flow_port))]
+/// The number of a port, in decimal, or in hexadecimal after `0x`, from 1 to 65,279.
+#[tactic(auto, unfolding(spec_flow_text::specs::FlowText::flow_port))]
 pub fn read_flow_port(text: &[u8]) -> Option<u16>
     ensures { result ≡ flow_port text.now }
 {
@@ -15,7 +15,7 @@ pub fn read_flow_port(text: &[u8]) -> Option<u16>
     as_port(number)
 }
 
-#[tactic(auto, unfolding(spec_text::specs::Script::with_priority))]
+#[tactic(auto, unfolding(spec_flow_text::specs::FlowText::with_priority))]
 fn read_priority(stated: Stated, value: &[u8]) -> Option<Stated>
     ensures { option_map stated_view result ≡ with_priority (stated_view stated) value.now }
 {
@@ -30,7 +30,7 @@ fn read_priority(stated: Stated, value: &[u8]) -> Option<Stated>
     })
 }
 
-#[tactic(auto, unfolding(spec_text::specs::Script::with_in_port))]
+#[tactic(auto, unfolding(spec_flow_text::specs::FlowText::with_in_port))]
 fn read_in_port(stated: Stated, value: &[u8]) -> Option<Stated>
     ensures { option_map stated_view result ≡ with_in_port (stated_view stated) value.now }
 {
@@ -45,7 +45,7 @@ fn read_in_port(stated: Stated, value: &[u8]) -> Option<Stated>
     })
 }
 
-#[tactic(auto, unfolding(spec_text::specs::Script::with_dl_dst))]
+#[tactic(auto, unfolding(spec_flow_text::specs::FlowText::with_dl_dst))]
 fn read_dl_dst(stated: Stated, value: &[u8]) -> Option<Stated>
     ensures { option_map stated_view result ≡ with_dl_dst (stated_view stated) value.now }
 {
@@ -63,17 +63,17 @@ fn read_dl_dst(stated: Stated, value: &[u8]) -> Option<Stated>
 /// What is stated with one more item (ovs-ofctl(8), "Flow Syntax").
 ///
 /// An item that isn't one of those that are built, or is stated already, gives none.
-#[tactic(auto, unfolding(spec_text::specs::Script::with_item))]
+#[tactic(auto, unfolding(spec_flow_text::specs::FlowText::with_item))]
 pub fn read_item(stated: Stated, item: &[u8]) -> Option<Stated>
     ensures { option_map stated_view result ≡ with_item (stated_view stated) item.now }
 {
-    if let Some(value) = behind_start(b"priority=", item) {
+    if let Some(value) = after_start(b"priority=", item) {
         return read_priority(stated, value);
     }
-    if let Some(value) = behind_start(b"in_port=", item) {
+    if let Some(value) = after_start(b"in_port=", item) {
         return read_in_port(stated, value);
     }
-    match behind_start(b"dl_dst=", item) {
+    match after_start(b"dl_dst=", item) {
         Some(value) => read_dl_dst(stated, value),
         None => None,
     }

@@ -8,10 +8,10 @@
 //!
 //! # What is promised
 //!
-//! `spec_text` says which bytes are a script and what they say (`script_of`), and this crate answers just that.
+//! `spec_script` says which bytes are a script and what they say (`script_of`), and this crate answers just that.
 //!
 //! - Where a script is read, it is the one that the bytes say, edit by edit and point by point. Where the form isn't
-//!   built, the bytes say none. Nothing else is refused, but for want of memory.
+//!   built, the bytes say none. Nothing else is refused, unless memory runs out.
 //! - In the form that is built, each edit adds a rule of outputs to table 0. A script has at most 32,768 edits and 63
 //!   sync points. Times of sync points never fall, and neither do the counts of the edits before them.
 //! - The match of each edit is normalised: bits of its key that its mask doesn't count are 0. The type `Match` of

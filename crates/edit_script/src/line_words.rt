@@ -1,15 +1,16 @@
 ghost use Rattle.std.specs.Prelude.{◌≡◌, not, position, unwrap_or};
 ghost use Rattle.std.specs.List.{list_all};
-ghost use Rattle.spec_text.specs.Numbers.{behind};
-ghost use Rattle.spec_text.specs.Script.{is_text, is_white, unindented, first_word};
+ghost use Rattle.spec_numbers.specs.Numbers.{strip_prefix};
+ghost use Rattle.spec_numbers.specs.Numbers.{is_text};
+ghost use Rattle.spec_script.specs.Script.{is_white, unindented, first_word};
 
-use text_numbers::behind_start;
+use text_numbers::after_start;
 
 /// A text without its start, or whole where it doesn't begin so.
-pub fn behind_or_whole<'a>(start: &[u8], text: &'a [u8]) -> &'a [u8]
-    ensures { result.now ≡ unwrap_or (behind start.now text.now) text.now }
+pub fn after_or_whole<'a>(start: &[u8], text: &'a [u8]) -> &'a [u8]
+    ensures { result.now ≡ unwrap_or (strip_prefix start.now text.now) text.now }
 {
-    match behind_start(start, text) {
+    match after_start(start, text) {
         Some(rest) => rest,
         None => text,
     }
@@ -19,7 +20,7 @@ pub fn behind_or_whole<'a>(start: &[u8], text: &'a [u8]) -> &'a [u8]
 pub fn is_text(word: &[u8], text: &[u8]) -> bool
     ensures { result ≡ is_text word.now text.now }
 {
-    match behind_start(word, text) {
+    match after_start(word, text) {
         Some(rest) => rest.is_empty(),
         None => false,
     }
@@ -63,7 +64,7 @@ fn unindented(text: &[u8]) -> &[u8]
     }
 }
 
-/// The first word of a text, and what stands behind the character that ends it. Both are empty where there is no word.
+/// The first word of a text, and what stands after the character that ends it. Both are empty where there is no word.
 pub fn first_word(text: &[u8]) -> (&[u8], &[u8])
     ensures word { result.0.now ≡ (first_word text.now).0 }
     ensures rest { result.1.now ≡ (first_word text.now).1 }

@@ -3,7 +3,7 @@ ghost use Rattle.std.specs.Option.{ForSome};
 ghost use Rattle.spec_base.specs.Bits.{all_bits};
 ghost use Rattle.spec_keys.specs.Fields.{width_of};
 ghost use Rattle.spec_keys.specs.declared.field_id.FieldId.TheVariants.{InPort, DlDst};
-ghost use Rattle.spec_text.specs.Script.{match_of, stating};
+ghost use Rattle.spec_flow_text.specs.FlowText.{match_of, stating};
 ghost use Rattle.rule_tables.specs.Views.{match_view};
 ghost use Rattle.edit_script.specs.ScriptViews.{stated_view};
 

@@ -1,8 +1,9 @@
 ghost use Rattle.std.specs.Prelude.{◌≡◌, ◌≤◌, length, Some, None, IsTrue, OnOk, IfOk, IsErrOf};
 ghost use Rattle.std.specs.List.{list_all};
 ghost use Rattle.spec_case.specs.Blocks.{AreInOrder};
-ghost use Rattle.spec_text.specs.Script.{most_edits, most_syncs, nothing_said, last_time, with_edit, with_sync, is_sync, with_line, with_lines, lines_of, script_of};
-ghost use Rattle.edit_script.specs.Plain.{adds_plainly, has_outputs_only, has_few_actions};
+ghost use Rattle.spec_script.specs.Script.{most_edits, most_syncs, nothing_said, last_time, with_edit, with_sync, is_sync, with_line, with_lines, lines_of, script_of};
+ghost use Rattle.spec_tables.specs.Outputs.{has_outputs_only};
+ghost use Rattle.edit_script.specs.Plain.{adds_plainly, has_few_actions};
 ghost use Rattle.edit_script.specs.ScriptViews.{script_view};
 
 use crate::edit_line::read_edit;
@@ -33,7 +34,7 @@ pub struct Script {
     pub syncs: Vec<SyncPoint>,
 }
 
-#[tactic(auto, unfolding(spec_text::specs::Script::with_edit))]
+#[tactic(auto, unfolding(spec_script::specs::Script::with_edit))]
 fn add_edit(script: &mut Script, edit: Edit) -> Result<(), ScriptFault>
     ensures ok { OnOk result (with_edit (script_view script.old) edit ≡ Some (script_view script.new)) }
     ensures not_built { IsErrOf result ScriptFault.NotBuilt → with_edit (script_view script.old) edit ≡ None }
@@ -55,7 +56,7 @@ fn last_time(syncs: &[SyncPoint]) -> u64
     }
 }
 
-#[tactic(auto, unfolding(spec_text::specs::Script::with_sync))]
+#[tactic(auto, unfolding(spec_script::specs::Script::with_sync))]
 fn add_sync(script: &mut Script, time: u64) -> Result<(), ScriptFault>
     requires { length script.old.edits.items ≤ most_edits }
     ensures ok { OnOk result (with_sync (script_view script.old) time ≡ Some (script_view script.new)) }
@@ -70,7 +71,7 @@ fn add_sync(script: &mut Script, time: u64) -> Result<(), ScriptFault>
     Ok(())
 }
 
-#[tactic(auto, unfolding(spec_text::specs::Script::with_line))]
+#[tactic(auto, unfolding(spec_script::specs::Script::with_line))]
 fn read_line(alloc: Global, script: &mut Script, line: &[u8]) -> Result<(), ScriptFault>
     requires { length script.old.edits.items ≤ most_edits }
     ensures ok { OnOk result (with_line (script_view script.old) line.now ≡ Some (script_view script.new)) }
@@ -114,7 +115,7 @@ fn read_lines(alloc: Global, bytes: &[u8]) -> Result<Script, ScriptFault>
 /// The script of a file's bytes.
 ///
 /// A file that is no script, has more than `MOST_BYTES` or a line of more than 4,096 bytes, is `NotBuilt`.
-#[tactic(auto, unfolding(spec_text::specs::Script::script_of))]
+#[tactic(auto, unfolding(spec_script::specs::Script::script_of))]
 pub fn read_script(alloc: Global, bytes: &[u8]) -> Result<Script, ScriptFault>
     ensures ok { IfOk result (λ s. script_of bytes.now ≡ Some (script_view s)) }
     ensures not_built { IsErrOf result ScriptFault.NotBuilt → script_of bytes.now ≡ None }

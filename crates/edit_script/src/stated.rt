@@ -12,7 +12,7 @@ pub struct Stated {
 
 impl Stated {
     ghost use Rattle.std.specs.Prelude.{◌≡◌};
-    ghost use Rattle.spec_text.specs.Script.{nothing_stated};
+    ghost use Rattle.spec_flow_text.specs.FlowText.{nothing_stated};
     ghost use Rattle.edit_script.specs.ScriptViews.{stated_view};
 
     /// Nothing is stated yet.

@@ -1,6 +1,6 @@
 //! Numbers and addresses of the flow text, as ovs-ofctl(8) writes them.
 //!
-//! Each reader takes a text, its bytes, and answers the number that it spells or none: exactly where `spec_text` says
+//! Each reader takes a text, its bytes, and answers the number that it spells or none: exactly where `spec_numbers` says
 //! that it spells one. No reader takes memory, and none guesses: a sign, white space, a further byte or a number that
 //! is too great is no number. A decimal number has no leading zeros, since some tools read those as octal.
 //!
@@ -14,7 +14,7 @@ ghost use Rattle.std.specs.Prelude.{◌≡◌, ◌^◌, ◌<◌, ◌≤◌, ◌=
 ghost use Rattle.std.specs.Option.{option_map};
 ghost use Rattle.std.specs.List.{list_all};
 ghost use Rattle.std.specs.Char.{is_digit};
-ghost use Rattle.spec_text.specs.Numbers.{cut, behind, are_digits, digits_upto, is_hexadecimal, has_leading_zero, decimal_upto, number_upto, last_port, nonzero, octet, octet_before_colon, mac};
+ghost use Rattle.spec_numbers.specs.Numbers.{split_once, strip_prefix, are_digits, digits_upto, is_hexadecimal, has_leading_zero, decimal_upto, number_upto, last_port, nonzero, octet, octet_before_colon, mac};
 
 use std::str;
 
@@ -30,7 +30,7 @@ fn place_of(text: &[u8], byte: u8) -> Option<usize>
 
 /// The parts of a text round the first place of a byte.
 pub fn cut_at(text: &[u8], byte: u8) -> Option<(&[u8], &[u8])>
-    ensures { option_map (λ p. (p.0.now, p.1.now)) result ≡ cut byte text.now }
+    ensures { option_map (λ p. (p.0.now, p.1.now)) result ≡ split_once byte text.now }
 {
     match place_of(text, byte) {
         None => None,
@@ -43,8 +43,8 @@ pub fn cut_at(text: &[u8], byte: u8) -> Option<(&[u8], &[u8])>
 }
 
 /// A text without its start.
-pub fn behind_start<'a>(start: &[u8], text: &'a [u8]) -> Option<&'a [u8]>
-    ensures { option_map (λ rest. rest.now) result ≡ behind start.now text.now }
+pub fn after_start<'a>(start: &[u8], text: &'a [u8]) -> Option<&'a [u8]>
+    ensures { option_map (λ rest. rest.now) result ≡ strip_prefix start.now text.now }
 {
     text.strip_prefix(start)
 }
@@ -66,7 +66,7 @@ fn has_digits(text: &[u8], base: u32) -> bool
 }
 
 /// The number that digits of a base write, where it is at most so much. The digits above 9 may be of either case.
-#[tactic(auto, unfolding(spec_text::specs::Numbers::digits_upto))]
+#[tactic(auto, unfolding(spec_numbers::specs::Numbers::digits_upto))]
 pub fn read_digits(text: &[u8], base: u32, most: u128) -> Option<u128>
     requires low { 2 ≤ base }
     requires high { base ≤ 16 }
@@ -98,7 +98,7 @@ fn leads_with_zero(text: &[u8]) -> bool
 }
 
 /// A number in decimal, without leading zeros, at most so much.
-#[tactic(auto, unfolding(spec_text::specs::Numbers::decimal_upto))]
+#[tactic(auto, unfolding(spec_numbers::specs::Numbers::decimal_upto))]
 pub fn read_decimal(text: &[u8], most: u128) -> Option<u128>
     ensures value { result ≡ decimal_upto most text.now }
     ensures fits { IfSome result (λ n. n ≤ most) }
@@ -109,8 +109,8 @@ pub fn read_decimal(text: &[u8], most: u128) -> Option<u128>
     read_digits(text, 10, most)
 }
 
-/// A number in decimal, or in hexadecimal behind `0x`, at most so much.
-#[tactic(auto, unfolding(spec_text::specs::Numbers::number_upto))]
+/// A number in decimal, or in hexadecimal after `0x`, at most so much.
+#[tactic(auto, unfolding(spec_numbers::specs::Numbers::number_upto))]
 pub fn read_number(text: &[u8], most: u128) -> Option<u128>
     ensures value { result ≡ number_upto most text.now }
     ensures fits { IfSome result (λ n. n ≤ most) }
@@ -135,7 +135,7 @@ pub fn as_port(number: u128) -> Option<u16>
     }
 }
 
-#[tactic(auto, unfolding(spec_text::specs::Numbers::octet))]
+#[tactic(auto, unfolding(spec_numbers::specs::Numbers::octet))]
 fn read_octet(text: &[u8]) -> Option<u64>
     ensures value { result ≡ octet text.now }
     ensures fits { IfSome result (λ n. n < 256) }
@@ -149,7 +149,7 @@ fn read_octet(text: &[u8]) -> Option<u64>
     }
 }
 
-#[tactic(auto, unfolding(spec_text::specs::Numbers::octet_before_colon))]
+#[tactic(auto, unfolding(spec_numbers::specs::Numbers::octet_before_colon))]
 fn read_octet_before_colon(text: &[u8]) -> Option<(u64, &[u8])>
     ensures value { option_map (λ p. (p.0, p.1.now)) result ≡ octet_before_colon text.now }
     ensures fits { IfSome result (λ p. p.0 < 256) }
@@ -160,7 +160,7 @@ fn read_octet_before_colon(text: &[u8]) -> Option<(u64, &[u8])>
 }
 
 /// An Ethernet address of 48 bits: six octets in hexadecimal, of one or two digits, with colons between them.
-#[tactic(auto, unfolding(spec_text::specs::Numbers::mac))]
+#[tactic(auto, unfolding(spec_numbers::specs::Numbers::mac))]
 pub fn read_mac(text: &[u8]) -> Option<u64>
     ensures value { result ≡ mac text.now }
     ensures fits { IfSome result (λ n. n < 2 ^ 48) }

@@ -1,5 +1,5 @@
 use Rattle.std.proofs.Common.{◌≡◌, ◌∷◌, [], drop}
-use Rattle.spec_text.specs.Script.{outputs_of}
+use Rattle.spec_flow_text.specs.FlowText.{outputs_of}
 use Rattle.edit_script.specs.ScriptViews.{texts_of}
 use Rattle.edit_script.proofs.actions.read_outputs.Given as goal
 

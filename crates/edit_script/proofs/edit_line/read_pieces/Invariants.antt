@@ -1,5 +1,5 @@
 use Rattle.std.proofs.Common.{◌≡◌, drop}
-use Rattle.spec_text.specs.Script.{nothing_stated, flow_of}
+use Rattle.spec_flow_text.specs.FlowText.{nothing_stated, flow_of}
 use Rattle.edit_script.specs.ScriptViews.{texts_of, stated_view}
 use Rattle.edit_script.proofs.edit_line.read_pieces.Given as goal
 

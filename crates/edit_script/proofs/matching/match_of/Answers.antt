@@ -1,6 +1,6 @@
 use Rattle.std.proofs.Common.{ap, ◌∙◌}
 use Rattle.spec_keys.specs.declared.field_id.FieldId.TheVariants.{InPort, DlDst}
-use Rattle.spec_text.specs.Script.{stating}
+use Rattle.spec_flow_text.specs.FlowText.{stating}
 use Rattle.edit_script.proofs.matching.match_of.Goals as goal
 
 pub returns : goal.returns

@@ -1,5 +1,5 @@
 use Rattle.std.proofs.Common.{◌≡◌, ◌≤◌, length}
-use Rattle.spec_text.specs.Script.{most_edits, nothing_said, with_lines, lines_of}
+use Rattle.spec_script.specs.Script.{most_edits, nothing_said, with_lines, lines_of}
 use Rattle.edit_script.specs.ScriptViews.{script_view}
 use Rattle.edit_script.proofs.script.read_lines.Given as goal
 
