@@ -17,7 +17,7 @@ const HARDWARE_SIZE: u8 = 6;
 
 const PROTOCOL_SIZE: u8 = 4;
 
-/// Where the parts stand behind the hardware type.
+/// Where the parts stand after the hardware type.
 const PROTOCOL_TYPE_AT: usize = 2;
 
 const HARDWARE_SIZE_AT: usize = 4;

@@ -53,7 +53,7 @@ fn is_tag_type(number: u16) -> bool
     number == CUSTOMER_TAG || number == SERVICE_TAG
 }
 
-/// Whether a whole tag stands behind the addresses.
+/// Whether a whole tag stands after the addresses.
 #[inline]
 #[tactic(auto, unfolding(spec_frames::specs::Ethernet::is_tagged))]
 pub(crate) fn is_tagged(frame: &[u8]) -> bool
@@ -83,7 +83,7 @@ fn is_snap(frame: &[u8], at: usize) -> bool
         && be16(frame, at + SNAP_SIZE) >= LEAST_TYPE
 }
 
-/// What is carried behind the type or length at an offset.
+/// What is carried after the type or length at an offset.
 #[inline]
 #[tactic(auto, unfolding(spec_frames::specs::Ethernet::carried_by))]
 fn carried_by(frame: &[u8], at: usize) -> Carried
@@ -92,21 +92,21 @@ fn carried_by(frame: &[u8], at: usize) -> Carried
     ensures within { result.at ≤ length frame.now }
 {
     let number = be16(frame, at);
-    let behind = at + TYPE_SIZE;
+    let after = at + TYPE_SIZE;
     if number >= LEAST_TYPE {
         Carried {
             dl_type: number,
-            at: behind,
+            at: after,
         }
-    } else if is_snap(frame, behind) {
+    } else if is_snap(frame, after) {
         Carried {
-            dl_type: be16(frame, behind + SNAP_SIZE),
-            at: behind + SNAP_SIZE + TYPE_SIZE,
+            dl_type: be16(frame, after + SNAP_SIZE),
+            at: after + SNAP_SIZE + TYPE_SIZE,
         }
     } else {
         Carried {
             dl_type: NO_TYPE,
-            at: behind,
+            at: after,
         }
     }
 }

@@ -1,6 +1,6 @@
 //! The header of IPv6 and its extension headers (RFC 8200; RFC 4302 for authentication).
 ghost use Rattle.std.specs.Prelude.{◌≡◌, ◌+◌, ◌≤◌, length, IsSome, IfSome};
-ghost use Rattle.spec_frames.specs.Ipv6.{header_size, traffic_class, is_extension, least_extension_size, extension_size, is_present, fragment, and_behind, upper_layer, most_extensions, end_of, ipv6};
+ghost use Rattle.spec_frames.specs.Ipv6.{header_size, traffic_class, is_extension, least_extension_size, extension_size, is_present, fragment, and_after, upper_layer, most_extensions, end_of, ipv6};
 ghost use Rattle.spec_frames.specs.Key.{with_ipv6};
 ghost use Rattle.ovs_fields.specs.Packed.{numbers};
 
@@ -112,7 +112,7 @@ fn is_present(number: u8, frame: &[u8], end: usize, at: usize) -> bool
     at + LEAST_EXTENSION_SIZE <= end && at + extension_size(number, frame, at) <= end
 }
 
-/// Which part of a packet stands behind the extension header of this number at an offset.
+/// Which part of a packet stands after the extension header of this number at an offset.
 #[inline]
 fn fragment(number: u8, frame: &[u8], at: usize) -> Fragment
     requires { at + least_extension_size ≤ length frame.now }
@@ -126,19 +126,19 @@ fn fragment(number: u8, frame: &[u8], at: usize) -> Fragment
     }
 }
 
-/// A first fragment stays one behind further headers, unless one says that it is a later one.
+/// A first fragment stays one after further headers, unless one says that it is a later one.
 #[inline]
-fn and_behind(part: Fragment, behind: Fragment) -> Fragment
-    ensures { result ≡ and_behind part behind }
+fn and_after(part: Fragment, after: Fragment) -> Fragment
+    ensures { result ≡ and_after part after }
 {
-    match (part, behind) {
+    match (part, after) {
         (Fragment::First, Fragment::Whole) => Fragment::First,
-        _ => behind,
+        _ => after,
     }
 }
 
-/// The upper layer behind the extension headers, of which the first one, if any, has this number and offset. Nothing is
-/// read behind the fragment header of a later fragment.
+/// The upper layer after the extension headers, of which the first one, if any, has this number and offset. Nothing is
+/// read after the fragment header of a later fragment.
 #[inline]
 fn upper_layer(frame: &[u8], end: usize, number: u8, at: usize) -> Option<UpperLayer>
     requires near { at ≤ length frame.now }
@@ -157,18 +157,18 @@ fn upper_layer(frame: &[u8], end: usize, number: u8, at: usize) -> Option<UpperL
             return None;
         }
         let part = fragment(upper.protocol, frame, upper.at);
-        let behind = upper.at + extension_size(upper.protocol, frame, upper.at);
+        let after = upper.at + extension_size(upper.protocol, frame, upper.at);
         if let Fragment::Later = part {
             return Some(UpperLayer {
-                at: behind,
+                at: after,
                 fragment: part,
                 ..upper
             });
         }
         upper = UpperLayer {
             protocol: frame[upper.at],
-            at: behind,
-            fragment: and_behind(upper.fragment, part),
+            at: after,
+            fragment: and_after(upper.fragment, part),
             routed: upper.routed | (upper.protocol == ROUTING),
         };
         room -= 1;

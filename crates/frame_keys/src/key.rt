@@ -17,7 +17,7 @@ use net_bytes::be16;
 use ovs_fields::{FieldId, Key};
 use spec_frames::{Datagram, Fragment, L4, Network};
 
-/// Behind the source port stands the destination port, and behind the type of ICMP its code.
+/// After the source port stands the destination port, and after the type of ICMP its code.
 const DESTINATION_PORT_AT: usize = 2;
 
 const CODE_AT: usize = 1;
@@ -100,7 +100,7 @@ fn set_datagram(key: &mut Key, datagram: &Datagram)
     );
 }
 
-/// Gives a key the network header of its frame and what stands behind that.
+/// Gives a key the network header of its frame and what stands after that.
 #[inline]
 #[tactic(auto, unfolding(spec_frames::specs::Key::with_network))]
 fn set_network(key: &mut Key, frame: &[u8], network: &Network)

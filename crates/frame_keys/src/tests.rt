@@ -68,7 +68,7 @@ fn tag_is_read(rt: HostRuntime) -> Result<(), Fail> {
 }
 
 #[test]
-fn arp_request_behind_snap_is_read(rt: HostRuntime) -> Result<(), Fail> {
+fn arp_request_after_snap_is_read(rt: HostRuntime) -> Result<(), Fail> {
     let snap = [0, 36, 0xaa, 0xaa, 3, 0, 0, 0, 0x08, 0x06];
     let request = [0, 1, 0x08, 0x00, 6, 4, 0, 1];
     let sender = [0, 0, 0, 0, 0, 1, 10, 0, 0, 1];
@@ -88,14 +88,14 @@ fn arp_request_behind_snap_is_read(rt: HostRuntime) -> Result<(), Fail> {
     Ok(())
 }
 
-// A SYN from port 1234 to 80, behind three bytes of options that do nothing and the end of options.
+// A SYN from port 1234 to 80, after three bytes of options that do nothing and the end of options.
 const TCP_HEADERS: [u8; 46] = [
     0x08, 0x00, 0x46, 0x10, 0, 44, 0, 1, 0x40, 0, 64, 6, 0, 0, 10, 0, 0, 1, 10, 0, 0, 2, 1, 1, 1,
     0, 0x04, 0xd2, 0, 80, 0, 0, 0, 1, 0, 0, 0, 0, 0x50, 0x02, 0, 0, 0, 0, 0, 0,
 ];
 
 #[test]
-fn tcp_behind_options_is_read(rt: HostRuntime) -> Result<(), Fail> {
+fn tcp_after_options_is_read(rt: HostRuntime) -> Result<(), Fail> {
     let mut bytes = frame(rt.alloc(), &[&TCP_HEADERS])?;
     let mut expected = ipv4_key(6);
     expected.set(FieldId::NwTos, 0x10);
@@ -123,7 +123,7 @@ fn tcp_behind_options_is_read(rt: HostRuntime) -> Result<(), Fail> {
     Ok(())
 }
 
-// The header of UDP behind that of IPv4, with this high byte of flags and fragment offset.
+// The header of UDP after that of IPv4, with this high byte of flags and fragment offset.
 fn fragment(alloc: Global, flags: u8) -> Result<Vec<u8>, AllocError> {
     let header = [0x08, 0x00, 0x45, 0, 0, 28, 0, 1, flags, 0, 64, 17, 0, 0];
     let addresses = [10, 0, 0, 1, 10, 0, 0, 2];
@@ -233,7 +233,7 @@ fn nine_extension_headers_are_too_many(rt: HostRuntime) -> Result<(), Fail> {
 }
 
 #[test]
-fn first_fragment_behind_options_has_no_ports(rt: HostRuntime) -> Result<(), Fail> {
+fn first_fragment_after_options_has_no_ports(rt: HostRuntime) -> Result<(), Fail> {
     let mut header = [0; 42];
     header[..10].copy_from_slice(&[0x86, 0xdd, 0x60, 0, 0, 0, 0, 0x18, 0, 0x40]);
     header[25] = 1;

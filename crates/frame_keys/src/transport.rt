@@ -1,4 +1,4 @@
-//! The transport header behind an IP header: TCP (RFC 9293), UDP (RFC 768), ICMP over IPv4 (RFC 792) and ICMPv6 over
+//! The transport header after an IP header: TCP (RFC 9293), UDP (RFC 768), ICMP over IPv4 (RFC 792) and ICMPv6 over
 //! IPv6 (RFC 4443).
 ghost use Rattle.std.specs.Prelude.{◌≡◌, ◌<◌, if◌then◌else◌};
 ghost use Rattle.spec_keys.specs.Protocols.{icmp_protocol, icmp6_protocol};
@@ -31,8 +31,8 @@ fn carries(datagram: &Datagram, protocol: u8, size: usize) -> bool
     requires { 0 < size }
     ensures { result ≡ carries datagram.now protocol size }
 {
-    let behind = datagram.end.saturating_sub(datagram.upper.at);
-    datagram.upper.protocol == protocol && behind >= size
+    let after = datagram.end.saturating_sub(datagram.upper.at);
+    datagram.upper.protocol == protocol && after >= size
 }
 
 #[inline]

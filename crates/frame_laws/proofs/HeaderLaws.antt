@@ -21,25 +21,25 @@ use Rattle.spec_frames.specs.Network.{by_ipv6, network_at, network}
 use Rattle.spec_frames.specs.Transport.{tcp_size, udp_size, icmp_size, icmp6_size, transport}
 use Rattle.spec_frames.specs.Layout.{place_of_network, layout_with, layout_of}
 use Rattle.frame_laws.specs.Headers.{FollowsType, FollowsIp}
-use Rattle.frame_laws.proofs.Forms.{by_length}
+use Rattle.key_laws.proofs.Forms.{by_network, by_length}
 use Rattle.frame_laws.proofs.TransportLaws.{Fits, Told, transport-tells}
-use Rattle.frame_laws.proofs.Chains.{upper_layer-keeps}
+use Rattle.key_laws.proofs.Chains.{upper_layer-keeps}
 
 -- ---- the type field
 
--- What a frame carries begins at this offset or behind, right behind its type, if it has one.
+-- What a frame carries begins at this offset or after, right after its type, if it has one.
 record IsTyped (frame : List ℕ) (least : ℕ) (c : Carried) : Type 0 where
   begins : least ≤ c.at
-  behind_type : c.dl_type ≢ no_type → big_endian_at type_size frame (c.at - type_size) ≡ c.dl_type
+  after_type : c.dl_type ≢ no_type → big_endian_at type_size frame (c.at - type_size) ≡ c.dl_type
 
 carried_by-IsTyped : (frame : List ℕ) (at : ℕ) → IsTyped frame (at + type_size) (carried_by frame at)
 unfolding carried_by
 carried_by-IsTyped frame at =
     cond_both (nat_le least_type (big_endian_at type_size frame at)) _ _ (IsTyped frame (at + type_size))
-    (λ e. record { begins = omega arith; behind_type = λ ne. ap (big_endian_at type_size frame) (omega arith) })
+    (λ e. record { begins = omega arith; after_type = λ ne. ap (big_endian_at type_size frame) (omega arith) })
     (λ e. cond_both (is_snap frame (at + type_size)) _ _ (IsTyped frame (at + type_size))
-    (λ s. record { begins = omega arith; behind_type = λ ne. ap (big_endian_at type_size frame) (omega arith) })
-    (λ s. record { begins = omega arith; behind_type = λ ne. absurd (ne refl) }))
+    (λ s. record { begins = omega arith; after_type = λ ne. ap (big_endian_at type_size frame) (omega arith) })
+    (λ s. record { begins = omega arith; after_type = λ ne. absurd (ne refl) }))
 
 carried-IsTyped : (frame : List ℕ) → IsTyped frame (if is_tagged frame then header_size + tag_size else header_size) (carried frame)
 unfolding carried
@@ -58,23 +58,7 @@ carried-least frame = by (is_tagged frame) (carried-IsTyped frame).begins
 
 -- ---- network headers
 
--- what holds of each network header of this type at this offset
-pub by_network : (frame : List ℕ) (dl_type at : ℕ) (P : Network → Type 0) → P Nothing
-    → (dl_type ≡ arp_type → is_arp frame at ≡ true → P (Arp at))
-    → (dl_type ≡ ipv4_type → ipv4.is_ipv4 frame at ≡ true → P (Ipv4 at (ipv4.ipv4 frame at)))
-    → (dl_type ≡ ipv6_type → (d : Datagram) → ipv6.ipv6 frame at ≡ Some d → P (Ipv6 at d))
-    → P (network_at frame dl_type at)
-unfolding network_at
-by_network frame dl_type at P nothing arp v4 v6 =
-    cond_both (dl_type == arp_type) _ _ P (λ e. cond_both (is_arp frame at) _ _ P (arp (eqb-true dl_type arp_type e)) (λ f. nothing))
-    (λ x. cond_both (dl_type == ipv4_type) _ _ P (λ e. cond_both (ipv4.is_ipv4 frame at) _ _ P (v4 (eqb-true dl_type ipv4_type e)) (λ f. nothing))
-    (λ y. cond_both (dl_type == ipv6_type) _ _ P (λ e. by (ipv6.ipv6 frame at) (v6 (eqb-true dl_type ipv6_type e))) (λ f. nothing)))
-  where
-    by : (o : Option Datagram) → ((d : Datagram) → o ≡ Some d → P (Ipv6 at d)) → P (by_ipv6 at o)
-    by None h = nothing
-    by (Some d) h = h d refl
-
--- A network header lies in the frame, its upper layer begins behind it, and its packet ends in the frame.
+-- A network header lies in the frame, its upper layer begins after it, and its packet ends in the frame.
 abbrev IsPlaced : List ℕ → Network → Type 0
 IsPlaced frame Nothing = Unit {0}
 IsPlaced frame (Arp at) = at + packet_size ≤ length frame
@@ -111,11 +95,11 @@ ipv6-IsPlaced : (frame : List ℕ) (at : ℕ) → IfSome (ipv6.ipv6 frame at) (�
 unfolding ipv6.ipv6
 ipv6-IsPlaced frame at =
     cond_both (nat_le (at + ipv6.header_size) (length frame) && (ipv4.version frame at == 6)) _ None (λ o. IfSome o (λ d. IsPlaced frame (Ipv6 at d)))
-    (λ e. by (leb-true _ _ (and_parts (nat_le (at + ipv6.header_size) (length frame)) (ipv4.version frame at == 6) e).0) _ behind)
+    (λ e. by (leb-true _ _ (and_parts (nat_le (at + ipv6.header_size) (length frame)) (ipv4.version frame at == 6) e).0) _ after)
     (λ e. tt)
   where
-    behind : IfSome (ipv6.upper_layer ipv6.most_extensions frame (ipv6.end_of frame at) (slice_index frame (at + 6)) (at + ipv6.header_size)) (λ u. Unit {0} × (at + ipv6.header_size ≤ u.at))
-    behind =
+    after : IfSome (ipv6.upper_layer ipv6.most_extensions frame (ipv6.end_of frame at) (slice_index frame (at + 6)) (at + ipv6.header_size)) (λ u. Unit {0} × (at + ipv6.header_size ≤ u.at))
+    after =
         upper_layer-keeps (λ number. Unit {0}) (λ a. at + ipv6.header_size ≤ a) frame (λ a. tt) (λ a n l. omega arith) ipv6.most_extensions (ipv6.end_of frame at)
         (slice_index frame (at + 6)) (at + ipv6.header_size) tt (omega arith)
 
@@ -155,9 +139,9 @@ to_FollowsType : (frame : List ℕ) (n : Network) (number size at : ℕ) → num
 to_FollowsType frame n number size at some same within =
     let c = carried-IsTyped frame in
     record {
-      behind_ethernet = subst (λ (z : ℕ). header_size ≤ z) (sym same.0) (carried-least frame);
-      behind_tag = λ t. subst (λ (z : ℕ). header_size + tag_size ≤ z) (sym same.0) (subst (λ (b : Bool). (if b then header_size + tag_size else header_size) ≤ (carried frame).at) t c.begins);
-      behind_type = ap (λ (z : ℕ). big_endian_at type_size frame (z - type_size)) same.0 ∙ c.behind_type (λ e. some (sym same.1 ∙ e)) ∙ same.1;
+      after_ethernet = subst (λ (z : ℕ). header_size ≤ z) (sym same.0) (carried-least frame);
+      after_tag = λ t. subst (λ (z : ℕ). header_size + tag_size ≤ z) (sym same.0) (subst (λ (b : Bool). (if b then header_size + tag_size else header_size) ≤ (carried frame).at) t c.begins);
+      after_type = ap (λ (z : ℕ). big_endian_at type_size frame (z - type_size)) same.0 ∙ c.after_type (λ e. some (sym same.1 ∙ e)) ∙ same.1;
       is_within = within;
     }
 
@@ -188,9 +172,9 @@ module _ (frame : List ℕ) (t : Bool) where
   to_FollowsIp Nothing h number size at some f = let there = f.is_there in absurd (omega arith)
   to_FollowsIp (Arp begin) h number size at some f = let there = f.is_there in absurd (omega arith)
   to_FollowsIp (Ipv4 begin d) h number size at some f =
-      let there = f.is_there in let begins = f.begins in record { behind = omega (arith, h.1); is_within = omega (arith, h.2) }
+      let there = f.is_there in let begins = f.begins in record { after = omega (arith, h.1); is_within = omega (arith, h.2) }
   to_FollowsIp (Ipv6 begin d) h number size at some f =
-      let there = f.is_there in let begins = f.begins in record { behind = omega (arith, h.1); is_within = omega (arith, h.2) }
+      let there = f.is_there in let begins = f.begins in record { after = omega (arith, h.1); is_within = omega (arith, h.2) }
 
   to_TransportFollows : (n : Network) → IsPlaced frame n → (header : L4) → Told frame n header → TransportFollows frame (layout_with t n) header
   to_TransportFollows n h l4.None f = tt

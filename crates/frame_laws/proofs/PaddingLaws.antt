@@ -25,9 +25,9 @@ use Rattle.spec_frames.specs.Transport.{tcp_size, udp_size, icmp_size, icmp6_siz
 use Rattle.spec_frames.specs.Key.{shown, with_transport, with_network, key_of}
 use Rattle.spec_frames.specs.Layout.{place_of_network, layout_with, layout_of}
 use Rattle.frame_laws.specs.Headers.{end_by, packet_end}
-use Rattle.frame_laws.proofs.Forms.{ethernet_of, short-layout, whole-key, whole-layout}
+use Rattle.key_laws.proofs.Forms.{by_network, ethernet_of, short-layout, whole-key, whole-layout}
 use Rattle.frame_laws.proofs.TransportLaws.{Fits, Told, transport-tells}
-use Rattle.frame_laws.proofs.HeaderLaws.{carried-least, by_network, HasSizes, is_ipv4-HasSizes}
+use Rattle.frame_laws.proofs.HeaderLaws.{carried-least, HasSizes, is_ipv4-HasSizes}
 
 -- ---- a network header, by what shows it
 
@@ -261,7 +261,7 @@ module _ (a b : List ℕ) (end : ℕ) (same : (i : ℕ) → i < end → slice_in
     parts = network_at-same (carried a).dl_type (carried a).at some e
 
     least : 34 ≤ end
-    least = let behind = carried-least a in omega (arith, parts.1)
+    least = let after = carried-least a in omega (arith, parts.1)
 
     network-same : network b ≡ network a
     network-same = ap (λ (c : Carried). network_at b c.dl_type c.at) (carried-same (omega (arith, least))) ∙ parts.2
@@ -278,7 +278,7 @@ module _ (a b : List ℕ) (end : ℕ) (same : (i : ℕ) → i < end → slice_in
 
 -- ---- padding
 
--- a frame whose layout names a network header, with other bytes behind its packet
+-- a frame whose layout names a network header, with other bytes after its packet
 module _ (frame padding : List ℕ) (some : (layout_of frame).l3 ≢ l3.None) (whole : packet_end frame ≤ length frame) where
   padded : List ℕ
   padded = take (packet_end frame) frame ++ padding

@@ -29,10 +29,10 @@ udp_over_ipv4 high low =
     addresses
     ++ ((8 ∷ 0 ∷ 0x45 ∷ 0 ∷ 0 ∷ 28 ∷ 0 ∷ 1 ∷ high ∷ low ∷ 64 ∷ 17 ∷ 0 ∷ 0 ∷ 10 ∷ 0 ∷ 0 ∷ 1 ∷ 10 ∷ 0 ∷ 0 ∷ 2 ∷ []) ++ (udp ++ replicate 18 0xff))
 
-a_padded_frame_ends_behind_its_packet :
+a_padded_frame_ends_after_its_packet :
     ((layout_of (udp_over_ipv4 0 0)).l3 ≡ Ipv4 14) × (packet_end (udp_over_ipv4 0 0) ≡ 42) × (length (udp_over_ipv4 0 0) ≡ 60)
 unfolding layout_of big_endian_at is_tagged carried carried_by network_at is_ipv4 ipv4
-a_padded_frame_ends_behind_its_packet = (refl, refl, refl)
+a_padded_frame_ends_after_its_packet = (refl, refl, refl)
 
 a_whole_packet_shows_its_ports :
     ((layout_of (udp_over_ipv4 0 0)).l4 ≡ Udp 34)
@@ -52,26 +52,26 @@ a_later_fragment_has_no_header : ((layout_of (udp_over_ipv4 0 1)).l4 ≡ None) �
 unfolding layout_of key_of none big_endian_at is_tagged tci_of carried carried_by network_at is_ipv4 ipv4 transport with_transport with_network
 a_later_fragment_has_no_header = (refl, refl)
 
--- over IPv6, behind options for the destination, in a frame of 72 bytes
+-- over IPv6, after options for the destination, in a frame of 72 bytes
 abbrev udp_over_ipv6 : List ℕ
 udp_over_ipv6 =
     addresses
     ++ ((0x86 ∷ 0xdd ∷ 0x60 ∷ 0 ∷ 0 ∷ 0 ∷ 0 ∷ 16 ∷ 60 ∷ 64 ∷ []) ++ (replicate 32 1 ++ ((17 ∷ 0 ∷ 1 ∷ 4 ∷ 0 ∷ 0 ∷ 0 ∷ 0 ∷ []) ++ (udp ++ replicate 2 0xff))))
 
-an_upper_layer_begins_behind_extension_headers :
+an_upper_layer_begins_after_extension_headers :
     ((layout_of udp_over_ipv6).l3 ≡ Ipv6 14)
     × ((layout_of udp_over_ipv6).l4 ≡ Udp 62)
     × (upper_at (network udp_over_ipv6) ≡ 62)
     × (upper_size (network udp_over_ipv6) ≡ 8)
     × (packet_end udp_over_ipv6 ≡ 70)
 unfolding layout_of big_endian_at is_tagged carried carried_by network_at ipv6 upper_layer transport
-an_upper_layer_begins_behind_extension_headers = (refl, refl, refl, refl, refl)
+an_upper_layer_begins_after_extension_headers = (refl, refl, refl, refl, refl)
 
--- a request behind a tag
-abbrev arp_behind_a_tag : List ℕ
-arp_behind_a_tag =
+-- a request after a tag
+abbrev arp_after_a_tag : List ℕ
+arp_after_a_tag =
     addresses ++ ((0x81 ∷ 0 ∷ 0 ∷ 5 ∷ 8 ∷ 6 ∷ 0 ∷ 1 ∷ 8 ∷ 0 ∷ 6 ∷ 4 ∷ 0 ∷ 1 ∷ []) ++ replicate 34 0)
 
-a_header_behind_a_tag_begins_at_18 : ((layout_of arp_behind_a_tag).l3 ≡ Arp 18) × (packet_end arp_behind_a_tag ≡ 46) × (length arp_behind_a_tag ≡ 60)
+a_header_after_a_tag_begins_at_18 : ((layout_of arp_after_a_tag).l3 ≡ Arp 18) × (packet_end arp_after_a_tag ≡ 46) × (length arp_after_a_tag ≡ 60)
 unfolding layout_of big_endian_at is_tagged carried carried_by network_at is_arp
-a_header_behind_a_tag_begins_at_18 = (refl, refl, refl)
+a_header_after_a_tag_begins_at_18 = (refl, refl, refl)

@@ -6,16 +6,11 @@ use Rattle.spec_frames.specs.declared.headers.Network.TheVariants as network
 use Rattle.spec_frames.specs.declared.layout.Layout.{Layout}
 use Rattle.spec_frames.specs.declared.layout.L3.{L3}
 use Rattle.spec_frames.specs.declared.layout.L3.TheVariants.{None, Arp, Ipv4, Ipv6}
-use Rattle.spec_frames.specs.declared.layout.L4.TheVariants as transport
 use Rattle.spec_frames.specs.Ethernet.{header_size, type_size, tag_size}
 use Rattle.spec_frames.specs.Arp.{packet_size}
 use Rattle.spec_frames.specs.Ipv4 as ipv4
 use Rattle.spec_frames.specs.Ipv6 as ipv6
 use Rattle.spec_frames.specs.Layout.{layout_of}
-
--- where no header stands
-abbrev pub no_headers : Layout
-no_headers = record { tagged = false; l3 = None; l4 = transport.None; routed = false }
 
 abbrev pub is_ipv4 : L3 → Bool
 is_ipv4 (Ipv4 at) = true
@@ -35,7 +30,7 @@ end_by frame (Arp at) = at + packet_size
 end_by frame (Ipv4 at) = at + ipv4.total_size frame at
 end_by frame (Ipv6 at) = at + ipv6.header_size + ipv6.payload_size frame at
 
--- where the packet of a frame ends; in a frame without such a header nothing stands behind it
+-- where the packet of a frame ends; in a frame without such a header nothing stands after it
 abbrev pub packet_end : List ℕ → ℕ
 packet_end frame = end_by frame (layout_of frame).l3
 
@@ -51,21 +46,21 @@ upper_size (network.Ipv4 at d) = d.end - d.upper.at
 upper_size (network.Ipv6 at d) = d.end - d.upper.at
 upper_size other = 0
 
--- A network header of this type begins behind the type field that says so, and behind the tag where there is one. So
+-- A network header of this type begins after the type field that says so, and after the tag where there is one. So
 -- many bytes of it at least lie in the frame.
 pub record FollowsType (frame : List ℕ) (layout : Layout) (dl_type size at : ℕ) : Type 0 where
-  pub behind_ethernet : header_size ≤ at
-  pub behind_tag : IsTrue layout.tagged → header_size + tag_size ≤ at
-  pub behind_type : big_endian_at type_size frame (at - type_size) ≡ dl_type
+  pub after_ethernet : header_size ≤ at
+  pub after_tag : IsTrue layout.tagged → header_size + tag_size ≤ at
+  pub after_type : big_endian_at type_size frame (at - type_size) ≡ dl_type
   pub is_within : at + size ≤ length frame
 
--- An offset is behind what every IP header has: 20 bytes of IPv4, 40 of IPv6.
-abbrev pub IsBehind : L3 → ℕ → Type 0
-IsBehind (Ipv4 begin) at = begin + ipv4.least_header_size ≤ at
-IsBehind (Ipv6 begin) at = begin + ipv6.header_size ≤ at
-IsBehind other at = ⊥
+-- An offset is after what every IP header has: 20 bytes of IPv4, 40 of IPv6.
+abbrev pub IsAfter : L3 → ℕ → Type 0
+IsAfter (Ipv4 begin) at = begin + ipv4.least_header_size ≤ at
+IsAfter (Ipv6 begin) at = begin + ipv6.header_size ≤ at
+IsAfter other at = ⊥
 
--- A transport header begins behind the IP header. So many bytes of it at least lie in the frame.
+-- A transport header begins after the IP header. So many bytes of it at least lie in the frame.
 pub record FollowsIp (frame : List ℕ) (layout : Layout) (size at : ℕ) : Type 0 where
-  pub behind : IsBehind layout.l3 at
+  pub after : IsAfter layout.l3 at
   pub is_within : at + size ≤ length frame

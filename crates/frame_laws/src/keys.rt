@@ -6,28 +6,12 @@ ghost use Rattle.spec_frames.specs.declared.layout.L3.TheVariants.{None};
 ghost use Rattle.spec_frames.specs.Ethernet.{header_size};
 ghost use Rattle.spec_frames.specs.Key.{with_value, key_of};
 ghost use Rattle.spec_frames.specs.Layout.{layout_of};
-ghost use Rattle.frame_laws.specs.Headers.{no_headers, packet_end};
+ghost use Rattle.frame_laws.specs.Headers.{packet_end};
 
-/// Of a frame of fewer than 14 bytes a key says the port alone, and no header stands in it.
-pub fn short_frame_has_its_port_alone()
-    ensures key { (port : ℕ) (frame : List ℕ)
-        → length frame < header_size → key_of port frame ≡ with_value InPort port none }
-    ensures layout { (frame : List ℕ)
-        → length frame < header_size → layout_of frame ≡ no_headers }
-{}
-
-/// Every key is clean: metadata and registers, which no frame carries, are 0. The key of a frame of bytes that came in
-/// at a port of 16 bits has a number for each field, within the field's width.
-pub fn keys_are_clean()
-    ensures clean { (port : ℕ) (frame : List ℕ) → IsClean (key_of port frame) }
-    ensures key { (port : ℕ) (frame : List ℕ)
-        → port < 2 ^ width_of InPort → All (λ byte. byte < 256) frame → IsKey (key_of port frame) }
-{}
-
-/// Bytes behind a packet, as those that fill an Ethernet frame up to its least size, change neither the key nor the
-/// layout. The packet ends where its network header says: 28 bytes behind the beginning of ARP, the total length behind
-/// that of IPv4, and 40 bytes and the payload length behind that of IPv6. The frame has all bytes before this end.
-pub fn bytes_behind_the_packet_do_not_count()
+/// Bytes after a packet, as those that fill an Ethernet frame up to its least size, change neither the key nor the
+/// layout. The packet ends where its network header says: 28 bytes after the beginning of ARP, the total length after
+/// that of IPv4, and 40 bytes and the payload length after that of IPv6. The frame has all bytes before this end.
+pub fn bytes_after_the_packet_do_not_count()
     ensures key { (port : ℕ) (frame padding : List ℕ)
         → (layout_of frame).l3 ≢ None → packet_end frame ≤ length frame
         → key_of port (take (packet_end frame) frame ++ padding) ≡ key_of port frame }

@@ -9,9 +9,7 @@
 //!
 //! # What is promised
 //!
-//! - A frame of fewer than 14 bytes has a key of its port alone and no headers (`short_frame_has_its_port_alone`).
-//! - Every key is clean, and within the widths of its fields (`keys_are_clean`): what the laws of translation ask for.
-//! - Bytes behind the end of the packet change neither key nor layout (`bytes_behind_the_packet_do_not_count`): a frame
+//! - Bytes after the end of the packet change neither key nor layout (`bytes_after_the_packet_do_not_count`): a frame
 //!   that was padded to the least size of Ethernet is the same packet as before.
 //! - Headers follow each other and lie in the frame (`headers_follow_each_other`). This is what code that rewrites a
 //!   frame relies on, at the offsets of its layout.
@@ -21,10 +19,9 @@
 //!
 //! # How
 //!
-//! A key is written field by field on one of four forms, by the network header; so what holds of each form holds of
-//! every key. What an IPv6 packet carries is reached by a chain of extension headers, of at most 8, and what is said of
+//! The forms of keys and layouts are those of `key_laws`, which has the two laws of keys themselves. What an IPv6 packet carries is reached by a chain of extension headers, of at most 8, and what is said of
 //! it is proved by induction on how many may still follow. Each of them is known to have 8 bytes before the packet's end
-//! before its size is read, so that nothing behind that end is.
+//! before its size is read, so that nothing after that end is.
 //!
 //! # What is left to others
 //!
@@ -36,8 +33,6 @@ mod keys;
 mod places;
 mod ports;
 
-pub use keys::{
-    bytes_behind_the_packet_do_not_count, keys_are_clean, short_frame_has_its_port_alone,
-};
+pub use keys::bytes_after_the_packet_do_not_count;
 pub use places::{headers_follow_each_other, transport_is_named_where_it_stands};
 pub use ports::{fragments_have_no_ports, ports_are_those_of_the_header};

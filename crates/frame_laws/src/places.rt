@@ -27,9 +27,9 @@ pub fn transport_is_named_where_it_stands()
         ↔ (IsTrue (is_ipv6 (layout_of frame).l3) × Carries frame (key_of port frame) icmp6_protocol icmp6_size at) }
 {}
 
-/// The headers that the layout names follow each other and lie in the frame. A network header begins behind its type
-/// field, so at 14 or later, and at 18 or later behind a tag; of ARP there are 28 bytes, of IPv4 20 and of IPv6 40. A
-/// transport header begins behind these bytes of an IP header; of TCP there are 20 bytes, of UDP and ICMP 8 and of
+/// The headers that the layout names follow each other and lie in the frame. A network header begins after its type
+/// field, so at 14 or later, and at 18 or later after a tag; of ARP there are 28 bytes, of IPv4 20 and of IPv6 40. A
+/// transport header begins after these bytes of an IP header; of TCP there are 20 bytes, of UDP and ICMP 8 and of
 /// ICMPv6 4.
 pub fn headers_follow_each_other()
     ensures arp { (frame : List ℕ) (at : ℕ)

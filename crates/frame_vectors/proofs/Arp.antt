@@ -181,7 +181,7 @@ unfolding shown
 a_request_with_a_tag = refl
 
 -- ARP in a frame with a length.
-a_request_behind_snap :
+a_request_after_snap :
     shown 7 (replicate 6 0xff ++ (2 ∷ 0xaa ∷ 0xbb ∷ 0xcc ∷ 0xdd ∷ 0xee ∷ [])
     ++ (0 ∷ 0x24 ∷ [])
     ++ (0xaa ∷ 0xaa ∷ 3 ∷ 0 ∷ 0 ∷ 0 ∷ 8 ∷ 6 ∷ [])
@@ -194,7 +194,7 @@ a_request_behind_snap :
     is NwDst 0xc6336422 ∷ is NwProto 1 ∷ is ArpSha 0x02aabbccddee ∷ is ArpTha 0x000000000000 ∷ [])
     (record { tagged = false; l3 = l3.Arp 22; l4 = l4.None; routed = false })
 unfolding shown
-a_request_behind_snap = refl
+a_request_after_snap = refl
 
 -- RARP is another type. tshark differs: it reads the packet as one of ARP.
 a_reverse_request :

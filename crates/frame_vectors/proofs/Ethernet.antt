@@ -6,7 +6,7 @@ use Rattle.spec_frames.specs.declared.layout.L3.TheVariants as l3
 use Rattle.spec_frames.specs.declared.layout.L4.TheVariants as l4
 use Rattle.frame_vectors.proofs.Shown.{is, gives, shown, addresses}
 
--- A type for local experiments, with 46 bytes behind it.
+-- A type for local experiments, with 46 bytes after it.
 an_unknown_type :
     shown 7 (addresses
     ++ (0x88 ∷ 0xb5 ∷ [])
@@ -46,7 +46,7 @@ no_byte :
 unfolding shown
 no_byte = refl
 
--- IPv4, with nothing behind the type.
+-- IPv4, with nothing after the type.
 the_type_of_ipv4_alone :
     shown 7 (addresses
     ++ (8 ∷ 0 ∷ []))
@@ -56,7 +56,7 @@ the_type_of_ipv4_alone :
 unfolding shown
 the_type_of_ipv4_alone = refl
 
--- IPv6, with nothing behind the type.
+-- IPv6, with nothing after the type.
 the_type_of_ipv6_alone :
     shown 7 (addresses
     ++ (0x86 ∷ 0xdd ∷ []))
@@ -66,7 +66,7 @@ the_type_of_ipv6_alone :
 unfolding shown
 the_type_of_ipv6_alone = refl
 
--- ARP, with nothing behind the type.
+-- ARP, with nothing after the type.
 the_type_of_arp_alone :
     shown 7 (addresses
     ++ (8 ∷ 6 ∷ []))
@@ -122,7 +122,7 @@ llc :
 unfolding shown
 llc = refl
 
--- The type stands behind SNAP.
+-- The type stands after SNAP.
 snap :
     shown 7 (addresses
     ++ (0 ∷ 0x2e ∷ [])
@@ -134,7 +134,7 @@ snap :
 unfolding shown
 snap = refl
 
--- 0x0600 is a type behind SNAP too.
+-- 0x0600 is a type after SNAP too.
 snap_with_the_least_type :
     shown 7 (addresses
     ++ (0 ∷ 0x2e ∷ [])
@@ -146,7 +146,7 @@ snap_with_the_least_type :
 unfolding shown
 snap_with_the_least_type = refl
 
--- 0x05fe behind SNAP is no type. tshark differs: it prints this number as the type.
+-- 0x05fe after SNAP is no type. tshark differs: it prints this number as the type.
 snap_with_a_number_that_is_no_type :
     shown 7 (addresses
     ++ (0 ∷ 0x2e ∷ [])
@@ -158,8 +158,8 @@ snap_with_a_number_that_is_no_type :
 unfolding shown
 snap_with_a_number_that_is_no_type = refl
 
--- The type stands behind SNAP. tshark differs: it takes 0x05ff as no length either, and reads no further.
-snap_behind_the_greatest_number_that_is_no_type :
+-- The type stands after SNAP. tshark differs: it takes 0x05ff as no length either, and reads no further.
+snap_after_the_greatest_number_that_is_no_type :
     shown 7 (addresses
     ++ (5 ∷ 0xff ∷ [])
     ++ (0xaa ∷ 0xaa ∷ 3 ∷ 0 ∷ 0 ∷ 0 ∷ 0x88 ∷ 0xb5 ∷ [])
@@ -168,7 +168,7 @@ snap_behind_the_greatest_number_that_is_no_type :
     (is InPort 7 ∷ is DlSrc 0x02aabbccddee ∷ is DlDst 0x021122334455 ∷ is DlType 0x88b5 ∷ [])
     (record { tagged = false; l3 = l3.None; l4 = l4.None; routed = false })
 unfolding shown
-snap_behind_the_greatest_number_that_is_no_type = refl
+snap_after_the_greatest_number_that_is_no_type = refl
 
 -- The number is one of the organization 00-00-0c.
 snap_of_another_organization :
@@ -194,7 +194,7 @@ snap_with_another_control_field :
 unfolding shown
 snap_with_another_control_field = refl
 
--- The frame ends behind the type.
+-- The frame ends after the type.
 snap_with_its_type_alone :
     shown 7 (addresses
     ++ (0 ∷ 8 ∷ [])
@@ -218,7 +218,7 @@ snap_cut = refl
 
 -- The length has room for LLC alone. tshark differs: it reads no further than the length says; the rules don't ask how
 -- much that is.
-snap_behind_a_length_of_3 :
+snap_after_a_length_of_3 :
     shown 7 (addresses
     ++ (0 ∷ 3 ∷ [])
     ++ (0xaa ∷ 0xaa ∷ 3 ∷ 0 ∷ 0 ∷ 0 ∷ 0x88 ∷ 0xb5 ∷ [])
@@ -227,7 +227,7 @@ snap_behind_a_length_of_3 :
     (is InPort 7 ∷ is DlSrc 0x02aabbccddee ∷ is DlDst 0x021122334455 ∷ is DlType 0x88b5 ∷ [])
     (record { tagged = false; l3 = l3.None; l4 = l4.None; routed = false })
 unfolding shown
-snap_behind_a_length_of_3 = refl
+snap_after_a_length_of_3 = refl
 
 -- Priority 5 and VLAN 100.
 a_tag :
@@ -375,7 +375,7 @@ an_old_tag :
 unfolding shown
 an_old_tag = refl
 
--- A tag, a length, and the type behind SNAP.
+-- A tag, a length, and the type after SNAP.
 a_tag_and_snap :
     shown 7 (addresses
     ++ (0x81 ∷ 0 ∷ 0xa0 ∷ 0x64 ∷ [])
@@ -401,7 +401,7 @@ a_tag_and_llc :
 unfolding shown
 a_tag_and_llc = refl
 
--- The last byte of the type behind SNAP is missing.
+-- The last byte of the type after SNAP is missing.
 a_tag_and_snap_cut :
     shown 7 (addresses
     ++ (0x81 ∷ 0 ∷ 0xa0 ∷ 0x64 ∷ [])

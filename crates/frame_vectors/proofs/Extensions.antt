@@ -182,7 +182,7 @@ unfolding shown
 nine_extension_headers = refl
 
 -- Nothing follows the options.
-no_next_header_behind_options :
+no_next_header_after_options :
     shown 7 (addresses
     ++ (0x86 ∷ 0xdd ∷ [])
     ++ (0x60 ∷ 0 ∷ 0 ∷ 0 ∷ 0 ∷ 8 ∷ 0x3c ∷ 0x40 ∷ []) ++ ipv6_addresses
@@ -193,10 +193,10 @@ no_next_header_behind_options :
     is NwTos 0x00 ∷ is NwTtl 64 ∷ is IpFrag 0 ∷ [])
     (record { tagged = false; l3 = l3.Ipv6 14; l4 = l4.None; routed = false })
 unfolding shown
-no_next_header_behind_options = refl
+no_next_header_after_options = refl
 
 -- What is encrypted isn't read.
-esp_behind_routing :
+esp_after_routing :
     shown 7 (addresses
     ++ (0x86 ∷ 0xdd ∷ [])
     ++ (0x60 ∷ 0 ∷ 0 ∷ 0 ∷ 0 ∷ 0x28 ∷ 0x2b ∷ 0x40 ∷ []) ++ ipv6_addresses
@@ -209,10 +209,10 @@ esp_behind_routing :
     is NwTos 0x00 ∷ is NwTtl 64 ∷ is IpFrag 0 ∷ [])
     (record { tagged = false; l3 = l3.Ipv6 14; l4 = l4.None; routed = true })
 unfolding shown
-esp_behind_routing = refl
+esp_after_routing = refl
 
 -- The last byte is missing. tshark differs: it prints the ports of a header that isn't whole.
-tcp_of_19_bytes_behind_options :
+tcp_of_19_bytes_after_options :
     shown 7 (addresses
     ++ (0x86 ∷ 0xdd ∷ [])
     ++ (0x60 ∷ 0 ∷ 0 ∷ 0 ∷ 0 ∷ 0x1b ∷ 0x3c ∷ 0x40 ∷ []) ++ ipv6_addresses
@@ -224,9 +224,9 @@ tcp_of_19_bytes_behind_options :
     is NwTos 0x00 ∷ is NwTtl 64 ∷ is IpFrag 0 ∷ is TpSrc 0 ∷ is TpDst 0 ∷ [])
     (record { tagged = false; l3 = l3.Ipv6 14; l4 = l4.None; routed = false })
 unfolding shown
-tcp_of_19_bytes_behind_options = refl
+tcp_of_19_bytes_after_options = refl
 
--- TCP behind options in VLAN 100.
+-- TCP after options in VLAN 100.
 options_and_a_tag :
     shown 7 (addresses
     ++ (0x81 ∷ 0 ∷ 0 ∷ 0x64 ∷ [])
@@ -369,7 +369,7 @@ unfolding shown
 a_first_fragment_and_a_later_one = refl
 
 -- The routing header is passed. tshark differs: it prints the ports; the key of a fragment has none.
-routing_behind_a_first_fragment :
+routing_after_a_first_fragment :
     shown 7 (addresses
     ++ (0x86 ∷ 0xdd ∷ [])
     ++ (0x60 ∷ 0 ∷ 0 ∷ 0 ∷ 0 ∷ 0x18 ∷ 0x2c ∷ 0x40 ∷ []) ++ ipv6_addresses
@@ -382,11 +382,11 @@ routing_behind_a_first_fragment :
     is NwTos 0x00 ∷ is NwTtl 64 ∷ is IpFrag 1 ∷ is TpSrc 0 ∷ is TpDst 0 ∷ [])
     (record { tagged = false; l3 = l3.Ipv6 14; l4 = l4.Udp 70; routed = true })
 unfolding shown
-routing_behind_a_first_fragment = refl
+routing_after_a_first_fragment = refl
 
--- Nothing is read behind the fragment header. tshark differs: it prints what the fragment header names; the key has the
+-- Nothing is read after the fragment header. tshark differs: it prints what the fragment header names; the key has the
 -- number of that header.
-routing_behind_a_later_fragment :
+routing_after_a_later_fragment :
     shown 7 (addresses
     ++ (0x86 ∷ 0xdd ∷ [])
     ++ (0x60 ∷ 0 ∷ 0 ∷ 0 ∷ 0 ∷ 0x18 ∷ 0x2c ∷ 0x40 ∷ []) ++ ipv6_addresses
@@ -399,11 +399,11 @@ routing_behind_a_later_fragment :
     is NwTos 0x00 ∷ is NwTtl 64 ∷ is IpFrag 3 ∷ [])
     (record { tagged = false; l3 = l3.Ipv6 14; l4 = l4.None; routed = false })
 unfolding shown
-routing_behind_a_later_fragment = refl
+routing_after_a_later_fragment = refl
 
 -- The routing header is passed. tshark differs: it prints what the fragment header names; the key has the number of
 -- that header.
-a_later_fragment_behind_routing :
+a_later_fragment_after_routing :
     shown 7 (addresses
     ++ (0x86 ∷ 0xdd ∷ [])
     ++ (0x60 ∷ 0 ∷ 0 ∷ 0 ∷ 0 ∷ 0x18 ∷ 0x2b ∷ 0x40 ∷ []) ++ ipv6_addresses
@@ -416,11 +416,11 @@ a_later_fragment_behind_routing :
     is NwTos 0x00 ∷ is NwTtl 64 ∷ is IpFrag 3 ∷ [])
     (record { tagged = false; l3 = l3.Ipv6 14; l4 = l4.None; routed = true })
 unfolding shown
-a_later_fragment_behind_routing = refl
+a_later_fragment_after_routing = refl
 
 -- An eighth header is passed. tshark differs: it prints what the fragment header names; the key has the number of that
 -- header.
-a_later_fragment_behind_seven_headers :
+a_later_fragment_after_seven_headers :
     shown 7 (addresses
     ++ (0x86 ∷ 0xdd ∷ [])
     ++ (0x60 ∷ 0 ∷ 0 ∷ 0 ∷ 0 ∷ 0x48 ∷ 0x3c ∷ 0x40 ∷ []) ++ ipv6_addresses
@@ -439,11 +439,11 @@ a_later_fragment_behind_seven_headers :
     is NwTos 0x00 ∷ is NwTtl 64 ∷ is IpFrag 3 ∷ [])
     (record { tagged = false; l3 = l3.Ipv6 14; l4 = l4.None; routed = false })
 unfolding shown
-a_later_fragment_behind_seven_headers = refl
+a_later_fragment_after_seven_headers = refl
 
 -- A ninth header isn't passed. tshark differs: it passes the ninth header, which makes the header of IPv6 malformed by
 -- the rules.
-a_later_fragment_behind_eight_headers :
+a_later_fragment_after_eight_headers :
     shown 7 (addresses
     ++ (0x86 ∷ 0xdd ∷ [])
     ++ (0x60 ∷ 0 ∷ 0 ∷ 0 ∷ 0 ∷ 0x50 ∷ 0x3c ∷ 0x40 ∷ []) ++ ipv6_addresses
@@ -461,7 +461,7 @@ a_later_fragment_behind_eight_headers :
     (is InPort 7 ∷ is DlSrc 0x02aabbccddee ∷ is DlDst 0x021122334455 ∷ is DlType 0x86dd ∷ [])
     (record { tagged = false; l3 = l3.None; l4 = l4.None; routed = false })
 unfolding shown
-a_later_fragment_behind_eight_headers = refl
+a_later_fragment_after_eight_headers = refl
 
 -- The last byte is missing. tshark differs: it keeps the header of IPv6, which is malformed by the rules as an
 -- extension header isn't whole.

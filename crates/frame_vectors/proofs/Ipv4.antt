@@ -295,7 +295,7 @@ a_header_length_of_0 :
 unfolding shown
 a_header_length_of_0 = refl
 
--- 20 bytes of header, and nothing behind.
+-- 20 bytes of header, and nothing after.
 a_header_alone_of_ipv4 :
     shown 7 (addresses
     ++ (8 ∷ 0 ∷ [])
@@ -570,7 +570,7 @@ tcp_and_a_tag :
 unfolding shown
 tcp_and_a_tag = refl
 
--- Nothing is read behind the second tag. tshark differs: it reads both tags, and the packet.
+-- Nothing is read after the second tag. tshark differs: it reads both tags, and the packet.
 udp_and_two_tags :
     shown 7 (addresses
     ++ (0x88 ∷ 0xa8 ∷ 0x20 ∷ 0xc8 ∷ [])
@@ -586,7 +586,7 @@ unfolding shown
 udp_and_two_tags = refl
 
 -- UDP in a frame with a length.
-udp_behind_snap :
+udp_after_snap :
     shown 7 (addresses
     ++ (0 ∷ 0x24 ∷ [])
     ++ (0xaa ∷ 0xaa ∷ 3 ∷ 0 ∷ 0 ∷ 0 ∷ 8 ∷ 0 ∷ [])
@@ -598,10 +598,10 @@ udp_behind_snap :
     is TpDst 50002 ∷ [])
     (record { tagged = false; l3 = l3.Ipv4 22; l4 = l4.Udp 42; routed = false })
 unfolding shown
-udp_behind_snap = refl
+udp_after_snap = refl
 
 -- UDP in a frame with a priority tag and a length.
-udp_behind_a_tag_and_snap :
+udp_after_a_tag_and_snap :
     shown 7 (addresses
     ++ (0x81 ∷ 0 ∷ 0x60 ∷ 0 ∷ [])
     ++ (0 ∷ 0x24 ∷ [])
@@ -614,4 +614,4 @@ udp_behind_a_tag_and_snap :
     is TpSrc 40001 ∷ is TpDst 50002 ∷ [])
     (record { tagged = true; l3 = l3.Ipv4 26; l4 = l4.Udp 46; routed = false })
 unfolding shown
-udp_behind_a_tag_and_snap = refl
+udp_after_a_tag_and_snap = refl

@@ -289,7 +289,7 @@ unfolding shown
 udp_over_ipv6_and_a_tag = refl
 
 -- TCP in a frame with a length.
-tcp_over_ipv6_behind_snap :
+tcp_over_ipv6_after_snap :
     shown 7 (addresses
     ++ (0 ∷ 0x44 ∷ [])
     ++ (0xaa ∷ 0xaa ∷ 3 ∷ 0 ∷ 0 ∷ 0 ∷ 0x86 ∷ 0xdd ∷ [])
@@ -301,4 +301,4 @@ tcp_over_ipv6_behind_snap :
     is NwTos 0x00 ∷ is NwTtl 64 ∷ is IpFrag 0 ∷ is TpSrc 40001 ∷ is TpDst 50002 ∷ [])
     (record { tagged = false; l3 = l3.Ipv6 22; l4 = l4.Tcp 62; routed = false })
 unfolding shown
-tcp_over_ipv6_behind_snap = refl
+tcp_over_ipv6_after_snap = refl

@@ -12,7 +12,7 @@
 //! exactly the layout. So a definition that is changed to another answer for one of these frames is refused here.
 //!
 //! Where the rules of the key differ from tshark by intention, as for a header that is cut, the row has what the rules
-//! say. Its comment tells that, behind the words "tshark differs", and why.
+//! say. Its comment tells that, after the words "tshark differs", and why.
 //!
 //! # How
 //!

@@ -3,7 +3,7 @@ use Rattle.std.proofs.Common.{◌≡◌, ℕ, ◌+◌, ◌-◌, ◌*◌, ◌/◌
 use Rattle.std.specs.Prelude.{All, Any, sum, fold}
 use Rattle.std.proofs.lemmas.List.Elements.{All-head, All-tail, All-append, All-cons}
 use Rattle.std.proofs.lemmas.List.Sums.{sum_by-append, sum_by-cons, get_or-le-sum_by, sum_by-le}
-use Rattle.spec_frames.specs.Checksum.{words, complement, ones_add, ones_sum, checksum, updated}
+use Rattle.spec_checksum.specs.Checksum.{words, complement, ones_add, ones_sum, checksum, updated}
 use Rattle.net_bytes.specs.Update.{IsWord, IsRecomputed}
 
 -- What a total comes to where each carry is added at the end: congruent to it, and 0 only where it is 0.
@@ -33,9 +33,9 @@ fold-folded total folded (word ∷ list) all is =
 
 -- ---- totals
 
-total-with : (front back : List ℕ) (word : ℕ) → sum (front ++ word ∷ back) ≡ sum front + (word + sum back)
-total-with front back word =
-    sum_by-append (λ word. word) front (word ∷ back) ∙ ap (λ n. sum front + n) (sum_by-cons (λ word. word) word back)
+total-with : (prefix back : List ℕ) (word : ℕ) → sum (prefix ++ word ∷ back) ≡ sum prefix + (word + sum back)
+total-with prefix back word =
+    sum_by-append (λ word. word) prefix (word ∷ back) ∙ ap (λ n. sum prefix + n) (sum_by-cons (λ word. word) word back)
 
 total-some : (list : List ℕ) → Any (λ word. 0 < word) list → 0 < sum list
 total-some list some =
@@ -49,19 +49,19 @@ total-none list none =
 
 -- ---- the update
 
-module _ (front back : List ℕ) (from to : ℕ) (in_front : All IsWord front) (in_back : All IsWord back) (is_from : IsWord from)
+module _ (prefix back : List ℕ) (from to : ℕ) (in_prefix : All IsWord prefix) (in_back : All IsWord back) (is_from : IsWord from)
     (is_to : IsWord to) where
   abbrev words_with : ℕ → List ℕ
-  words_with word = front ++ word ∷ back
+  words_with word = prefix ++ word ∷ back
 
   -- the sum of which the updated checksum is the complement
   abbrev update : ℕ
   update = ones_sum (ones_sum (words_with from) ∷ complement from ∷ to ∷ [])
 
-  with-folded : (word : ℕ) → IsWord word → IsFolded (sum front + (word + sum back)) (ones_sum (words_with word))
+  with-folded : (word : ℕ) → IsWord word → IsFolded (sum prefix + (word + sum back)) (ones_sum (words_with word))
   with-folded word fits =
-      let all = All-append IsWord front (word ∷ back) in_front (All-cons IsWord word back fits in_back) in
-      rw (← total-with front back word) (fold-folded 0 0 (words_with word) all none-folded)
+      let all = All-append IsWord prefix (word ∷ back) in_prefix (All-cons IsWord word back fits in_back) in
+      rw (← total-with prefix back word) (fold-folded 0 0 (words_with word) all none-folded)
 
   update-folded : IsFolded (0 + ones_sum (words_with from) + complement from + to) update
   update-folded =
@@ -78,7 +78,7 @@ module _ (front back : List ℕ) (from to : ℕ) (in_front : All IsWord front) (
   update-some : Any (λ word. 0 < word) (words_with to) → update ≡ ones_sum (words_with to)
   update-some some =
       let total = rw total-with at (total-some (words_with to) some) in
-      same (sum front) (sum back) _ _ _ (with-folded from is_from) (with-folded to is_to) update-folded total
+      same (sum prefix) (sum back) _ _ _ (with-folded from is_from) (with-folded to is_to) update-folded total
     where
       same : (a b was now new : ℕ) → IsFolded (a + (from + b)) was → IsFolded (a + (to + b)) now
           → IsFolded (0 + was + complement from + to) new → 0 < a + (to + b) → new ≡ now
@@ -87,7 +87,7 @@ module _ (front back : List ℕ) (from to : ℕ) (in_front : All IsWord front) (
   update-none : All (λ word. word ≡ 0) (words_with to) → (update ≡ words - 1) × (ones_sum (words_with to) ≡ 0)
   update-none none =
       let total = rw total-with at (total-none (words_with to) none) in
-      ends (sum front) (sum back) _ _ _ (with-folded from is_from) (with-folded to is_to) update-folded total
+      ends (sum prefix) (sum back) _ _ _ (with-folded from is_from) (with-folded to is_to) update-folded total
     where
       ends : (a b was now new : ℕ) → IsFolded (a + (from + b)) was → IsFolded (a + (to + b)) now
           → IsFolded (0 + was + complement from + to) new → a + (to + b) ≡ 0 → (new ≡ words - 1) × (now ≡ 0)

@@ -1,4 +1,4 @@
--- The numbers that `byteorder` reads behind an offset are those at the offset.
+-- The numbers that `byteorder` reads after an offset are those at the offset.
 use Rattle.std.proofs.Common.{◌≡◌, ℕ, zero, suc, ◌+◌, ◌-◌, List, length, take, drop, refl, sym, ap, ◌∙◌, arith, length-drop}
 use Rattle.std.proofs.lemmas.List.{get_or-drop, take_all}
 use Rattle.byteorder.specs.Endian.{big_from, big_number, little_from, little_number}

@@ -1,6 +1,6 @@
 -- The update of a checksum, against computing it anew.
 use Rattle.std.specs.Prelude.{◌≡◌, ℕ, ◌-◌, ◌<◌, List, ◌∷◌, ◌++◌, All, Any}
-use Rattle.spec_frames.specs.Checksum.{words, checksum, updated}
+use Rattle.spec_checksum.specs.Checksum.{words, checksum, updated}
 
 -- a word of 16 bits
 abbrev pub IsWord : ℕ → Type 0
@@ -14,5 +14,5 @@ pub record IsRecomputed (before now : List ℕ) (from to : ℕ) : Type 0 where
 
 -- Wherever a word changes, updating is recomputing.
 abbrev pub UpdateIsRecomputing : Type 0
-UpdateIsRecomputing = (front back : List ℕ) (from to : ℕ) → All IsWord front → All IsWord back → IsWord from → IsWord to
-    → IsRecomputed (front ++ from ∷ back) (front ++ to ∷ back) from to
+UpdateIsRecomputing = (prefix back : List ℕ) (from to : ℕ) → All IsWord prefix → All IsWord back → IsWord from → IsWord to
+    → IsRecomputed (prefix ++ from ∷ back) (prefix ++ to ∷ back) from to

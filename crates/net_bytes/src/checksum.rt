@@ -1,6 +1,6 @@
 //! The update of a checksum of the Internet protocols (RFC 1071 and 1624).
 ghost use Rattle.std.specs.Prelude.{◌≡◌};
-ghost use Rattle.spec_frames.specs.Checksum.{ones_add, updated};
+ghost use Rattle.spec_checksum.specs.Checksum.{ones_add, updated};
 ghost use Rattle.net_bytes.specs.Update.{UpdateIsRecomputing};
 
 // The sum in ones' complement: what is carried out of the word is added again at its end.
@@ -15,7 +15,7 @@ fn ones_add(a: u16, b: u16) -> u16
 ///
 /// The checksum was `sum`, and the word was `from` and is `to` now. It is the checksum of the words as they are now, but
 /// for the two zeros of ones' complement (`update_is_recomputing`).
-#[tactic(auto, unfolding(spec_frames::specs::Checksum::updated))]
+#[tactic(auto, unfolding(spec_checksum::specs::Checksum::updated))]
 pub fn checksum_update(sum: u16, from: u16, to: u16) -> u16
     ensures { result ≡ updated sum from to }
 {

@@ -47,7 +47,7 @@ fn hop_adds_0x0100_to_the_checksum(rt: HostRuntime) {
 
 #[test]
 fn ethernet_address_is_read_and_put(rt: HostRuntime) {
-    // 00-00-5e-00-53-01 (RFC 7042), behind two bytes.
+    // 00-00-5e-00-53-01 (RFC 7042), after two bytes.
     let mut bytes = [0x88, 0xcc, 0x00, 0x00, 0x5e, 0x00, 0x53, 0x01];
     assert_eq!(rt; be48(&bytes, 2), 0x0000_5e00_5301);
     put48(&mut bytes, 0, 0x0180_c200_000e);
@@ -56,7 +56,7 @@ fn ethernet_address_is_read_and_put(rt: HostRuntime) {
 
 #[test]
 fn ipv6_address_is_read_and_put(rt: HostRuntime) {
-    // 2001:db8::8:800:200c:417a (RFC 4291, with the prefix of RFC 3849), behind one byte.
+    // 2001:db8::8:800:200c:417a (RFC 4291, with the prefix of RFC 3849), after one byte.
     let mut bytes = [
         0x40, 0x20, 0x01, 0x0d, 0xb8, 0, 0, 0, 0, 0x00, 0x08, 0x08, 0x00, 0x20, 0x0c, 0x41, 0x7a,
     ];

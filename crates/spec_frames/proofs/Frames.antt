@@ -27,7 +27,7 @@ bytes n digits = big_endian n digits
 
 -- a frame from 00:00:00:00:00:01 to 00:00:00:00:00:02, which goes on with these bytes
 abbrev pub frame : List ℕ → List ℕ
-frame behind = bytes 12 0x000000000002000000000001 ++ behind
+frame after = bytes 12 0x000000000002000000000001 ++ after
 
 -- from port 1000 to 53, without data
 abbrev pub udp : List ℕ

@@ -10,8 +10,8 @@ use Rattle.spec_frames.proofs.Frames.{bytes, frame, udp, tcp, Stated, is, key_wi
 -- A packet from 10.0.0.1 to 10.0.0.2 with time to live 64. The first word has the version, the header's length, the type
 -- of service and the total length, the second one the identification, the flags and the fragment offset.
 abbrev packet : ℕ → ℕ → ℕ → List ℕ → List ℕ
-packet first second protocol behind =
-    frame (bytes 2 0x0800 ++ bytes 4 first ++ bytes 4 second ++ (64 ∷ protocol ∷ bytes 10 0x0000_0a000001_0a000002) ++ behind)
+packet first second protocol after =
+    frame (bytes 2 0x0800 ++ bytes 4 first ++ bytes 4 second ++ (64 ∷ protocol ∷ bytes 10 0x0000_0a000001_0a000002) ++ after)
 
 -- the key of such a packet with type of service 0xb8
 abbrev of_protocol : ℕ → List Stated → List ℕ
@@ -27,10 +27,10 @@ udp_shows_its_ports : Shows (packet 0x45b8001c 0 17 udp) (of_protocol 17 ports) 
 unfolding key key_with layout
 udp_shows_its_ports = (refl, refl)
 
-behind_options_stands_tcp :
+after_options_stands_tcp :
     Shows (packet 0x46b8002c 0 6 (bytes 4 0x01010100 ++ tcp)) (of_protocol 6 ports) (lies (Tcp 38))
 unfolding key key_with layout
-behind_options_stands_tcp = (refl, refl)
+after_options_stands_tcp = (refl, refl)
 
 abbrev IsMalformed : List ℕ → Type 0
 IsMalformed bytes = Shows bytes (of_type 0x0800 []) no_headers
@@ -75,9 +75,9 @@ a_later_fragment_has_no_header = ((refl, refl), (refl, refl))
 
 -- ---- the transport header
 
-behind_the_total_length_nothing_counts : Shows (packet 0x45b8001b 0 17 udp) (of_protocol 17 []) (lies None)
+after_the_total_length_nothing_counts : Shows (packet 0x45b8001b 0 17 udp) (of_protocol 17 []) (lies None)
 unfolding key key_with layout
-behind_the_total_length_nothing_counts = (refl, refl)
+after_the_total_length_nothing_counts = (refl, refl)
 
 udp_of_7_bytes_in_the_frame_is_none : Shows (packet 0x45b8001c 0 17 (take 7 udp)) (of_protocol 17 []) (lies None)
 unfolding key key_with layout

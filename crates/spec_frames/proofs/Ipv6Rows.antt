@@ -1,4 +1,4 @@
--- Worked rows: IPv6, its extension headers, and the transport headers behind them.
+-- Worked rows: IPv6, its extension headers, and the transport headers after them.
 use Rattle.std.specs.Prelude.{◌≡◌, ℕ, ◌+◌, ◌-◌, ◌*◌, true, List, [], ◌∷◌, ◌++◌, replicate, slice_set, take, refl}
 use Rattle.std.specs.List.{concat}
 use Rattle.spec_keys.specs.declared.field_id.FieldId.TheVariants.{Ipv6Src, Ipv6Dst, NwProto, NwTos, NwTtl, IpFrag, TpSrc, TpDst}
@@ -17,8 +17,8 @@ destination = 0x20010db8_00000000_00000000_00000002
 
 -- a packet between them, of traffic class 0xb8 and hop limit 64, with this payload length and next header
 abbrev packet : ℕ → ℕ → List ℕ → List ℕ
-packet payload next behind =
-    frame (bytes 6 0x86dd_6b812345 ++ bytes 2 payload ++ (next ∷ 64 ∷ bytes 16 source) ++ bytes 16 destination ++ behind)
+packet payload next after =
+    frame (bytes 6 0x86dd_6b812345 ++ bytes 2 payload ++ (next ∷ 64 ∷ bytes 16 source) ++ bytes 16 destination ++ after)
 
 -- the key of such a packet
 abbrev of_protocol : ℕ → List Stated → List ℕ
@@ -48,9 +48,9 @@ another_version_is_malformed = (refl, refl)
 
 -- ---- the transport header
 
-behind_the_payload_nothing_counts : Shows (packet 7 17 udp) (of_protocol 17 []) (lies None)
+after_the_payload_nothing_counts : Shows (packet 7 17 udp) (of_protocol 17 []) (lies None)
 unfolding key key_with layout
-behind_the_payload_nothing_counts = (refl, refl)
+after_the_payload_nothing_counts = (refl, refl)
 
 tcp_stands_over_ipv6_too :
     Shows (packet 20 6 tcp) (of_protocol 6 ports) (lies (Tcp 54))
@@ -90,11 +90,11 @@ a_routing_header_is_passed :
 unfolding key key_with layout
 a_routing_header_is_passed = (refl, refl)
 
-behind_other_headers_it_is_routed_still :
+after_other_headers_it_is_routed_still :
     (layout (packet 24 43 (bytes 8 0x3c_00_04_00_00000000 ++ options 17 ++ udp)) ≡ record (lies (Udp 70)) { routed = true })
     × (layout (packet 24 60 (options 43 ++ bytes 8 0x11_00_04_00_00000000 ++ udp)) ≡ record (lies (Udp 70)) { routed = true })
 unfolding layout
-behind_other_headers_it_is_routed_still = (refl, refl)
+after_other_headers_it_is_routed_still = (refl, refl)
 
 -- with an integrity check value of 32 bits, and without one
 the_length_of_authentication_is_in_words :
@@ -104,14 +104,14 @@ unfolding key key_with layout
 the_length_of_authentication_is_in_words = ((refl, refl), (refl, refl))
 
 -- so many extension headers, of 8 bytes each, and UDP
-abbrev behind_headers : ℕ → List ℕ
-behind_headers n = packet (8 * n + 8) 60 (concat (replicate (n - 1) (options 60)) ++ options 17 ++ udp)
+abbrev after_headers : ℕ → List ℕ
+after_headers n = packet (8 * n + 8) 60 (concat (replicate (n - 1) (options 60)) ++ options 17 ++ udp)
 
-eight_extension_headers_are_passed : Shows (behind_headers 8) (of_protocol 17 ports) (lies (Udp 118))
+eight_extension_headers_are_passed : Shows (after_headers 8) (of_protocol 17 ports) (lies (Udp 118))
 unfolding key key_with layout
 eight_extension_headers_are_passed = (refl, refl)
 
-nine_extension_headers_are_malformed : IsMalformed (behind_headers 9)
+nine_extension_headers_are_malformed : IsMalformed (after_headers 9)
 unfolding key key_with layout
 nine_extension_headers_are_malformed = (refl, refl)
 
@@ -142,14 +142,14 @@ a_later_fragment_has_no_header :
 unfolding key key_with layout
 a_later_fragment_has_no_header = ((refl, refl), (refl, refl))
 
-behind_a_later_fragment_header_no_other_is_read :
+after_a_later_fragment_header_no_other_is_read :
     Shows (packet 8 44 (fragment 0 0x0008)) (of_protocol 44 (is IpFrag 3 ∷ [])) (lies None)
 unfolding key key_with layout
-behind_a_later_fragment_header_no_other_is_read = (refl, refl)
+after_a_later_fragment_header_no_other_is_read = (refl, refl)
 
-behind_a_first_fragment_header_others_are_read : IsMalformed (packet 8 44 (fragment 0 0x0001))
+after_a_first_fragment_header_others_are_read : IsMalformed (packet 8 44 (fragment 0 0x0001))
 unfolding key key_with layout
-behind_a_first_fragment_header_others_are_read = (refl, refl)
+after_a_first_fragment_header_others_are_read = (refl, refl)
 
 -- its second byte and two bits of flags are reserved
 a_fragment_header_without_offset_and_more_is_of_no_fragment :

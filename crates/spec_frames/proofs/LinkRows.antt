@@ -53,16 +53,16 @@ types_begin_at_0x0600 :
 unfolding carries
 types_begin_at_0x0600 = (refl, refl)
 
-behind_a_length_snap_gives_the_type :
+after_a_length_snap_gives_the_type :
     (carries (frame (bytes 10 0x0008_aaaa03000000_0800)) ≡ record { dl_type = 0x0800; at = 22 })
     × (carries (frame (bytes 10 0x05ff_aaaa03000000_0800)) ≡ record { dl_type = 0x0800; at = 22 })
 unfolding carries
-behind_a_length_snap_gives_the_type = (refl, refl)
+after_a_length_snap_gives_the_type = (refl, refl)
 
-behind_a_tag_a_length_has_snap_too :
+after_a_tag_a_length_has_snap_too :
     carries (frame (bytes 14 0x8100_0005_0008_aaaa03000000_0600)) ≡ record { dl_type = 0x0600; at = 26 }
 unfolding carries
-behind_a_tag_a_length_has_snap_too = refl
+after_a_tag_a_length_has_snap_too = refl
 
 snap_of_another_organization_gives_no_type : carries (frame (bytes 10 0x0008_aaaa03000001_0800)) ≡ untyped
 unfolding carries
@@ -106,14 +106,14 @@ arp_shows_its_addresses_and_operation :
 unfolding key key_with layout
 arp_shows_its_addresses_and_operation = (refl, refl)
 
-arp_behind_snap :
+arp_after_snap :
     Shows (frame (bytes 10 0x0024_aaaa03000000_0806 ++ reply)) (of_operation 2) (headers (Arp 22) None)
 unfolding key key_with layout
-arp_behind_snap = (refl, refl)
+arp_after_snap = (refl, refl)
 
-arp_behind_a_tag : layout (frame (bytes 6 0x8100_0005_0806 ++ reply)) ≡ record (headers (Arp 18) None) { tagged = true }
+arp_after_a_tag : layout (frame (bytes 6 0x8100_0005_0806 ++ reply)) ≡ record (headers (Arp 18) None) { tagged = true }
 unfolding layout
-arp_behind_a_tag = refl
+arp_after_a_tag = refl
 
 an_operation_above_255_is_shown_as_0 :
     (key (over_ethernet (arp 0x0001_0800_06_04_00ff)) ≡ of_operation 255)

@@ -36,7 +36,7 @@ service_tag = 0x88a8
 abbrev pub is_tag_type : ℕ → Bool
 is_tag_type number = (number == customer_tag) || (number == service_tag)
 
--- whether a whole tag stands behind the addresses. No second one is read.
+-- whether a whole tag stands after the addresses. No second one is read.
 unfoldable pub is_tagged : List ℕ → Bool
 is_tagged frame = nat_le (header_size + tag_size) (length frame) && is_tag_type (big_endian_at type_size frame type_at)
 
@@ -61,21 +61,21 @@ snap_size = 6
 abbrev pub snap : ℕ
 snap = 0xaaaa03000000
 
--- whether such a header, and a type behind it, stands at an offset
+-- whether such a header, and a type after it, stands at an offset
 abbrev pub is_snap : List ℕ → ℕ → Bool
 is_snap frame at =
     nat_le (at + snap_size + type_size) (length frame) && ((big_endian_at snap_size frame at == snap)
     && nat_le least_type (big_endian_at type_size frame (at + snap_size)))
 
--- what is carried behind the type or length at an offset
+-- what is carried after the type or length at an offset
 unfoldable pub carried_by : List ℕ → ℕ → Carried
 carried_by frame at =
     let number = big_endian_at type_size frame at in
-    let behind = at + type_size in
-    if nat_le least_type number then record { dl_type = number; at = behind }
-    else (if is_snap frame behind
-    then record { dl_type = big_endian_at type_size frame (behind + snap_size); at = behind + snap_size + type_size }
-    else record { dl_type = no_type; at = behind })
+    let after = at + type_size in
+    if nat_le least_type number then record { dl_type = number; at = after }
+    else (if is_snap frame after
+    then record { dl_type = big_endian_at type_size frame (after + snap_size); at = after + snap_size + type_size }
+    else record { dl_type = no_type; at = after })
 
 -- what a frame carries, which has a whole header
 unfoldable pub carried : List ℕ → Carried

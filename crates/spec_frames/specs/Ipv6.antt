@@ -68,7 +68,7 @@ offset_bits = 0xfff8
 abbrev pub more_fragments : ℕ
 more_fragments = 1
 
--- which part of a packet stands behind the extension header of this number at an offset
+-- which part of a packet stands after the extension header of this number at an offset
 abbrev pub fragment : ℕ → List ℕ → ℕ → Fragment
 fragment number frame at =
     let flags = big_endian_at 2 frame (at + 2) in
@@ -76,38 +76,38 @@ fragment number frame at =
 
 -- ---- the chain of headers
 
--- what stands behind a header of this number at an offset, where no extension header does
+-- what stands after a header of this number at an offset, where no extension header does
 abbrev pub reached : ℕ → ℕ → Fragment → UpperLayer
 reached number at part = record { protocol = number; at = at; fragment = part; routed = false }
 
 -- a first fragment stays one, whatever a second fragment header says of the rest, if that isn't a later one
-abbrev pub and_behind : Fragment → Fragment → Fragment
-and_behind First Whole = First
-and_behind part behind = behind
+abbrev pub and_after : Fragment → Fragment → Fragment
+and_after First Whole = First
+and_after part after = after
 
--- what an upper layer is behind an extension header of this number and fragment
-abbrev pub behind_extension : ℕ → Fragment → UpperLayer → UpperLayer
-behind_extension number part upper = record upper {
-  fragment = and_behind part upper.fragment;
+-- what an upper layer is after an extension header of this number and fragment
+abbrev pub after_extension : ℕ → Fragment → UpperLayer → UpperLayer
+after_extension number part upper = record upper {
+  fragment = and_after part upper.fragment;
   routed = (number == routing) || upper.routed;
 }
 
--- the upper layer behind at most so many extension headers, the first one, if any, being of this number and at this
--- offset. Nothing is read behind the fragment header of a later fragment.
+-- the upper layer after at most so many extension headers, the first one, if any, being of this number and at this
+-- offset. Nothing is read after the fragment header of a later fragment.
 unfoldable pub upper_layer : ℕ → List ℕ → ℕ → ℕ → ℕ → Option UpperLayer
 upper_layer zero frame end number at = if is_extension number then None else Some (reached number at Whole)
 upper_layer (suc room) frame end number at =
-    let behind = at + extension_size number frame at in
-    let others = upper_layer room frame end (slice_index frame at) behind in
+    let after = at + extension_size number frame at in
+    let others = upper_layer room frame end (slice_index frame at) after in
     if is_extension number
     then (if is_present number frame end at
-    then by_part (fragment number frame at) number behind others
+    then by_part (fragment number frame at) number after others
     else None)
     else Some (reached number at Whole)
   where
     by_part : Fragment → ℕ → ℕ → Option UpperLayer → Option UpperLayer
-    by_part Later number behind others = Some (reached number behind Later)
-    by_part part number behind others = option_map (behind_extension number part) others
+    by_part Later number after others = Some (reached number after Later)
+    by_part part number after others = option_map (after_extension number part) others
 
 -- the most extension headers that are passed (this profile)
 abbrev pub most_extensions : ℕ

@@ -6,4 +6,3 @@ pub mod Network
 pub mod Transport
 pub mod Layout
 pub mod Key
-pub mod Checksum

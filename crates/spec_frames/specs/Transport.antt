@@ -1,4 +1,4 @@
--- The transport header behind an IP header: TCP (RFC 9293, 3.1), UDP (RFC 768), ICMP (RFC 792) over IPv4 and ICMPv6
+-- The transport header after an IP header: TCP (RFC 9293, 3.1), UDP (RFC 768), ICMP (RFC 792) over IPv4 and ICMPv6
 -- (RFC 4443, 2.1) over IPv6.
 use Rattle.std.specs.Prelude.{ℕ, ◌+◌, Bool, ◌&&◌, ◌==◌, nat_le, if◌then◌else◌}
 use Rattle.spec_keys.specs.Protocols.{tcp_protocol, udp_protocol, icmp_protocol, icmp6_protocol}

@@ -32,7 +32,7 @@ pub struct Datagram {
     pub tos: u8,
     /// Time to live, or hop limit.
     pub ttl: u8,
-    /// The offset behind the packet, as far as the frame has it.
+    /// The offset after the packet, as far as the frame has it.
     pub end: usize,
     pub upper: UpperLayer,
 }

@@ -27,11 +27,11 @@ pub enum L4 {
 /// Where the headers of a frame stand.
 #[derive(Clone, Copy, Debug, PartialEq, Eq)]
 pub struct Layout {
-    /// Whether a VLAN tag stands behind the addresses (IEEE 802.1Q).
+    /// Whether a VLAN tag stands after the addresses (IEEE 802.1Q).
     pub tagged: bool,
     pub l3: L3,
     /// Of a first fragment too, but of no later one.
     pub l4: L4,
-    /// Whether a routing header was passed, behind which the destination is not the one of the checksum (RFC 8200, 8.1).
+    /// Whether a routing header was passed, after which the destination is not the one of the checksum (RFC 8200, 8.1).
     pub routed: bool,
 }

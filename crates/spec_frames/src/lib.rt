@@ -10,7 +10,6 @@
 //! - `Transport`: the headers of TCP, UDP, ICMP and ICMPv6 (RFC 9293, 768, 792 and 4443).
 //! - `Layout`: where the headers of a frame stand.
 //! - `Key`: the key of a frame that came in at a port, by the fields of ovs-fields(7).
-//! - `Checksum`: the checksum of the Internet protocols and how it is updated (RFC 1071 and 1624).
 //!
 //! This profile chooses, where the standards leave it open, how long a header must be to be read, what a malformed one
 //! leaves, and when a SNAP header is one: a malformed network header leaves all network and transport fields 0.

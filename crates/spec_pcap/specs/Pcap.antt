@@ -117,23 +117,23 @@ fraction_at format bytes at = number_at format.order 4 bytes (at + 4)
 abbrev pub captured_at : Format → List ℕ → ℕ → ℕ
 captured_at format bytes at = number_at format.order 4 bytes (at + 8)
 
--- the offset behind the record at an offset
-abbrev pub behind : Format → List ℕ → ℕ → ℕ
-behind format bytes at = at + record_header_length + captured_at format bytes at
+-- the offset after the record at an offset
+abbrev pub record_end : Format → List ℕ → ℕ → ℕ
+record_end format bytes at = at + record_header_length + captured_at format bytes at
 
--- what is wrong with the record at an offset: it is cut in its header, has too many captured bytes, is cut behind its
+-- what is wrong with the record at an offset: it is cut in its header, has too many captured bytes, is cut after its
 -- header, or has a fraction of a second or more
 unfoldable pub record_fault : Format → List ℕ → ℕ → Option PcapFault
 record_fault format bytes at =
     if nat_lt (length bytes) (at + record_header_length) then Some (ShortRecord at)
     else (if nat_lt snap_length (captured_at format bytes at) then Some (TooLong at (captured_at format bytes at))
-    else (if nat_lt (length bytes) (behind format bytes at) then Some (ShortRecord at)
+    else (if nat_lt (length bytes) (record_end format bytes at) then Some (ShortRecord at)
     else (if nat_le second (fraction_at format bytes at * unit_of format.nanos) then Some (Fraction at)
     else None)))
 
 -- the frame of the record at an offset
-abbrev pub frame_at : Format → List ℕ → ℕ → Frame
-frame_at format bytes at = record {
+abbrev pub record_frame : Format → List ℕ → ℕ → Frame
+record_frame format bytes at = record {
   time = seconds_at format bytes at * second + fraction_at format bytes at * unit_of format.nanos;
   bytes = take (captured_at format bytes at) (drop (at + record_header_length) bytes);
 }
@@ -149,7 +149,7 @@ unfoldable pub frames_from : Format → ℕ → List ℕ → ℕ → Result (Lis
 frames_from format zero bytes at = if at == length bytes then Ok [] else Err TooManyFrames
 frames_from format (suc room) bytes at =
     if at == length bytes then Ok []
-    else preceded (frame_at format bytes at) (record_fault format bytes at) (frames_from format room bytes (behind format bytes at))
+    else preceded (record_frame format bytes at) (record_fault format bytes at) (frames_from format room bytes (record_end format bytes at))
 
 -- the frames of a file in this format
 abbrev pub captured : Bool → Result (List Frame) PcapFault → Result Capture PcapFault

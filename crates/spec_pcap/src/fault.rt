@@ -15,7 +15,7 @@ pub enum PcapFault {
     TooLong { at: usize, n: u32 },
     /// The fraction of the time of the record at this offset is a second or more.
     Fraction { at: usize },
-    /// Behind as many records as there was room for there are more bytes.
+    /// After as many records as there was room for there are more bytes.
     TooManyFrames,
     /// There was no memory for where the records begin.
     OutOfMemory,

@@ -1,6 +1,6 @@
 use Rattle.std.proofs.Common.{◌≡◌, suc, ◌-◌, true, false, sym, ◌∙◌, arith}
 use Rattle.spec_frames.specs.Ipv6.{is_extension, is_present}
-use Rattle.frame_keys.proofs.Chain.{is_present-within, and_behind-whole, rest-end, rest-no_room, rest-absent, rest-later, rest-passed}
+use Rattle.frame_keys.proofs.Chain.{is_present-within, and_after-whole, rest-end, rest-no_room, rest-absent, rest-later, rest-passed}
 use Rattle.frame_keys.proofs.ipv6.upper_layer.Goals as goal
 use Rattle.frame_keys.proofs.ipv6.upper_layer.Goals.{then-room-eq0-via-then-room-eq0, then-room-eq0-via-else-room-eq0+then-not-is_present}
 
@@ -37,8 +37,8 @@ extensions-preserved c =
     let more : suc (c.extensions.room - 1) ≡ c.extensions.room = omega arith in
     record {
       near = omega (arith, is_present-within passed.protocol frame c.args.end passed.at present);
-      not_later = rw c.and_behind.ensures (and_behind-whole passed.fragment c.fragment-part.result c.in_default.not-Later);
-      so_far = rw (c.extension_size.ensures, c.and_behind.ensures) (sym next ∙ rw more c.extensions.invariant.so_far);
+      not_later = rw c.and_after.ensures (and_after-whole passed.fragment c.fragment-part.result c.in_default.not-Later);
+      so_far = rw (c.extension_size.ensures, c.and_after.ensures) (sym next ∙ rw more c.extensions.invariant.so_far);
     }
 
 pub returns : goal.returns

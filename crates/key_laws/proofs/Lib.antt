@@ -1,0 +1,3 @@
+pub mod Forms
+pub mod Chains
+pub mod KeyLaws
