@@ -12,7 +12,7 @@ ghost use Rattle.std.specs.Prelude.{◌^◌, ◌≤◌, length, IfOk};
 use anyhow::{Result, anyhow, bail};
 use edge_io::{RealShelf, read_all};
 use frame_keys::key_of;
-use ovs_fields::{FieldId, Key};
+use ovs_fields::{FieldId, Key, all_fields};
 use pcap_io::{Trace, read_trace};
 use std::alloc::Global;
 use std::env;
@@ -24,27 +24,6 @@ const MOST_FRAMES: usize = 1 << 24;
 
 /// The port at which all frames come in.
 const PORT: u16 = 1;
-
-/// The fields that frames give. A round looks at one of them, and so no field is left out.
-const FIELDS: [FieldId; 17] = [
-    FieldId::InPort,
-    FieldId::DlSrc,
-    FieldId::DlDst,
-    FieldId::DlType,
-    FieldId::VlanTci,
-    FieldId::NwSrc,
-    FieldId::NwDst,
-    FieldId::Ipv6Src,
-    FieldId::Ipv6Dst,
-    FieldId::NwProto,
-    FieldId::NwTos,
-    FieldId::NwTtl,
-    FieldId::IpFrag,
-    FieldId::ArpSha,
-    FieldId::ArpTha,
-    FieldId::TpSrc,
-    FieldId::TpDst,
-];
 
 /// A call of its own, so that the whole key is made whichever field is looked at.
 #[inline(never)]
@@ -61,8 +40,9 @@ fn round(number: u128, field: FieldId, frames: &[&[u8]]) -> u128 {
     number
 }
 
+/// A round looks at one field, and so none is left out.
 fn rounds(count: u32, frames: &[&[u8]]) -> u128 {
-    let fields = FIELDS.iter().cycle();
+    let fields = all_fields().iter().cycle();
     fields
         .take(count as usize)
         .fold(0, |number, field| round(number, *field, frames))

@@ -8,9 +8,8 @@ use Rattle.std.specs.Int.Bits.{xor_zero_r}
 use Rattle.spec_keys.specs.declared.field_id.FieldId.{FieldId}
 use Rattle.spec_base.specs.Bytes.{big_endian}
 use Rattle.spec_keys.specs.Fields.{width_of}
-use Rattle.spec_keys.specs.Keys.{value_of}
+use Rattle.spec_keys.specs.Keys.{value_of, are_zero}
 use Rattle.spec_keys.specs.Hash.{prime, hash_byte, hash_bytes, bytes_for, field_bytes}
-use Rattle.ovs_fields.specs.Runs.{are_zero}
 
 -- the hash of bytes, and then of more
 pub hash_bytes-append : (hash : ℕ) (xs ys : List ℕ) → hash_bytes hash (xs ++ ys) ≡ hash_bytes (hash_bytes hash xs) ys

@@ -6,8 +6,8 @@ use Rattle.std.proofs.lemmas.Nat.{and_le_l, or_lt, pow_pos}
 use Rattle.std.specs.Int.Bits.{or_zero_r}
 use Rattle.spec_keys.specs.declared.field_id.FieldId.{FieldId}
 use Rattle.spec_keys.specs.declared.field_id.FieldId.TheVariants.{InPort}
-use Rattle.spec_keys.specs.Fields.{place_of, width_of, widths}
-use Rattle.spec_keys.specs.Keys.{number_at, value_of, none, masked, joined, common_bits, only_at, field_count, IsKey}
+use Rattle.spec_keys.specs.Fields.{place_of, width_of, widths, field_count}
+use Rattle.spec_keys.specs.Keys.{number_at, value_of, none, masked, joined, common_bits, only_at, IsKey}
 
 -- a field has its place in the key
 pub place_of-within : (f : FieldId) → place_of f < field_count

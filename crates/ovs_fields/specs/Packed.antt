@@ -1,4 +1,4 @@
--- What contracts see of the packed types: lists of 34 numbers, in the order of the fields.
+-- What contracts see of the packed types: lists with a number for each field, in the order of the fields.
 use Rattle.std.specs.Prelude.{ℕ, List}
 use Rattle.ovs_fields.specs.declared.key.Key.{Key}
 use Rattle.ovs_fields.specs.declared.mask.Mask.{Mask}

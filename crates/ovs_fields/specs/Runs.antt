@@ -1,19 +1,7 @@
--- The fields of a key in the runs that are hashed together.
-use Rattle.std.specs.Prelude.{ℕ, Bool, ◌==◌, List, [], ◌∷◌}
-use Rattle.std.specs.List.{list_all}
+-- The fields of a key in the runs that are hashed together, between the ingress port and the registers at the front.
+use Rattle.std.specs.Prelude.{List, [], ◌∷◌}
 use Rattle.spec_keys.specs.declared.field_id.FieldId.{FieldId}
-use Rattle.spec_keys.specs.declared.field_id.FieldId.TheVariants.{Metadata, Reg0, Reg1, Reg2, Reg3, Reg4, Reg5, Reg6, Reg7, Reg8, Reg9, Reg10, Reg11, Reg12, Reg13, Reg14, Reg15, DlSrc, DlDst, DlType, VlanTci, NwSrc, NwDst, Ipv6Src, Ipv6Dst, NwProto, NwTos, NwTtl, IpFrag, ArpSha, ArpTha, TpSrc, TpDst}
-use Rattle.spec_keys.specs.Keys.{value_of}
-
--- whether each of these fields is 0 in a key
-abbrev pub are_zero : List FieldId → List ℕ → Bool
-are_zero run key = list_all (λ f. value_of key f == 0) run
-
--- metadata and the registers, which no frame carries
-abbrev pub registers : List FieldId
-registers =
-    Metadata ∷ Reg0 ∷ Reg1 ∷ Reg2 ∷ Reg3 ∷ Reg4 ∷ Reg5 ∷ Reg6 ∷ Reg7 ∷ Reg8 ∷ Reg9 ∷ Reg10 ∷
-    Reg11 ∷ Reg12 ∷ Reg13 ∷ Reg14 ∷ Reg15 ∷ []
+use Rattle.spec_keys.specs.declared.field_id.FieldId.TheVariants.{DlSrc, DlDst, DlType, VlanTci, NwSrc, NwDst, Ipv6Src, Ipv6Dst, NwProto, NwTos, NwTtl, IpFrag, ArpSha, ArpTha, TpSrc, TpDst}
 
 abbrev pub ethernet : List FieldId
 ethernet = DlSrc ∷ DlDst ∷ DlType ∷ VlanTci ∷ []

@@ -2,12 +2,15 @@
 
 ghost use Rattle.std.specs.Prelude.{◌≡◌};
 ghost use Rattle.spec_base.specs.Bytes.{big_endian};
+ghost use Rattle.spec_keys.specs.Fields.{register_fields};
+ghost use Rattle.spec_keys.specs.Keys.{are_zero};
 ghost use Rattle.spec_keys.specs.Hash.{hash_bytes, field_bytes, key_hash};
 ghost use Rattle.ovs_fields.specs.Lists.{list_of};
 ghost use Rattle.ovs_fields.specs.Packed.{numbers};
-ghost use Rattle.ovs_fields.specs.Runs.{are_zero, registers, ethernet, ipv4_addresses, ipv6_addresses, ip_header, arp_addresses, ports};
+ghost use Rattle.ovs_fields.specs.Runs.{ethernet, ipv4_addresses, ipv6_addresses, ip_header, arp_addresses, ports};
 
 use crate::Key;
+use crate::field_list::with_registers;
 use crate::fields::Fields;
 
 /// The offset basis and the prime of FNV-1a with 64 bits.
@@ -58,53 +61,34 @@ fn hash_mac(hash: u64, address: u64) -> u64
     hash_bytes(hash, &address.to_be_bytes()[2..])
 }
 
+macro_rules! all_zero {
+    (($fields:ident) $($name:ident)*) => {
+        $(($fields.$name == 0) &)* true
+    };
+}
+
 /// Whether metadata and the registers are 0, as in the key of every frame.
 fn registers_are_zero(fields: &Fields) -> bool
-    ensures { result ≡ are_zero registers (list_of fields.now) }
+    ensures { result ≡ are_zero register_fields (list_of fields.now) }
 {
-    (fields.metadata == 0)
-        & (fields.reg0 == 0)
-        & (fields.reg1 == 0)
-        & (fields.reg2 == 0)
-        & (fields.reg3 == 0)
-        & (fields.reg4 == 0)
-        & (fields.reg5 == 0)
-        & (fields.reg6 == 0)
-        & (fields.reg7 == 0)
-        & (fields.reg8 == 0)
-        & (fields.reg9 == 0)
-        & (fields.reg10 == 0)
-        & (fields.reg11 == 0)
-        & (fields.reg12 == 0)
-        & (fields.reg13 == 0)
-        & (fields.reg14 == 0)
-        & (fields.reg15 == 0)
+    with_registers!(all_zero(fields))
+}
+
+macro_rules! hash_each {
+    (($hash:ident, $fields:ident) $($name:ident)*) => {{
+        $(let $hash = hash_bytes($hash, &$fields.$name.to_be_bytes());)*
+        $hash
+    }};
 }
 
 /// The hash after metadata and the registers.
 fn hash_registers(hash: u64, fields: &Fields) -> u64
-    ensures { result ≡ hash_bytes hash (field_bytes registers (list_of fields.now)) }
+    ensures { result ≡ hash_bytes hash (field_bytes register_fields (list_of fields.now)) }
 {
     if registers_are_zero(fields) {
         return hash.wrapping_mul(PRIME_TO_72);
     }
-    let hash = hash_bytes(hash, &fields.metadata.to_be_bytes());
-    let hash = hash_bytes(hash, &fields.reg0.to_be_bytes());
-    let hash = hash_bytes(hash, &fields.reg1.to_be_bytes());
-    let hash = hash_bytes(hash, &fields.reg2.to_be_bytes());
-    let hash = hash_bytes(hash, &fields.reg3.to_be_bytes());
-    let hash = hash_bytes(hash, &fields.reg4.to_be_bytes());
-    let hash = hash_bytes(hash, &fields.reg5.to_be_bytes());
-    let hash = hash_bytes(hash, &fields.reg6.to_be_bytes());
-    let hash = hash_bytes(hash, &fields.reg7.to_be_bytes());
-    let hash = hash_bytes(hash, &fields.reg8.to_be_bytes());
-    let hash = hash_bytes(hash, &fields.reg9.to_be_bytes());
-    let hash = hash_bytes(hash, &fields.reg10.to_be_bytes());
-    let hash = hash_bytes(hash, &fields.reg11.to_be_bytes());
-    let hash = hash_bytes(hash, &fields.reg12.to_be_bytes());
-    let hash = hash_bytes(hash, &fields.reg13.to_be_bytes());
-    let hash = hash_bytes(hash, &fields.reg14.to_be_bytes());
-    hash_bytes(hash, &fields.reg15.to_be_bytes())
+    with_registers!(hash_each(hash, fields))
 }
 
 /// The hash after the Ethernet and VLAN headers.

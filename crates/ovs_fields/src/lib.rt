@@ -1,14 +1,14 @@
 //! Keys and masks of packets.
 //!
-//! A packet is classified by its *key*, a number for each of the 34 fields that ovs-fields(7) describes and the table
+//! A packet is classified by its *key*, a number for each of the fields that ovs-fields(7) describes and the table
 //! of `spec_keys` lists. A *mask* has a bit for each bit of a key, and says which of them count: a rule is a key
 //! under a mask, and so is an entry of the caches. All that finds a rule or an entry asks this crate whether two keys
 //! agree, and hashes them here.
 //!
 //! # What is promised
 //!
-//! Contracts see a key and a mask as lists of 34 numbers, `numbers k` and `bits m` (specs/Packed.antt), in the words
-//! of `spec_keys`.
+//! Contracts see a key and a mask as lists with a number for each field, `numbers k` and `bits m` (specs/Packed.antt),
+//! in the words of `spec_keys`.
 //!
 //! - Each number is within the width of its field. The types keep this: `k.is_key` and `m.is_key` are the facts
 //!   `IsKey (numbers k)` and `IsKey (bits m)`, at hand for every `Key` and `Mask`.
@@ -16,6 +16,7 @@
 //! - `agree`, `covers` and `and` answer by bits, exactly as the definitions `agree`, `covers` and `common_bits` do. Two
 //!   keys are equal, as are two masks, exactly where their lists are.
 //! - `key_hash` is the 64-bit FNV-1a of the fields' bytes, for every key.
+//! - `all_fields` lists the fields in the order of the key; `width` and `stage` are those of the table.
 //! - No call takes memory, and none can fail.
 //!
 //! # How
@@ -24,6 +25,9 @@
 //! the widest come first, so that nothing is lost between them. `agree` and `covers` test all the fields and then
 //! decide, without a branch for each. That is fewer than a hundred instructions over vectors, and costs the same
 //! whichever field differs.
+//!
+//! What is done with each field alike is a macro over the one list of them (src/field_list.rt), so that it is written
+//! once and runs without a loop.
 //!
 //! FNV-1a multiplies once for each byte, and each multiplication waits for the one before. A key has 150 bytes, and
 //! most of them are 0: metadata and the registers in the key of every frame, and the addresses of the protocols that
@@ -37,6 +41,7 @@
 #![tactic(auto)]
 
 mod bitwise;
+mod field_list;
 mod fields;
 mod hash;
 mod key;
@@ -46,6 +51,7 @@ mod table;
 mod tests;
 
 pub use bitwise::{agree, and, covers};
+pub use field_list::{FIELD_COUNT, all_fields};
 pub use hash::key_hash;
 pub use key::Key;
 pub use mask::Mask;

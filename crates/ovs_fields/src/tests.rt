@@ -1,4 +1,17 @@
-use crate::{FieldId, Key, Mask, agree, and, covers, key_hash, stage, width};
+use crate::{
+    FIELD_COUNT, FieldId, Key, Mask, agree, all_fields, and, covers, key_hash, stage, width,
+};
+
+#[test]
+fn the_zero_key_has_0_in_each_field(rt: HostRuntime) {
+    let fields = all_fields();
+    assert_eq!(rt; fields.len(), FIELD_COUNT);
+    assert_eq!(rt; fields[0], FieldId::InPort);
+    assert_eq!(rt; fields[FIELD_COUNT - 1], FieldId::TpDst);
+    for field in fields {
+        assert_eq!(rt; Key::zero().get(*field), 0);
+    }
+}
 
 #[test]
 fn fields_have_widths_and_stages(rt: HostRuntime) {

@@ -7,12 +7,12 @@ use Rattle.std.proofs.lemmas.List.Folds.{list_any-append}
 use Rattle.std.proofs.lemmas.Nat.Bits.{bit_at_and, bit_at_xor, bit_at-lt, same_from_bits}
 use Rattle.spec_keys.specs.declared.field_id.FieldId.{FieldId}
 use Rattle.spec_keys.specs.declared.field_id.FieldId.TheVariants.{VlanTci}
-use Rattle.spec_keys.specs.Fields.{place_of}
-use Rattle.spec_keys.specs.Keys.{field_count, number_at, value_of}
+use Rattle.spec_keys.specs.Fields.{place_of, field_count}
+use Rattle.spec_keys.specs.Keys.{number_at, value_of}
 use Rattle.spec_actions.specs.declared.action.DpAction.{DpAction}
 use Rattle.spec_actions.specs.declared.action.DpAction.TheVariants.{Set, PopVlan, PushVlan}
 use Rattle.spec_xlate.specs.Tags.{VlanTag, tag_fields, is_tag, tags_of, tagged, outer_tags, commit_tags}
-use Rattle.spec_xlate.specs.Commit.{fields_before_tags, fields_behind_tags, commit, commit_field, commit_fields}
+use Rattle.spec_xlate.specs.Commit.{fields_before_tags, fields_after_tags, commit, commit_field, commit_fields}
 use Rattle.spec_xlate.specs.Translation.{merged}
 use Rattle.translation_laws.specs.Applied.{after_action, applied, frame_fields, is_proper}
 use Rattle.translation_laws.proofs.KeysAlike.{bit_at-merged, eqb-false}
@@ -214,7 +214,7 @@ unfolding commit
 commit-Turns base current len pb pc =
     let before = commit_fields fields_before_tags base current in
     let tags = commit_tags (tags_of base) (tags_of current) in
-    let behind = commit_fields fields_behind_tags base current in
+    let after = commit_fields fields_after_tags base current in
     let b0 : Between base current base = λ q. inl refl in
     let k1 = applied before base in
     let t1 = commit_fields-Turns fields_before_tags base current base len b0 in
@@ -222,11 +222,11 @@ commit-Turns base current len pb pc =
     let k2 = applied tags k1 in
     let t2 = tags-Turns base current k1 (t1.lengths ∙ len) pb pc (b1 (place_of VlanTci)) in
     let b2 = Turns-Between tag_places base current k1 k2 b1 t2 in
-    let t3 = commit_fields-Turns fields_behind_tags base current k2 (t2.lengths ∙ t1.lengths ∙ len) b2 in
-    let t = Turns-join (λ q. list_any (λ f. q == place_of f) fields_before_tags) _ current base k1 _ t1 (Turns-join tag_places (λ q. list_any (λ f. q == place_of f) fields_behind_tags) current k1 k2 _ t2 t3) in
-    let e : applied (before ++ (tags ++ behind)) base ≡ applied behind k2 = applied-append before (tags ++ behind) base ∙ applied-append tags behind k1 in
+    let t3 = commit_fields-Turns fields_after_tags base current k2 (t2.lengths ∙ t1.lengths ∙ len) b2 in
+    let t = Turns-join (λ q. list_any (λ f. q == place_of f) fields_before_tags) _ current base k1 _ t1 (Turns-join tag_places (λ q. list_any (λ f. q == place_of f) fields_after_tags) current k1 k2 _ t2 t3) in
+    let e : applied (before ++ (tags ++ after)) base ≡ applied after k2 = applied-append before (tags ++ after) base ∙ applied-append tags after k1 in
     record { lengths = ap length e ∙ t.lengths; those = λ q h. ap (λ (z : List ℕ). number_at z q) e ∙ t.those q (sym (regroup q) ∙ h); others = λ q h. ap (λ (z : List ℕ). number_at z q) e ∙ t.others q (sym (regroup q) ∙ h) }
   where
     regroup : (q : ℕ)
-        → list_any (λ f. q == place_of f) frame_fields ≡ (list_any (λ f. q == place_of f) fields_before_tags || (tag_places q || list_any (λ f. q == place_of f) fields_behind_tags))
-    regroup q = list_any-append (λ f. q == place_of f) fields_before_tags (tag_fields ++ fields_behind_tags) ∙ ap (λ (t : Bool). list_any (λ f. q == place_of f) fields_before_tags || t) (list_any-append (λ f. q == place_of f) tag_fields fields_behind_tags)
+        → list_any (λ f. q == place_of f) frame_fields ≡ (list_any (λ f. q == place_of f) fields_before_tags || (tag_places q || list_any (λ f. q == place_of f) fields_after_tags))
+    regroup q = list_any-append (λ f. q == place_of f) fields_before_tags (tag_fields ++ fields_after_tags) ∙ ap (λ (t : Bool). list_any (λ f. q == place_of f) fields_before_tags || t) (list_any-append (λ f. q == place_of f) tag_fields fields_after_tags)

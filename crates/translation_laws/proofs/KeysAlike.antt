@@ -11,7 +11,7 @@ use Rattle.spec_keys.specs.Keys.{number_at, value_of, masked}
 use Rattle.spec_actions.specs.declared.action.DpAction.{DpAction}
 use Rattle.spec_actions.specs.declared.action.DpAction.TheVariants.{Set, PopVlan, PushVlan}
 use Rattle.spec_xlate.specs.Tags.{VlanTag, tag_fields, tags_of, is_tag, outer_tags, commit_tags}
-use Rattle.spec_xlate.specs.Commit.{fields_before_tags, fields_behind_tags, commit, commit_field, commit_fields}
+use Rattle.spec_xlate.specs.Commit.{fields_before_tags, fields_after_tags, commit, commit_field, commit_fields}
 use Rattle.spec_xlate.specs.Translation.{merged}
 use Rattle.translation_laws.proofs.KeyLaws.{SameBits, masked_from-places, places_from-masked}
 
@@ -187,7 +187,7 @@ module _ (a b c d c' d' : List ℕ) (k : KeysAlike a b c d c' d') where
   unfolding commit
   commit-alike =
       ap₂ (λ (x y : List DpAction). x ++ y) (commit_fields-alike fields_before_tags)
-      (ap₂ (λ (x y : List DpAction). x ++ y) commit_tags-alike (commit_fields-alike fields_behind_tags))
+      (ap₂ (λ (x y : List DpAction). x ++ y) commit_tags-alike (commit_fields-alike fields_after_tags))
 
   -- the current keys become the base keys
   pub rebased-alike : KeysAlike a b c c c' c'

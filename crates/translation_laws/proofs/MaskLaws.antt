@@ -1,17 +1,18 @@
 -- The mask of a translation has the ingress port and the Ethernet type whole, and no bits of registers.
-use Rattle.std.proofs.Common.{◌≡◌, ℕ, zero, suc, ◌+◌, ◌≤◌, true, false, ◌==◌, List, [], ◌∷◌, ◌++◌, set, bit_or, Option, Some, All, subst, inl, inr, refl, sym, ap, ◌∙◌, arith}
+use Rattle.std.proofs.Common.{◌≡◌, ℕ, zero, suc, ◌+◌, true, false, ◌==◌, List, [], ◌∷◌, ◌++◌, set, bit_or, Option, Some, All, subst, inl, inr, refl, sym, ap, ◌∙◌, arith}
 use Rattle.std.specs.List.{list_any}
+use Rattle.std.proofs.lemmas.Bool.{and_from, eq-eqb}
 use Rattle.std.specs.Int.Bits.{or_zero_l}
 use Rattle.spec_keys.specs.declared.field_id.FieldId.{FieldId}
 use Rattle.spec_keys.specs.declared.field_id.FieldId.TheVariants as field
-use Rattle.spec_keys.specs.Fields.{place_of}
-use Rattle.spec_keys.specs.Keys.{number_at, joined, none, covers, IsKey, IsClean}
+use Rattle.spec_keys.specs.Fields.{place_of, register_fields}
+use Rattle.spec_keys.specs.Keys.{number_at, value_of, joined, none, covers, are_zero, IsKey, IsClean}
 use Rattle.spec_actions.specs.Sound.{AreSound}
 use Rattle.spec_tables.specs.Rules.{Rule, winner}
 use Rattle.spec_xlate.specs.Translation.{Switch, deepest, start}
 use Rattle.spec_xlate.specs.Lookup.{union}
-use Rattle.spec_xlate.specs.Consulted.{whole, look_bits, start_bits, register_fields, without, consulted}
-use Rattle.translation_laws.proofs.MemberLaws.{Among, All-Among, Among-append_left, list_any-Among}
+use Rattle.spec_xlate.specs.Consulted.{whole, look_bits, start_bits, without, consulted}
+use Rattle.translation_laws.proofs.MemberLaws.{Among, All-Among, Among-append_left, list_any-Among, list_any_from-Among}
 use Rattle.translation_laws.proofs.UnionLaws.{Within, covers_from-Within, Within-added, joined_comm}
 use Rattle.translation_laws.proofs.KeysAlike.{eqb-false}
 use Rattle.translation_laws.proofs.WithinLaws.{without-none, elsewhere_zero, consulted-IsKey}
@@ -56,12 +57,17 @@ has_in_port sw key = consulted-covers sw key field.InPort (inl refl) refl
 pub has_dl_type : (sw : Switch) (key : List ℕ) → covers (consulted sw key) (whole field.DlType) ≡ true
 has_dl_type sw key = consulted-covers sw key field.DlType (inr (inl refl)) refl
 
-is_register : (q : ℕ) → 1 ≤ q → q ≤ 17 → list_any (λ f. q == place_of f) register_fields ≡ true
-is_register q l h = grind arith
+-- fields whose bits were taken away are 0
+without-are_zero : (fs gs : List FieldId) (m : List ℕ) → ((g : FieldId) → Among g gs → Among g fs) → are_zero gs (without fs m) ≡ true
+without-are_zero fs [] m h = refl
+without-are_zero fs (g ∷ gs) m h =
+    let stands = list_any_from-Among (λ f. place_of g == place_of f) g fs (h g (inl refl)) (eq-eqb (place_of g) (place_of g) refl) in
+    and_from (value_of (without fs m) g == 0) (are_zero gs (without fs m))
+    (eq-eqb (value_of (without fs m) g) 0 (without-none fs m (place_of g) stands)) (without-are_zero fs gs m (λ f a. h f (inr a)))
 
 pub has_no_registers : (sw : Switch) (key : List ℕ) → IsClean (consulted sw key)
 unfolding consulted
-has_no_registers sw key q l h = without-none register_fields _ q (is_register q l h)
+has_no_registers sw key = without-are_zero register_fields register_fields (union (start_bits key ++ look_bits sw (deepest + 1) 0 (start key))) (λ g a. a)
 
 pub is_within : (sw : Switch) → ((table : ℕ) → All (λ r. IsKey r.matching.mask) (sw.tables table))
     → ((table : ℕ) → All (λ r. AreSound r.actions) (sw.tables table)) → (key : List ℕ) → IsKey (consulted sw key)

@@ -100,3 +100,12 @@ list_any-Among p x (y ∷ ys) m h = at (p y) refl m h (list_any-Among p x ys)
     at true e m h ih = absurd (cc)
     at false e (inl q) h ih = ap p q ∙ e
     at false e (inr m) h ih = ih m h
+
+pub list_any_from-Among : {X : Type 0} (p : X → Bool) (x : X) (xs : List X) → Among x xs → p x ≡ true → list_any p xs ≡ true
+list_any_from-Among p x [] m e = absurd m
+list_any_from-Among p x (y ∷ ys) (inl q) e = ap (λ (t : Bool). t || list_any p ys) (sym (ap p q) ∙ e)
+list_any_from-Among p x (y ∷ ys) (inr m) e = either (p y) (list_any_from-Among p x ys m e)
+  where
+    either : (t : Bool) → list_any p ys ≡ true → (t || list_any p ys) ≡ true
+    either true h = refl
+    either false h = h

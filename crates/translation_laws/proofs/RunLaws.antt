@@ -4,7 +4,7 @@ use Rattle.spec_keys.specs.declared.field_id.FieldId.TheVariants as field
 use Rattle.spec_keys.specs.Keys.{value_of, IsKey}
 use Rattle.spec_actions.specs.declared.action.OfAction.{OfAction}
 use Rattle.spec_tables.specs.Rules.{Rule, winner}
-use Rattle.spec_xlate.specs.Translation.{Switch, State, Mode, act, in_mode, run, mode_behind, resumed, visited, follow, with_lookups_left, enter, look}
+use Rattle.spec_xlate.specs.Translation.{Switch, State, Mode, act, in_mode, run, mode_after, resumed, visited, follow, with_lookups_left, enter, look}
 use Rattle.spec_xlate.specs.Translation.Mode.{Going, ListEnded, Stopped}
 use Rattle.spec_xlate.specs.Lookup.{consults}
 use Rattle.spec_xlate.specs.Consulted.{act_bits, in_mode_bits, run_bits, follow_bits, enter_bits, look_bits}
@@ -37,7 +37,7 @@ module _ (a b : List ℕ) (ka : IsKey a) (kb : IsKey b) (port : value_of a field
       )
 
   resumed-alike : (s t : State) → Alike a b s t → Alike a b (resumed s) (resumed t)
-  resumed-alike s t h = record { keys = h.keys; actions = h.actions; visits = h.visits; lookups_left = h.lookups_left; mode = ap mode_behind h.mode }
+  resumed-alike s t h = record { keys = h.keys; actions = h.actions; visits = h.visits; lookups_left = h.lookups_left; mode = ap mode_after h.mode }
 
   follow-alike : (sw : Switch) (sub : ℕ → State → State) (bits : ℕ → State → List (List ℕ)) → LookKeeps a b ka kb sub bits
       → (w : Option Rule) (s t : State) → Alike a b s t → SameBits a b (follow_bits sw sub bits w s)

@@ -1,15 +1,16 @@
 -- Wildcard soundness: from the one mask of a translation to what each of its steps consults, and the law itself.
 use Rattle.std.proofs.Common.{◌≡◌, ℕ, ◌+◌, ◌≤◌, Bool, true, false, ◌||◌, ◌==◌, List, [], ◌∷◌, ◌++◌, length, set, bit_and, refl, sym, ap, ap₂, ◌∙◌, arith, get_or-set_other}
 use Rattle.std.specs.List.{list_any}
+use Rattle.std.proofs.lemmas.Bool.{and_parts, eqb-true}
 use Rattle.spec_keys.specs.declared.field_id.FieldId.{FieldId}
 use Rattle.spec_keys.specs.declared.field_id.FieldId.TheVariants as field
-use Rattle.spec_keys.specs.Fields.{place_of}
-use Rattle.spec_keys.specs.Keys.{number_at, masked, agree, IsKey, IsClean}
+use Rattle.spec_keys.specs.Fields.{place_of, register_fields}
+use Rattle.spec_keys.specs.Keys.{number_at, value_of, masked, agree, are_zero, IsKey, IsClean}
 use Rattle.spec_actions.specs.declared.action.DpAction.{DpAction}
 use Rattle.spec_keys.specs.Protocols.{ipv4_type, ipv6_type}
 use Rattle.spec_xlate.specs.Translation.{Switch, Mode, Translation, deepest, kept, look, start, last_state, pipe}
 use Rattle.spec_xlate.specs.Lookup.{union, when}
-use Rattle.spec_xlate.specs.Consulted.{whole, look_bits, start_bits, register_fields, without, consulted}
+use Rattle.spec_xlate.specs.Consulted.{whole, look_bits, start_bits, without, consulted}
 use Rattle.translation_laws.proofs.KeyLaws.{agree-masked, masked_from-places, places_from-masked, SameBits-append}
 use Rattle.translation_laws.proofs.UnionLaws.{SameBits_from-union}
 use Rattle.translation_laws.proofs.KeysAlike.{start-alike, eqb-false}
@@ -32,15 +33,25 @@ number_at-without (f ∷ fs) m q h = at (q == place_of f) refl h (number_at-with
     at true e h ih = absurd (cc)
     at false e h ih = ih h ∙ get_or-set_other m (place_of f) q 0 0 (eqb-false q (place_of f) e)
 
-is_register-within : (q : ℕ) → is_register q ≡ true → (1 ≤ q) × (q ≤ 17)
-is_register-within q h = (grind arith, grind arith)
+-- the number at the place of one of these fields, where each of them is 0
+number_at-are_zero : (fs : List FieldId) (key : List ℕ) (q : ℕ) → are_zero fs key ≡ true → list_any (λ f. q == place_of f) fs ≡ true
+    → number_at key q ≡ 0
+number_at-are_zero [] key q z h = absurd (cc)
+number_at-are_zero (f ∷ fs) key q z h =
+    let parts = and_parts (value_of key f == 0) (are_zero fs key) z in at parts.0 (q == place_of f) refl h (number_at-are_zero fs key q parts.1)
+  where
+    at : (value_of key f == 0) ≡ true → (t : Bool) → (q == place_of f) ≡ t → (t || list_any (λ g. q == place_of g) fs) ≡ true
+        → (list_any (λ g. q == place_of g) fs ≡ true → number_at key q ≡ 0) → number_at key q ≡ 0
+    at k true e h ih = ap (number_at key) (eqb-true q (place_of f) e) ∙ eqb-true (value_of key f) 0 k
+    at k false e h ih = ih h
 
 registers-same : (a b m : List ℕ) → length b ≡ length a → IsClean a → IsClean b
     → masked a (without register_fields m) ≡ masked b (without register_fields m) → masked a m ≡ masked b m
 registers-same a b m l ca cb e = masked_from-places a b m l (λ q. at q (is_register q) refl)
   where
     at : (q : ℕ) (t : Bool) → is_register q ≡ t → bit_and (number_at a q) (number_at m q) ≡ bit_and (number_at b q) (number_at m q)
-    at q true h = let r = is_register-within q h in ap (λ (z : ℕ). bit_and z (number_at m q)) (ca q r.0 r.1 ∙ sym (cb q r.0 r.1))
+    at q true h =
+        ap (λ (z : ℕ). bit_and z (number_at m q)) (number_at-are_zero register_fields a q ca h ∙ sym (number_at-are_zero register_fields b q cb h))
     at q false h =
         let k = number_at-without register_fields m q h in
         ap (bit_and (number_at a q)) (sym k) ∙ places_from-masked a b (without register_fields m) q e ∙ ap (bit_and (number_at b q)) k

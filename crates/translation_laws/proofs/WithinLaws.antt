@@ -8,8 +8,8 @@ use Rattle.std.proofs.lemmas.Bool.Decides.{nat_tests}
 use Rattle.spec_base.specs.Bits.{all_bits, leading_bits}
 use Rattle.spec_keys.specs.declared.field_id.FieldId.{FieldId}
 use Rattle.spec_keys.specs.declared.field_id.FieldId.TheVariants as field
-use Rattle.spec_keys.specs.Fields.{place_of, width_of, widths, stages}
-use Rattle.spec_keys.specs.Keys.{field_count, number_at, value_of, joined, none, only_at, IsKey}
+use Rattle.spec_keys.specs.Fields.{place_of, width_of, widths, stages, field_count, register_fields}
+use Rattle.spec_keys.specs.Keys.{number_at, value_of, joined, none, only_at, IsKey}
 use Rattle.spec_actions.specs.declared.named_field.NamedField.{NamedField}
 use Rattle.spec_actions.specs.declared.named_field.NamedField.TheVariants as name
 use Rattle.spec_actions.specs.declared.named_field.Prerequisite.{Prerequisite}
@@ -25,7 +25,7 @@ use Rattle.spec_xlate.specs.Needs.{is_ip, is_met, fields_needed}
 use Rattle.spec_xlate.specs.Translation.{Switch, State, Mode, deepest, in_field, slice_bits, written_bits, act, visited, with_lookups_left, look, start}
 use Rattle.spec_xlate.specs.Translation.Mode.{Going, ListEnded, Stopped}
 use Rattle.spec_xlate.specs.Lookup.{added, union, when, through, staged, stage_test, some_agrees, prefix_test, prefix_tests, prefixes, prefix_length, some_begins, leading, tracked_fields, metadata_stage, ethernet_stage, network_stage, probe, priority_to_beat, rules_from, consults}
-use Rattle.spec_xlate.specs.Consulted.{whole, bits_read, bits_written, slice_read, under, write_bits, act_bits, in_mode_bits, run_bits, follow_bits, enter_bits, look_bits, start_bits, register_fields, without, consulted}
+use Rattle.spec_xlate.specs.Consulted.{whole, bits_read, bits_written, slice_read, under, write_bits, act_bits, in_mode_bits, run_bits, follow_bits, enter_bits, look_bits, start_bits, without, consulted}
 use Rattle.translation_laws.proofs.KeyLaws.{number_at-joined}
 use Rattle.translation_laws.proofs.MemberLaws.{Among, Among-append, Among-filter, Among-flat_map}
 use Rattle.translation_laws.proofs.KeysAlike.{eqb-false, set-beyond}

@@ -8,7 +8,7 @@ use Rattle.spec_keys.specs.Keys.{value_of}
 use Rattle.spec_actions.specs.declared.action.DpAction.{DpAction}
 use Rattle.spec_actions.specs.declared.action.DpAction.TheVariants.{Output, PopVlan, PushVlan, Set}
 use Rattle.spec_xlate.specs.Tags.{is_tag, tag_fields, tagged, popped}
-use Rattle.spec_xlate.specs.Commit.{fields_before_tags, fields_behind_tags}
+use Rattle.spec_xlate.specs.Commit.{fields_before_tags, fields_after_tags}
 use Rattle.spec_xlate.specs.Translation.{State, merged}
 
 -- the key of a frame after a datapath action
@@ -24,7 +24,7 @@ applied actions key = fold after_action key actions
 
 -- the fields of a frame that datapath actions write
 abbrev pub frame_fields : List FieldId
-frame_fields = fields_before_tags ++ (tag_fields ++ fields_behind_tags)
+frame_fields = fields_before_tags ++ (tag_fields ++ fields_after_tags)
 
 -- whether they write this field
 abbrev pub is_frame_field : FieldId → Bool

@@ -1,10 +1,11 @@
 use Rattle.std.proofs.Common.{◌≡◌, ℕ, List, [], ◌∷◌, ◌∙◌, ap}
 use Rattle.spec_base.specs.Bytes.{big_endian}
 use Rattle.spec_keys.specs.declared.field_id.FieldId.TheVariants.{InPort}
+use Rattle.spec_keys.specs.Fields.{register_fields}
 use Rattle.spec_keys.specs.Hash.{offset_basis, hash_bytes, field_bytes, key_hash}
 use Rattle.spec_keys.specs.Keys.{value_of}
 use Rattle.ovs_fields.specs.Packed.{numbers}
-use Rattle.ovs_fields.specs.Runs.{registers, ethernet, ipv4_addresses, ipv6_addresses, ip_header, arp_addresses, ports}
+use Rattle.ovs_fields.specs.Runs.{ethernet, ipv4_addresses, ipv6_addresses, ip_header, arp_addresses, ports}
 use Rattle.ovs_fields.proofs.HashLaws.{then_fields}
 use Rattle.ovs_fields.proofs.hash.key_hash.Goals as goal
 
@@ -17,7 +18,7 @@ unfolding key_hash
 returns c =
     let key = numbers c.args.key.now in
     let e0 = in_port_alone _ key (c.hash_bytes-hash.ensures ∙ ap (hash_bytes offset_basis) c.to_be_bytes.ensures) in
-    let e1 = then_fields _ _ registers key e0 c.hash_registers-hash.ensures in
+    let e1 = then_fields _ _ register_fields key e0 c.hash_registers-hash.ensures in
     let e2 = then_fields _ _ ethernet key e1 c.hash_ethernet-hash.ensures in
     let e3 = then_fields _ _ ipv4_addresses key e2 c.hash_ipv4_addresses-hash.ensures in
     let e4 = then_fields _ _ ipv6_addresses key e3 c.hash_ipv6_addresses-hash.ensures in
