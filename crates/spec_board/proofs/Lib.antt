@@ -1,2 +1,4 @@
 pub mod Shown
+pub mod Runs
 mod Rows
+mod Refused

@@ -24,10 +24,10 @@ use Rattle.spec_xlate.specs.Translation.{pipe, act, run, look, last_state, write
 use Rattle.spec_xlate.specs.Lookup.{through, length_up_to, common_length, deciding, probe, consults}
 use Rattle.spec_xlate.specs.Consulted.{act_bits, run_bits, look_bits, consulted}
 use Rattle.spec_pcap.specs.Pcap.{Frame, Capture}
-use Rattle.spec_case.specs.declared.sync_point.SyncPoint.{SyncPoint}
+use Rattle.spec_tables.specs.declared.sync_point.SyncPoint.{SyncPoint}
 use Rattle.spec_case.specs.declared.run_step.RunStep.{RunStep}
 use Rattle.spec_case.specs.Run.{Run, frames_in}
-use Rattle.spec_case.specs.Blocks.{ends_behind}
+use Rattle.spec_case.specs.Blocks.{ends_after}
 use Rattle.spec_board.specs.Steps.{Step}
 use Rattle.spec_board.specs.State.{Entry, Place, Decided, Total}
 use Rattle.spec_board.specs.Texts.{Journal}
@@ -59,11 +59,11 @@ in_port_1 = is field.InPort 1 ∷ []
 abbrev pub dl_dst : ℕ → List Stated
 dl_dst address = is field.DlDst address ∷ []
 
--- a sync point at a second, behind so many edits
+-- a sync point at a second, after so many edits
 abbrev pub sync : ℕ → ℕ → SyncPoint
 sync second after = record { time = second * 1000000000; after = after }
 
-abbrev trace : List Frame → Capture
+abbrev pub trace : List Frame → Capture
 trace frames = record { nanos = true; frames = frames }
 
 -- The frames come in at port 1; these are the numbers of the other ports.
@@ -123,7 +123,7 @@ first_port_shown unmet run (b ∷ bs) = record {
 
 -- what the schedule of a run leads to
 unfoldable pub shown : Run → Shown
-unfolding big_endian_at none masked same joined only_at widths stages hash_bytes field_bytes key_hash winner version packets.key_of mask_of frames.key_of is_tagged tci_of carried carried_by network_at frames.with_network is_met fields_needed outer_tags commit_tags commit commit_field commit_fields pipe act run look last_state write output output_all emit emit_all committed inserted rising through length_up_to common_length deciding probe consults act_bits run_bits look_bits consulted frames_in ends_behind are_same_actions credited_by decisions_from finish_board least_block finish with_given_steps
+unfolding big_endian_at none masked same joined only_at widths stages hash_bytes field_bytes key_hash winner version packets.key_of mask_of frames.key_of is_tagged tci_of carried carried_by network_at frames.with_network is_met fields_needed outer_tags commit_tags commit commit_field commit_fields pipe act run look last_state write output output_all emit emit_all committed inserted rising through length_up_to common_length deciding probe consults act_bits run_bits look_bits consulted frames_in ends_after are_same_actions credited_by decisions_from finish_board least_block finish with_given_steps
 shown r = of_schedule (scheduled r)
   where
     of_schedule : Schedule → Shown

@@ -17,7 +17,7 @@ use Rattle.spec_board.specs.declared.faults.EndFault.{EndFault}
 use Rattle.spec_board.specs.declared.faults.EndFault.TheVariants as end_faults
 use Rattle.spec_board.specs.State.{State, place_at, is_pending, pending_count}
 
--- whether a block is the one behind the board's, and one of the run
+-- whether a block is the one after the board's, and one of the run
 abbrev pub is_next_block : Run → State → ℕ → Bool
 is_next_block run s block = (block == s.block + 1) && nat_le block (last_block run)
 

@@ -96,7 +96,7 @@ unfoldable pub finish_board : Run → ℕ → Board → Board
 finish_board run v b =
     with_next_opened run (with_all_decided run v (with_sweep_made run v (with_pending_settled run v (with_sweep_ended run v b))))
 
--- the least block of boards, none of which is behind this one
+-- the least block of boards, none of which is after this one
 unfoldable pub least_block : ℕ → List Board → ℕ
 least_block most [] = most
 least_block most (b ∷ bs) = min b.state.block (least_block most bs)
@@ -123,7 +123,7 @@ given_up number kept = filter (λ (k : Kept). not (k.number == number)) kept
 abbrev pub keeping : ℕ → ℕ → List Kept → List Kept
 keeping number v kept = record { number = number; version = v } ∷ given_up number kept
 
--- whether a step is met, and the board behind it
+-- whether a step is met, and the board after it
 abbrev pub Met : Type 0
 Met = Bool × Board
 

@@ -21,7 +21,7 @@ looked_text (Exact n) = word_with (codes "exact") n
 looked_text (Mega n) = word_with (codes "mega") n
 looked_text Miss = codes "miss"
 
--- the numbers of the entries that were dropped, each behind a space
+-- the numbers of the entries that were dropped, each after a space
 abbrev pub numbers_text : List ℕ → List ℕ
 numbers_text numbers = flat_map (λ n. codes " " ++ decimal n) numbers
 

@@ -1,7 +1,7 @@
 /// Why a block was not opened.
 #[derive(Clone, Copy, Debug, PartialEq, Eq)]
 pub enum OpenFault {
-    /// It isn't the next block, or there is none behind the last one.
+    /// It isn't the next block, or there is none after the last one.
     Order { block: u32, last: u32 },
     /// The frame of this place, in the board's block, wasn't looked up yet.
     LooksLeft { next: u32 },

@@ -8,7 +8,7 @@ pub record Piece : Type 0 where
   pub port : ℕ
   pub bytes : List ℕ
 
--- the pieces of a frame: each output sends the frame as it then is. The other actions would change it for those behind
+-- the pieces of a frame: each output sends the frame as it then is. The other actions would change it for those after
 -- them; none can be asked for in the form of edits that is built.
 unfoldable pub sent : List DpAction → List ℕ → List Piece
 sent [] frame = []

@@ -1,13 +1,18 @@
 -- Rows: what a translation makes of a packet, and which bits it consults.
-use Rattle.std.proofs.Common.{◌≡◌, ℕ, zero, suc, List, [], ◌∷◌, ◌++◌, replicate, refl}
+use Rattle.std.proofs.Common.{◌≡◌, ℕ, zero, suc, ◌*◌, ◌^◌, List, [], ◌∷◌, ◌++◌, filter, replicate, refl}
 use Rattle.std.specs.List.{range_with_len}
 use Rattle.spec_keys.specs.declared.field_id.FieldId.TheVariants as field
+use Rattle.spec_actions.specs.declared.named_field.NamedField.{NamedField}
 use Rattle.spec_actions.specs.declared.named_field.NamedField.TheVariants as name
+use Rattle.spec_actions.specs.declared.named_field.Prerequisite.{Prerequisite}
+use Rattle.spec_actions.specs.declared.named_field.Prerequisite.TheVariants as needs
 use Rattle.spec_actions.specs.declared.action.OfAction.{OfAction}
-use Rattle.spec_actions.specs.declared.action.OfAction.TheVariants.{Output, OutputField, InPort, All, Resubmit, Goto, Set, Move, DecTtl, PushVlan, SetVid, SetPcp}
+use Rattle.spec_actions.specs.declared.action.OfAction.TheVariants.{Output, OutputField, InPort, All, Flood, Resubmit, Goto, Set, Move, DecTtl, PushVlan, PopVlan, SetVid, SetPcp}
 use Rattle.spec_actions.specs.declared.action.DpAction.TheVariants as datapath
 use Rattle.spec_tables.specs.Rules.{Rule}
-use Rattle.spec_tables.proofs.Packets.{Stated, is, begins, has}
+use Rattle.spec_tables.proofs.Packets.{Stated, is, begins, has, key_of}
+use Rattle.spec_xlate.specs.Needs.{is_met}
+use Rattle.spec_xlate.specs.Commit.{commit}
 use Rattle.spec_xlate.specs.Lookup.{common_length, deciding}
 use Rattle.spec_xlate.proofs.Shown.{shown, gives, rule}
 
@@ -22,16 +27,35 @@ abbrev udp : List Stated
 udp = is field.InPort 1 ∷ is field.DlType 0x0800 ∷ is field.NwSrc 0x0a000001 ∷ is field.NwDst 0xc0a80001
     ∷ is field.NwProto 17 ∷ is field.NwTtl 64 ∷ is field.TpSrc 1000 ∷ is field.TpDst 53 ∷ []
 
+-- a TCP packet at port 1, from 2001:db8::1 to 2001:db8::2, with hop limit 64
+abbrev tcp6 : List Stated
+tcp6 = is field.InPort 1 ∷ is field.DlType 0x86dd ∷ is field.Ipv6Src 0x20010db8000000000000000000000001
+    ∷ is field.Ipv6Dst 0x20010db8000000000000000000000002 ∷ is field.NwProto 6 ∷ is field.NwTtl 64 ∷ is field.TpSrc 40000
+    ∷ is field.TpDst 80 ∷ []
+
 -- table 0 has this rule alone, which every packet matches
 abbrev always : List OfAction → List Rule
 always actions = rule 1 0 0 [] actions ∷ []
 
--- what every translation consults: the match of a frame of no known type, and of one of IPv4
+-- ARP at port 1, and ICMP for either version of IP
+abbrev arp : List Stated
+arp = is field.InPort 1 ∷ is field.DlType 0x0806 ∷ is field.NwProto 1 ∷ []
+
+abbrev icmp : List Stated
+icmp = is field.InPort 1 ∷ is field.DlType 0x0800 ∷ is field.NwProto 1 ∷ is field.NwTtl 1 ∷ []
+
+abbrev icmp6 : List Stated
+icmp6 = is field.InPort 1 ∷ is field.DlType 0x86dd ∷ is field.NwProto 58 ∷ is field.NwTtl 255 ∷ []
+
+-- what every translation consults: the match of a frame of no known type, and of one of IPv4 and of IPv6
 abbrev plain_match : List Stated
 plain_match = is field.InPort 1 ∷ is field.DlType 0x88b5 ∷ []
 
 abbrev ipv4_match : List Stated
 ipv4_match = is field.InPort 1 ∷ is field.DlType 0x0800 ∷ is field.IpFrag 0 ∷ []
+
+abbrev ipv6_match : List Stated
+ipv6_match = is field.InPort 1 ∷ is field.DlType 0x86dd ∷ is field.IpFrag 0 ∷ []
 
 abbrev ports : List ℕ
 ports = 3 ∷ 1 ∷ 2 ∷ []
@@ -100,6 +124,73 @@ a_prefix_that_matches_leads_on_to_the_protocol :
 unfolding shown
 a_prefix_that_matches_leads_on_to_the_protocol = refl
 
+-- one rule of table 0, which no packet here matches
+abbrev never : List Stated → List Rule
+never stated = rule 1 0 0 stated (Output 3 ∷ []) ∷ []
+
+a_prefix_is_tested_after_the_ethernet_stage :
+    shown (never (is field.DlDst 9 ∷ is field.DlType 0x0800 ∷ begins field.NwDst 0x0a000000 8 ∷ [])) ports udp
+    ≡ gives [] [] (is field.DlDst 0 ∷ ipv4_match)
+unfolding shown
+a_prefix_is_tested_after_the_ethernet_stage = refl
+
+a_port_is_read_where_a_rule_has_the_protocol_alone :
+    shown (never (is field.DlType 0x0800 ∷ is field.NwProto 6 ∷ is field.TpDst 80 ∷ [])) ports udp
+    ≡ gives [] [] (is field.NwProto 17 ∷ ipv4_match)
+unfolding shown
+a_port_is_read_where_a_rule_has_the_protocol_alone = refl
+
+-- the packet is outside of both prefixes, and the first bit of the source tells it
+the_source_is_tested_before_the_destination :
+    (shown (never (is field.DlType 0x0800 ∷ begins field.NwSrc 0xc0000000 8 ∷ begins field.NwDst 0x0a000000 8 ∷ [])) ports udp
+    ≡ gives [] [] (begins field.NwSrc 0 1 ∷ ipv4_match))
+    × (shown (never (is field.DlType 0x86dd ∷ begins field.Ipv6Src (0xfe80 * 2 ^ 112) 16 ∷ begins field.Ipv6Dst (0xff * 2 ^ 120) 8 ∷ [])) ports tcp6
+    ≡ gives [] [] (begins field.Ipv6Src 0 1 ∷ ipv6_match))
+unfolding shown
+the_source_is_tested_before_the_destination = (refl, refl)
+
+bits_that_are_no_prefix_are_read_with_the_protocol :
+    shown (never (is field.DlType 0x0800 ∷ has field.NwDst 0x0a000001 0xff0000ff ∷ is field.NwProto 6 ∷ [])) ports udp
+    ≡ gives [] [] (has field.NwDst 0xc0000001 0xff0000ff ∷ is field.NwProto 17 ∷ ipv4_match)
+unfolding shown
+bits_that_are_no_prefix_are_read_with_the_protocol = refl
+
+-- Rule 1 wins. Rule 2 is above it, of one prefix of nw_dst, and rule 3 below it, of another; its mask is never reached.
+abbrev two_prefixes : Stated → Stated → List Rule
+two_prefixes above below =
+    rule 1 0 5 [] (Output 2 ∷ []) ∷ rule 2 0 9 (is field.DlType 0x0800 ∷ above ∷ is field.NwProto 6 ∷ []) (Output 3 ∷ [])
+    ∷ rule 3 0 1 (is field.DlType 0x0800 ∷ below ∷ []) (Output 3 ∷ []) ∷ []
+
+-- 192.168.0.1 and 10.1.0.0 differ in their first bit, but eight bits tell that it is in 192.0.0.0/8
+the_prefixes_of_all_rules_of_the_table_decide :
+    shown (two_prefixes (begins field.NwDst 0x0a010000 16) (begins field.NwDst 0xc0000000 8)) ports udp
+    ≡ gives (datapath.Output 2 ∷ []) (1 ∷ []) (begins field.NwDst 0xc0000000 8 ∷ ipv4_match)
+unfolding shown
+the_prefixes_of_all_rules_of_the_table_decide = refl
+
+-- and 24 that it is in 192.168.0.0/24; another address after the prefix of a rule makes no difference
+no_more_bits_decide_than_the_mask_has :
+    shown (two_prefixes (begins field.NwDst 0x0a000000 8) (begins field.NwDst 0xc0a80007 24)) ports udp
+    ≡ gives (datapath.Output 2 ∷ []) (1 ∷ []) (begins field.NwDst 0xc0000000 8 ∷ ipv4_match)
+unfolding shown
+no_more_bits_decide_than_the_mask_has = refl
+
+-- rule 3 has the packet's port, and so the address is read for rule 2, which is above the winner and of the same mask
+rules_below_the_winner_count_within_their_mask :
+    shown
+    (rule 1 0 5 [] (Output 2 ∷ []) ∷ rule 2 0 9 (is field.InPort 2 ∷ is field.DlDst 9 ∷ []) (Output 3 ∷ [])
+    ∷ rule 3 0 1 (is field.InPort 1 ∷ is field.DlDst 9 ∷ []) (Output 3 ∷ []) ∷ [])
+    ports frame
+    ≡ gives (datapath.Output 2 ∷ []) (1 ∷ []) (is field.DlDst 2 ∷ plain_match)
+unfolding shown
+rules_below_the_winner_count_within_their_mask = refl
+
+an_ip_packet_consults_ip_frag_in_either_version :
+    (shown (always (Output 2 ∷ [])) ports udp ≡ gives (datapath.Output 2 ∷ []) (1 ∷ []) ipv4_match)
+    × (shown (always (Output 2 ∷ [])) ports tcp6 ≡ gives (datapath.Output 2 ∷ []) (1 ∷ []) ipv6_match)
+unfolding shown
+an_ip_packet_consults_ip_frag_in_either_version = (refl, refl)
+
 -- ---- writes
 
 a_write_to_part_of_the_tag_consults_it_whole :
@@ -120,6 +211,17 @@ commit_writes_the_bits_that_differ :
     ≡ gives (datapath.Set field.NwSrc 8 8 ∷ datapath.Output 2 ∷ []) (1 ∷ []) (is field.NwSrc 0x0a000001 ∷ ipv4_match)
 unfolding shown
 commit_writes_the_bits_that_differ = refl
+
+-- the rule states each register
+no_register_is_in_the_mask :
+    shown
+    (rule 1 0 0 (is field.Metadata 0 ∷ is field.Reg0 0 ∷ is field.Reg1 0 ∷ is field.Reg2 0 ∷ is field.Reg3 0 ∷ is field.Reg4 0 ∷ is field.Reg5 0
+    ∷ is field.Reg6 0 ∷ is field.Reg7 0 ∷ is field.Reg8 0 ∷ is field.Reg9 0 ∷ is field.Reg10 0 ∷ is field.Reg11 0 ∷ is field.Reg12 0
+    ∷ is field.Reg13 0 ∷ is field.Reg14 0 ∷ is field.Reg15 0 ∷ []) (Output 2 ∷ []) ∷ [])
+    ports frame
+    ≡ gives (datapath.Output 2 ∷ []) (1 ∷ []) plain_match
+unfolding shown
+no_register_is_in_the_mask = refl
 
 registers_are_not_in_the_mask :
     shown
@@ -152,13 +254,74 @@ a_set_of_no_bits_of_the_tag_consults_nothing :
 unfolding shown
 a_set_of_no_bits_of_the_tag_consults_nothing = refl
 
+-- A write to this name leaves the packet as it is, and consults these bits.
+abbrev Leaves : NamedField → List Stated → List Stated → Type 0
+Leaves written packet match =
+    shown (always (Set written 80 0xffff ∷ Output 2 ∷ [])) ports packet ≡ gives (datapath.Output 2 ∷ []) (1 ∷ []) match
+
+-- of protocol p: 1 is that of a first fragment, 3 that of a later one
+abbrev fragment : ℕ → ℕ → List Stated
+fragment p frag = is field.InPort 1 ∷ is field.DlType 0x0800 ∷ is field.NwProto p ∷ is field.IpFrag frag ∷ []
+
 a_write_to_a_port_of_a_fragment_does_nothing :
-    shown (always (Set name.UdpDst 80 0xffff ∷ Output 2 ∷ [])) ports (is field.InPort 1 ∷ is field.DlType 0x0800
-    ∷ is field.NwProto 17 ∷ is field.IpFrag 1 ∷ [])
-    ≡ gives (datapath.Output 2 ∷ []) (1 ∷ []) (is field.InPort 1 ∷ is field.DlType 0x0800 ∷ is field.NwProto 17
-    ∷ is field.IpFrag 1 ∷ [])
+    Leaves name.UdpDst (fragment 17 1) (fragment 17 1) × (Leaves name.UdpSrc (fragment 17 3) (fragment 17 3)
+    × (Leaves name.TcpDst (fragment 6 1) (fragment 6 1) × (Leaves name.TcpSrc (fragment 6 3) (fragment 6 3)
+    × (Leaves name.TpDst (fragment 6 1) (fragment 6 1) × Leaves name.TpSrc (fragment 17 3) (fragment 17 3)))))
 unfolding shown
-a_write_to_a_port_of_a_fragment_does_nothing = refl
+a_write_to_a_port_of_a_fragment_does_nothing = (refl, (refl, (refl, (refl, (refl, refl)))))
+
+a_write_consults_what_it_needs_where_the_type_alone_tells :
+    Leaves name.UdpDst frame (is field.NwProto 0 ∷ is field.IpFrag 0 ∷ plain_match)
+    × (Leaves name.TcpDst frame (is field.NwProto 0 ∷ is field.IpFrag 0 ∷ plain_match)
+    × (Leaves name.TpDst frame (is field.NwProto 0 ∷ is field.IpFrag 0 ∷ plain_match)
+    × Leaves name.NwSrc frame plain_match))
+unfolding shown
+a_write_consults_what_it_needs_where_the_type_alone_tells = (refl, (refl, (refl, refl)))
+
+-- those of these packets that are what a write needs
+abbrev suited : Prerequisite → List (List Stated)
+suited need = filter (λ packet. is_met need (key_of packet)) (frame ∷ arp ∷ udp ∷ fragment 17 1 ∷ tcp6 ∷ icmp ∷ icmp6 ∷ [])
+
+which_packets_suit_a_write :
+    (suited needs.Nothing ≡ frame ∷ arp ∷ udp ∷ fragment 17 1 ∷ tcp6 ∷ icmp ∷ icmp6 ∷ [])
+    × ((suited needs.Ip ≡ udp ∷ fragment 17 1 ∷ tcp6 ∷ icmp ∷ icmp6 ∷ []) × ((suited needs.Ipv4 ≡ udp ∷ fragment 17 1 ∷ icmp ∷ []) × ((suited needs.Ipv6 ≡ tcp6 ∷ icmp6 ∷ []) × ((suited needs.Arp ≡ arp ∷ [])
+    × ((suited needs.Tcp ≡ tcp6 ∷ []) × ((suited needs.Udp ≡ udp ∷ []) × ((suited needs.TcpOrUdp ≡ udp ∷ tcp6 ∷ [])
+    × ((suited needs.Icmp ≡ icmp ∷ []) × ((suited needs.Icmp6 ≡ icmp6 ∷ []) × (suited needs.Tag ≡ []))))))))))
+unfolding shown
+which_packets_suit_a_write = (refl, (refl, (refl, (refl, (refl, (refl, (refl, (refl, (refl, (refl, refl))))))))))
+
+-- from the Ethernet source to an IPv4 address that the frame lacks
+a_move_that_is_not_made_does_not_consult_its_source :
+    shown (always (Move (record { name = name.DlSrc; low = 0; high = 31 }) (record { name = name.NwSrc; low = 0; high = 31 })
+    ∷ Output 2 ∷ [])) ports frame
+    ≡ gives (datapath.Output 2 ∷ []) (1 ∷ []) plain_match
+unfolding shown
+a_move_that_is_not_made_does_not_consult_its_source = refl
+
+-- the lower half of metadata to that of the source, 1 to 0x10001, and from there to the destination
+a_move_consults_the_bits_that_it_reads_and_writes :
+    shown (always (Set name.Metadata 0x10000 0xffff0000
+    ∷ Move (record { name = name.Metadata; low = 16; high = 23 }) (record { name = name.DlSrc; low = 16; high = 23 })
+    ∷ Move (record { name = name.DlSrc; low = 0; high = 31 }) (record { name = name.DlDst; low = 16; high = 47 }) ∷ Output 2 ∷ [])) ports frame
+    ≡ gives (datapath.Set field.DlSrc 0x10000 0x10000 ∷ datapath.Set field.DlDst 0x100010000 0x100010000 ∷ datapath.Output 2 ∷ []) (1 ∷ [])
+    (has field.DlSrc 1 0xffffffff ∷ has field.DlDst 0 0xffffffff0000 ∷ plain_match)
+unfolding shown
+a_move_consults_the_bits_that_it_reads_and_writes = refl
+
+a_value_is_cut_to_its_mask :
+    shown (always (Set name.DlDst 0xff 0x0c ∷ Output 2 ∷ [])) ports frame
+    ≡ gives (datapath.Set field.DlDst 0x0c 0x0c ∷ datapath.Output 2 ∷ []) (1 ∷ []) (has field.DlDst 0 0x0c ∷ plain_match)
+unfolding shown
+a_value_is_cut_to_its_mask = refl
+
+-- no frame has such a vlan_tci
+a_tag_is_set_beside_bits_without_a_tag :
+    (shown (always (SetVid 5 ∷ Output 2 ∷ [])) ports (is field.VlanTci 0x2004 ∷ frame)
+    ≡ gives (datapath.PushVlan 0x3005 ∷ datapath.Output 2 ∷ []) (1 ∷ []) (is field.VlanTci 0x2004 ∷ plain_match))
+    × (shown (always (SetPcp 3 ∷ Output 2 ∷ [])) ports (is field.VlanTci 0x2004 ∷ frame)
+    ≡ gives (datapath.PushVlan 0x7004 ∷ datapath.Output 2 ∷ []) (1 ∷ []) (is field.VlanTci 0x2004 ∷ plain_match))
+unfolding shown
+a_tag_is_set_beside_bits_without_a_tag = (refl, refl)
 
 commit_goes_by_the_order_of_the_fields :
     shown (always (Set name.UdpDst 52 0xffff ∷ Set name.NwSrc 0x0a000002 0xffffffff ∷ SetVid 5 ∷ Set name.DlDst 1 1
@@ -168,6 +331,19 @@ commit_goes_by_the_order_of_the_fields :
     ∷ is field.VlanTci 0 ∷ is field.NwSrc 0x0a000001 ∷ is field.NwProto 17 ∷ is field.TpDst 53 ∷ ipv4_match)
 unfolding shown
 commit_goes_by_the_order_of_the_fields = refl
+
+-- from a key of zeros to one in which each of these fields is 1
+commit_has_every_field_that_a_write_may_change :
+    commit (key_of [])
+    (key_of (is field.TpDst 1 ∷ is field.TpSrc 1 ∷ is field.ArpTha 1 ∷ is field.ArpSha 1 ∷ is field.NwTtl 1 ∷ is field.NwTos 1
+    ∷ is field.Ipv6Dst 1 ∷ is field.Ipv6Src 1 ∷ is field.NwDst 1 ∷ is field.NwSrc 1 ∷ is field.VlanTci 0x1001 ∷ is field.DlDst 1
+    ∷ is field.DlSrc 1 ∷ []))
+    ≡ datapath.Set field.DlSrc 1 1 ∷ datapath.Set field.DlDst 1 1 ∷ datapath.PushVlan 0x1001 ∷ datapath.Set field.NwSrc 1 1
+    ∷ datapath.Set field.NwDst 1 1 ∷ datapath.Set field.Ipv6Src 1 1 ∷ datapath.Set field.Ipv6Dst 1 1 ∷ datapath.Set field.NwTos 1 1
+    ∷ datapath.Set field.NwTtl 1 1 ∷ datapath.Set field.ArpSha 1 1 ∷ datapath.Set field.ArpTha 1 1 ∷ datapath.Set field.TpSrc 1 1
+    ∷ datapath.Set field.TpDst 1 1 ∷ []
+unfolding shown
+commit_has_every_field_that_a_write_may_change = refl
 
 -- its priority goes with it
 a_write_that_leaves_no_tag_bit_takes_the_tag_away :
@@ -189,11 +365,34 @@ unfolding shown
 a_move_reads_and_writes_its_slices = refl
 
 set_vid_and_set_pcp_keep_each_others_part :
-    shown (always (SetPcp 3 ∷ SetVid 7 ∷ Output 2 ∷ [])) ports (is field.VlanTci 0xb00a ∷ frame)
-    ≡ gives (datapath.PopVlan ∷ datapath.PushVlan 0x7007 ∷ datapath.Output 2 ∷ []) (1 ∷ []) (is field.VlanTci 0xb00a
+    shown (always (SetPcp 3 ∷ SetVid 7 ∷ Output 2 ∷ [])) ports (is field.VlanTci 0xb80a ∷ frame)
+    ≡ gives (datapath.PopVlan ∷ datapath.PushVlan 0x7007 ∷ datapath.Output 2 ∷ []) (1 ∷ []) (is field.VlanTci 0xb80a
     ∷ plain_match)
 unfolding shown
 set_vid_and_set_pcp_keep_each_others_part = refl
+
+a_pushed_tag_is_empty_and_popped_again :
+    shown (always (PushVlan ∷ Output 2 ∷ PopVlan ∷ Output 3 ∷ [])) ports frame
+    ≡ gives (datapath.PushVlan 0x1000 ∷ datapath.Output 2 ∷ datapath.PopVlan ∷ datapath.Output 3 ∷ []) (1 ∷ []) (is field.VlanTci 0 ∷ plain_match)
+unfolding shown
+a_pushed_tag_is_empty_and_popped_again = refl
+
+a_pop_consults_the_tag_whether_there_is_one_or_not :
+    (shown (always (PopVlan ∷ Output 2 ∷ [])) ports frame
+    ≡ gives (datapath.Output 2 ∷ []) (1 ∷ []) (is field.VlanTci 0 ∷ plain_match))
+    × (shown (always (PopVlan ∷ Output 2 ∷ [])) ports (is field.VlanTci 0xb00a ∷ frame)
+    ≡ gives (datapath.PopVlan ∷ datapath.Output 2 ∷ []) (1 ∷ []) (is field.VlanTci 0xb00a ∷ plain_match))
+unfolding shown
+a_pop_consults_the_tag_whether_there_is_one_or_not = (refl, refl)
+
+a_pop_leaves_no_bit_of_the_tag :
+    shown
+    (rule 1 0 0 [] (PopVlan ∷ Goto 1 ∷ [])
+    ∷ rule 2 1 0 (is field.VlanTci 0 ∷ []) (Output 2 ∷ []) ∷ [])
+    ports (is field.VlanTci 0xb00a ∷ frame)
+    ≡ gives (datapath.PopVlan ∷ datapath.Output 2 ∷ []) (1 ∷ 2 ∷ []) (is field.VlanTci 0xb00a ∷ plain_match)
+unfolding shown
+a_pop_leaves_no_bit_of_the_tag = refl
 
 a_second_push_ends_the_translation :
     shown (always (Output 2 ∷ PushVlan ∷ Output 3 ∷ PushVlan ∷ [])) ports frame
@@ -209,12 +408,32 @@ all_goes_to_the_other_ports_in_rising_order :
 unfolding shown
 all_goes_to_the_other_ports_in_rising_order = refl
 
--- without another port, all commits nothing
 output_goes_to_other_ports_of_the_switch_alone :
     shown (always (Output 1 ∷ Output 4 ∷ Set name.DlDst 9 0xffffffffffff ∷ All ∷ InPort ∷ [])) (1 ∷ []) frame
     ≡ gives (datapath.Set field.DlDst 9 11 ∷ datapath.Output 1 ∷ []) (1 ∷ []) (is field.DlDst 2 ∷ plain_match)
 unfolding shown
 output_goes_to_other_ports_of_the_switch_alone = refl
+
+all_commits_once_before_its_outputs :
+    shown (always (Set name.DlDst 9 0xffffffffffff ∷ All ∷ [])) ports frame
+    ≡ gives (datapath.Set field.DlDst 9 11 ∷ datapath.Output 2 ∷ datapath.Output 3 ∷ []) (1 ∷ []) (is field.DlDst 2 ∷ plain_match)
+unfolding shown
+all_commits_once_before_its_outputs = refl
+
+-- a write, and back
+all_and_flood_commit_nothing_without_another_port :
+    (shown (always (Set name.DlDst 9 0xffffffffffff ∷ All ∷ Set name.DlDst 2 0xffffffffffff ∷ InPort ∷ [])) (1 ∷ []) frame
+    ≡ gives (datapath.Output 1 ∷ []) (1 ∷ []) (is field.DlDst 2 ∷ plain_match))
+    × (shown (always (Set name.DlDst 9 0xffffffffffff ∷ Flood ∷ Set name.DlDst 2 0xffffffffffff ∷ InPort ∷ [])) (1 ∷ []) frame
+    ≡ gives (datapath.Output 1 ∷ []) (1 ∷ []) (is field.DlDst 2 ∷ plain_match))
+unfolding shown
+all_and_flood_commit_nothing_without_another_port = (refl, refl)
+
+a_part_of_the_tag_that_is_read_consults_it_whole :
+    shown (always (OutputField (record { name = name.VlanVid; low = 0; high = 3 }) ∷ [])) ports (is field.VlanTci 0xb003 ∷ frame)
+    ≡ gives (datapath.Output 3 ∷ []) (1 ∷ []) (is field.VlanTci 0xb003 ∷ plain_match)
+unfolding shown
+a_part_of_the_tag_that_is_read_consults_it_whole = refl
 
 an_output_to_a_field_consults_the_bits_that_it_reads :
     shown (always (OutputField (record { name = name.TpDst; low = 4; high = 5 }) ∷ [])) ports udp
@@ -222,7 +441,37 @@ an_output_to_a_field_consults_the_bits_that_it_reads :
 unfolding shown
 an_output_to_a_field_consults_the_bits_that_it_reads = refl
 
+-- port 1 is that of the packet, and there is no port 53
+an_output_to_a_field_sends_to_other_ports_of_the_switch_alone :
+    (shown (always (OutputField (record { name = name.InPort; low = 0; high = 15 }) ∷ [])) ports frame ≡ gives [] (1 ∷ []) plain_match)
+    × (shown (always (OutputField (record { name = name.TpDst; low = 0; high = 15 }) ∷ [])) ports udp
+    ≡ gives [] (1 ∷ []) (is field.TpDst 53 ∷ ipv4_match))
+unfolding shown
+an_output_to_a_field_sends_to_other_ports_of_the_switch_alone = (refl, refl)
+
 -- ---- lists that end
+
+a_list_goes_on_after_a_goto :
+    shown (rule 1 0 0 [] (Goto 1 ∷ Output 3 ∷ []) ∷ rule 2 1 0 [] (Output 2 ∷ []) ∷ []) ports frame
+    ≡ gives (datapath.Output 2 ∷ datapath.Output 3 ∷ []) (1 ∷ 2 ∷ []) plain_match
+unfolding shown
+a_list_goes_on_after_a_goto = refl
+
+a_packet_without_a_ttl_is_no_packet_of_ttl_0 :
+    (shown (always (DecTtl ∷ Output 2 ∷ [])) ports frame ≡ gives (datapath.Output 2 ∷ []) (1 ∷ []) plain_match)
+    × (shown (always (DecTtl ∷ Output 2 ∷ [])) ports (is field.InPort 1 ∷ is field.DlType 0x0800 ∷ [])
+    ≡ gives [] (1 ∷ []) (is field.NwTtl 0 ∷ ipv4_match))
+unfolding shown
+a_packet_without_a_ttl_is_no_packet_of_ttl_0 = (refl, refl)
+
+-- by a TTL of 1, and by a second push
+what_stands_after_the_end_consults_nothing :
+    (shown (always (DecTtl ∷ Set name.DlDst 9 0xffffffffffff ∷ Output 2 ∷ [])) ports icmp
+    ≡ gives [] (1 ∷ []) (is field.NwTtl 1 ∷ ipv4_match))
+    × (shown (always (PushVlan ∷ PushVlan ∷ Set name.DlDst 9 0xffffffffffff ∷ Output 2 ∷ [])) ports frame
+    ≡ gives [] (1 ∷ []) (is field.VlanTci 0 ∷ plain_match))
+unfolding shown
+what_stands_after_the_end_consults_nothing = (refl, refl)
 
 a_ttl_of_1_ends_the_list_and_not_the_one_that_led_to_it :
     shown
@@ -241,7 +490,7 @@ a_ttl_of_2_becomes_1 = refl
 
 -- ---- limits
 
--- rules of so many tables behind this one and of it, each of which leads to the next, and the last to port 2
+-- rules of so many tables after this one and of it, each of which leads to the next, and the last to port 2
 chain : ℕ → ℕ → List Rule
 chain zero table = rule (suc table) table 0 [] (Output 2 ∷ []) ∷ []
 chain (suc n) table = rule (suc table) table 0 [] (Resubmit (suc table) ∷ []) ∷ chain n (suc table)

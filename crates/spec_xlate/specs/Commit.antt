@@ -8,12 +8,12 @@ use Rattle.spec_actions.specs.declared.action.DpAction.{DpAction}
 use Rattle.spec_actions.specs.declared.action.DpAction.TheVariants.{Set}
 use Rattle.spec_xlate.specs.Tags.{tags_of, commit_tags}
 
--- the fields of a frame that change in place, those before the tags and those behind them
+-- the fields of a frame that change in place, those before the tags and those after them
 abbrev pub fields_before_tags : List FieldId
 fields_before_tags = DlSrc ∷ DlDst ∷ []
 
-abbrev pub fields_behind_tags : List FieldId
-fields_behind_tags = NwSrc ∷ NwDst ∷ Ipv6Src ∷ Ipv6Dst ∷ NwTos ∷ NwTtl ∷ ArpSha ∷ ArpTha ∷ TpSrc ∷ TpDst ∷ []
+abbrev pub fields_after_tags : List FieldId
+fields_after_tags = NwSrc ∷ NwDst ∷ Ipv6Src ∷ Ipv6Dst ∷ NwTos ∷ NwTtl ∷ ArpSha ∷ ArpTha ∷ TpSrc ∷ TpDst ∷ []
 
 -- the datapath actions that turn the value of a field into another: none, or one that writes the bits that differ
 unfoldable pub commit_field : FieldId → ℕ → ℕ → List DpAction
@@ -29,4 +29,4 @@ commit_fields (f ∷ fs) base current =
 unfoldable pub commit : List ℕ → List ℕ → List DpAction
 commit base current =
     commit_fields fields_before_tags base current
-    ++ (commit_tags (tags_of base) (tags_of current) ++ commit_fields fields_behind_tags base current)
+    ++ (commit_tags (tags_of base) (tags_of current) ++ commit_fields fields_after_tags base current)

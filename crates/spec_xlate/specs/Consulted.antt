@@ -5,7 +5,7 @@ use Rattle.std.specs.Prelude.{ℕ, zero, suc, ◌+◌, ◌==◌, if◌then◌els
 use Rattle.spec_base.specs.Bits.{all_bits}
 use Rattle.spec_keys.specs.declared.field_id.FieldId.{FieldId}
 use Rattle.spec_keys.specs.declared.field_id.FieldId.TheVariants as field
-use Rattle.spec_keys.specs.Fields.{place_of, width_of}
+use Rattle.spec_keys.specs.Fields.{place_of, width_of, register_fields}
 use Rattle.spec_keys.specs.Keys.{only_at}
 use Rattle.spec_actions.specs.declared.named_field.NamedField.{NamedField}
 use Rattle.spec_actions.specs.declared.named_field.Prerequisite.{Prerequisite}
@@ -93,12 +93,6 @@ look_bits sw (suc depths) table s = enter_bits sw (look sw depths) (look_bits sw
 -- what every translation consults: where the packet came in and what kind it is (this profile, as in Open vSwitch)
 abbrev pub start_bits : List ℕ → List (List ℕ)
 start_bits key = whole field.InPort ∷ whole field.DlType ∷ when (is_ip key) (whole field.IpFrag ∷ [])
-
--- the fields that no frame carries; they are 0 before every translation
-abbrev pub register_fields : List FieldId
-register_fields =
-    field.Metadata ∷ field.Reg0 ∷ field.Reg1 ∷ field.Reg2 ∷ field.Reg3 ∷ field.Reg4 ∷ field.Reg5 ∷ field.Reg6 ∷ field.Reg7 ∷ field.Reg8 ∷
-    field.Reg9 ∷ field.Reg10 ∷ field.Reg11 ∷ field.Reg12 ∷ field.Reg13 ∷ field.Reg14 ∷ field.Reg15 ∷ []
 
 -- a mask without the bits of these fields
 abbrev pub without : List FieldId → List ℕ → List ℕ

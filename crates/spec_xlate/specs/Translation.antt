@@ -198,13 +198,13 @@ run sw sub [] s = s
 run sw sub (a ∷ actions) s = while_going (run sw sub actions) (act sw sub a s)
 
 -- a list that has ended lets the one that led to it go on
-abbrev pub mode_behind : Mode → Mode
-mode_behind Going = Going
-mode_behind ListEnded = Going
-mode_behind Stopped = Stopped
+abbrev pub mode_after : Mode → Mode
+mode_after Going = Going
+mode_after ListEnded = Going
+mode_after Stopped = Stopped
 
 abbrev pub resumed : State → State
-resumed s = record s { mode = mode_behind s.mode }
+resumed s = record s { mode = mode_after s.mode }
 
 abbrev pub visited : Rule → State → State
 visited r s = record s { visits = s.visits ++ r.number ∷ [] }

@@ -183,7 +183,7 @@ its_rule_is_due_all_frames :
 unfolding shown
 its_rule_is_due_all_frames = (refl, refl)
 
--- The entry decided no frame, and the sweep begins 19 seconds behind the frame that it was made for.
+-- The entry decided no frame, and the sweep begins 19 seconds after the frame that it was made for.
 abbrev idle : Run
 idle =
     run_of flow_limit (2 ∷ []) (add 32768 in_port_and_dl_dst (Output 2 ∷ []) ∷ []) [] (frame 1 2 ∷ frame 20 6 ∷ [])
@@ -218,7 +218,7 @@ a_sweep_forgets_an_entry_that_is_dropped_meanwhile :
     (add 1 [] (Output 2 ∷ []) ∷ add 10 (dl_dst 9) (Output 3 ∷ []) ∷ edit DeleteStrict 10 (dl_dst 9) [] ∷ [])
     [] (frame 1 2 ∷ frame 2 6 ∷ [])
     (given.Edit ∷ given.Edit ∷ given.Rx 1 ∷ given.Snap 1 1 ∷ given.Settle 1 1 ∷ given.Edit ∷ given.Sweep 1 ∷ given.Check 1 1
-    ∷ given.Rx 1 ∷ given.Snap 1 2 ∷ given.Settle 1 2 ∷ given.Put 1 1 ∷ given.Swept 1 ∷ []))
+    ∷ given.Rx 1 ∷ given.Snap 1 2 ∷ given.Settle 1 2 ∷ given.Put 1 1 ∷ []))
     ≡ record {
       unmet = 1;
       journals =
@@ -233,7 +233,7 @@ a_sweep_forgets_an_entry_that_is_dropped_meanwhile = refl
 
 -- ---- given steps
 
--- Behind the first edit and look there is no second one, no port 9, no sweep, no further block, and nothing kept.
+-- After the first edit and look there is no second one, no port 9, no sweep, no further block, and nothing kept.
 steps_that_are_refused_are_counted_and_nothing_else :
     shown
     (run_of flow_limit (2 ∷ []) (in_port_rule ∷ []) [] (frame 1 2 ∷ [])
@@ -272,40 +272,40 @@ no_edit_is_published_before_every_port_is_in_its_block = refl
 abbrev two_frames : Run
 two_frames = run_of flow_limit (2 ∷ []) (in_port_rule ∷ []) [] (frame 1 2 ∷ frame 2 2 ∷ []) []
 
--- a board of port 1 behind these steps
-abbrev behind : List Step → State
-behind steps = after two_frames 1 steps
+-- a board of port 1 after these steps
+abbrev led_to : List Step → State
+led_to steps = after two_frames 1 steps
 
 a_new_board_refuses_all_but_its_first_look_and_a_sweep :
-    (open_fault two_frames 1 (behind []) 1 ≡ Some (open_faults.Order 0 0))
-    × ((look_fault two_frames 1 (behind []) 2 ≡ Some (look_faults.OutOfTurn 1))
-    × ((settle_fault two_frames (behind []) 1 1 ≡ Some settle_faults.NotPending)
-    × ((begin_fault two_frames (behind []) 5 ≡ Some (begin_faults.Ahead 1))
-    × ((put_fault two_frames (behind []) 1 1 ≡ Some put_faults.NotListed)
-    × ((end_fault (behind []) ≡ Some end_faults.NotSweeping)
-    × ((look_fault two_frames 1 (behind []) 1 ≡ None)
-    × (begin_fault two_frames (behind []) 1 ≡ None)))))))
+    (open_fault two_frames 1 (led_to []) 1 ≡ Some (open_faults.Order 0 0))
+    × ((look_fault two_frames 1 (led_to []) 2 ≡ Some (look_faults.OutOfTurn 1))
+    × ((settle_fault two_frames (led_to []) 1 1 ≡ Some settle_faults.NotPending)
+    × ((begin_fault two_frames (led_to []) 5 ≡ Some (begin_faults.Ahead 1))
+    × ((put_fault two_frames (led_to []) 1 1 ≡ Some put_faults.NotListed)
+    × ((end_fault (led_to []) ≡ Some end_faults.NotSweeping)
+    × ((look_fault two_frames 1 (led_to []) 1 ≡ None)
+    × (begin_fault two_frames (led_to []) 1 ≡ None)))))))
 unfolding shown
 a_new_board_refuses_all_but_its_first_look_and_a_sweep = (refl, (refl, (refl, (refl, (refl, (refl, (refl, refl)))))))
 
 a_sweep_without_entries_puts_none_and_may_end :
-    (begin_fault two_frames (behind (Begin 1 ∷ [])) 1 ≡ Some (begin_faults.Sweeping 1))
-    × ((put_fault two_frames (behind (Begin 1 ∷ [])) 1 1 ≡ Some put_faults.NotListed)
-    × (end_fault (behind (Begin 1 ∷ [])) ≡ None))
+    (begin_fault two_frames (led_to (Begin 1 ∷ [])) 1 ≡ Some (begin_faults.Sweeping 1))
+    × ((put_fault two_frames (led_to (Begin 1 ∷ [])) 1 1 ≡ Some put_faults.NotListed)
+    × (end_fault (led_to (Begin 1 ∷ [])) ≡ None))
 unfolding shown
 a_sweep_without_entries_puts_none_and_may_end = (refl, (refl, refl))
 
 -- a version beyond the edits, and an entry that isn't there
 what_stands_first_is_said_where_several_causes_stand :
-    (settle_fault two_frames (behind []) 1 9 ≡ Some settle_faults.NotPending)
-    × ((begin_fault two_frames (behind (Begin 1 ∷ [])) 9 ≡ Some (begin_faults.Sweeping 1))
-    × (put_fault two_frames (behind (Begin 1 ∷ [])) 1 9 ≡ Some put_faults.NotListed))
+    (settle_fault two_frames (led_to []) 1 9 ≡ Some settle_faults.NotPending)
+    × ((begin_fault two_frames (led_to (Begin 1 ∷ [])) 9 ≡ Some (begin_faults.Sweeping 1))
+    × (put_fault two_frames (led_to (Begin 1 ∷ [])) 1 9 ≡ Some put_faults.NotListed))
 unfolding shown
 what_stands_first_is_said_where_several_causes_stand = (refl, (refl, refl))
 
 -- ---- blocks
 
-a_frame_behind_a_later_one_stays_in_its_block :
+a_frame_after_a_later_one_stays_in_its_block :
     map (block_of (run_of flow_limit [] [] (sync 2 0 ∷ []) (frame 1 2 ∷ frame 3 2 ∷ frame 2 2 ∷ []) []) 1) (1 ∷ 2 ∷ 3 ∷ []) ≡ 0 ∷ 1 ∷ 1 ∷ []
 unfolding shown
-a_frame_behind_a_later_one_stays_in_its_block = refl
+a_frame_after_a_later_one_stays_in_its_block = refl

@@ -87,11 +87,11 @@ what_was_sent_before_a_ttl_of_1_ends_the_list_stays_sent :
 unfolding shown
 what_was_sent_before_a_ttl_of_1_ends_the_list_stays_sent = refl
 
-a_resubmit_goes_on_behind_a_list_that_a_ttl_of_1_ended :
+a_resubmit_goes_on_after_a_list_that_a_ttl_of_1_ended :
     shown
     (rule 1 0 32768 (is field.InPort 1 ∷ []) (Resubmit 1 ∷ Output 3 ∷ [])
     ∷ rule 2 1 32768 [] (DecTtl ∷ Output 2 ∷ []) ∷ [])
     ports (udp 1)
     ≡ gives (datapath.Output 3 ∷ []) (1 ∷ 2 ∷ []) (at_port_1 (is field.DlType 0x0800 ∷ is field.NwTtl 1 ∷ is field.IpFrag 0 ∷ []))
 unfolding shown
-a_resubmit_goes_on_behind_a_list_that_a_ttl_of_1_ended = refl
+a_resubmit_goes_on_after_a_list_that_a_ttl_of_1_ended = refl
