@@ -1,0 +1,4 @@
+pub mod Entries
+pub mod Versions
+pub mod Counts
+pub mod Places
