@@ -12,5 +12,5 @@ pub found_at : (files : List (String Global × Vec ℕ Global)) (name : List ℕ
     lookup (pairs files) name ≡ Some (contents_of (pairs files) (Some place))
 found_at files name place file within is named passed =
     let got = slice_get_read files (length files) place file refl within is in
-    let front = drop-cons files place file within in
-    rw (slice_get-map, got, ← passed, front, ← is, named) refl
+    let prefix = drop-cons files place file within in
+    rw (slice_get-map, got, ← passed, prefix, ← is, named) refl

@@ -1,6 +1,6 @@
 -- What reading a whole file answers where opening it was refused: `from` says that the answer is made of the
 -- refusal.
-use Rattle.std.proofs.Common.{◌≡◌, ℕ, List, Result, Err, sym, ap, ◌∙◌, refl, inl, inr}
+use Rattle.std.proofs.Common.{◌≡◌, ℕ, List, Result, Err, sym, ap, ◌∙◌, refl, inl, inr, arith}
 use Rattle.std.specs.Prelude.{IfErr, IsErrOf, IsErrAnd}
 use Rattle.std.proofs.lemmas.Result.{err_from_is_err_and}
 use Rattle.edge_io.specs.declared.outside.Failed.{Failed}
@@ -9,7 +9,8 @@ use Rattle.edge_io.specs.declared.outside.InUse.{InUse}
 use Rattle.edge_io.specs.declared.outside.InUse.TheVariants.{Nothing}
 use Rattle.edge_io.specs.declared.reading.ReadFault.{ReadFault}
 use Rattle.edge_io.specs.declared.reading.ReadFault.TheVariants.{Over}
-use Rattle.edge_io.specs.Shelf.{Told, HasCause, Opens}
+use Rattle.edge_io.specs.Counts.{Counts, HasCause, ReadFailed, with_read_fault}
+use Rattle.edge_io.specs.Shelf.{Told, Opens}
 use Rattle.edge_io.specs.ReadAll.{read_fault_of, in_use_after, ReadCause, OnlyRead, Names}
 
 abbrev IsFrom : {T : Type 0} → Failed → Result T ReadFault → Type 0
@@ -47,25 +48,24 @@ names before after name r failed.OutOfMemory from opens =
       no_memory = λ _. inr (ap (λ (t : Told). t.last) (opens.no_memory refl));
     }
 
-pub cause : {T U : Type 0} (a b c d : ℕ) (r : Result T ReadFault) (f : Failed) → IsFrom f r →
-    HasCause {T = U} a b c d (Err f) → ReadCause a b c d r
-cause a b c d r failed.Fault from has =
+read_failed : (before now : Counts) → now ≡ with_read_fault before → ReadFailed before now
+read_failed before now counted = rw counted (record { reading = omega arith; writing = refl })
+
+pub cause : {T U : Type 0} (before now : Counts) (r : Result T ReadFault) (f : Failed) → IsFrom f r →
+    HasCause {T = U} with_read_fault before now (Err f) → ReadCause before now r
+cause before now r failed.Fault from has =
     let e = answer r failed.Fault from in
     record {
-      later = has.later;
-      failed = λ _. has.failed refl;
+      fault = λ _. read_failed before now (has.fault refl);
       no_memory = λ h. let x = sym e ∙ h in cc;
       over = λ h. absurd (not_over r failed.Fault from h);
       ok = rw e tt;
-      other = has.other;
     }
-cause a b c d r failed.OutOfMemory from has =
+cause before now r failed.OutOfMemory from has =
     let e = answer r failed.OutOfMemory from in
     record {
-      later = has.later;
-      failed = λ h. let x = sym e ∙ h in cc;
+      fault = λ h. let x = sym e ∙ h in cc;
       no_memory = λ _. has.no_memory refl;
       over = λ _. has.no_memory refl;
       ok = rw e tt;
-      other = has.other;
     }

@@ -1,11 +1,12 @@
 -- Worked rows of the definitions.
-use Rattle.std.proofs.Common.{◌≡◌, ℕ, List, [], ◌∷◌, Some, None, refl}
+use Rattle.std.proofs.Common.{◌≡◌, List, [], ◌∷◌, Some, None, refl}
 use Rattle.std.specs.Prelude.{codes}
+use Rattle.spec_base.specs.Files.{File}
 use Rattle.edge_io.specs.Shelf.{Told, untouched, wrote, closed, released, kept}
 use Rattle.edge_io.specs.ReadAll.{was_read}
 use Rattle.edge_io.specs.Stored.{lookup, lookup_or_empty, contents_of}
 
-abbrev files : List (List ℕ × List ℕ)
+abbrev files : List File
 files = (codes "a", codes "first") ∷ (codes "b", codes "other") ∷ (codes "a", codes "second") ∷ []
 
 -- of a name the first file counts

@@ -5,6 +5,7 @@ use Rattle.std.proofs.lemmas.Result.{on_ok_weaker}
 use Rattle.edge_io.specs.declared.reading.ReadFault.{ReadFault}
 use Rattle.edge_io.specs.Shelf.{Told}
 use Rattle.edge_io.specs.ReadAll.{was_read, Names}
+use Rattle.edge_io.proofs.Always.{on_ok}
 
 pub bytes : (contents : Option (List ℕ)) (left : List ℕ) (r : Result (Vec ℕ Global) ReadFault) →
     contents ≡ Some left → IfOk r (λ v. v.items ≡ left) → IfOk r (λ v. contents ≡ Some v.items)
@@ -15,10 +16,6 @@ pub not_ok : (left : List ℕ) (max : ℕ) (r : Result (Vec ℕ Global) ReadFaul
     IfOk r (λ v. v.items ≡ left) → IfOk r (λ v. vec_len v ≤ max) → max < length left → ¬ IsOk r
 not_ok left max (Ok v) e bound long ok = let n = ap length e in omega arith
 not_ok left max (Err f) e bound long ok = cc
-
-on_ok : {T E P : Type 0} (r : Result T E) → P → OnOk r P
-on_ok (Ok v) p = p
-on_ok (Err e) p = tt
 
 module _ {T : Type 0} (before mid after : Told) (name : List ℕ) (r : Result T ReadFault)
     (opened : mid ≡ record before { left = mid.left; last = name })

@@ -1,8 +1,10 @@
+pub mod Counts
 pub mod Shelf
 pub mod Written
 pub mod Sink
 pub mod ReadAll
 pub mod Stored
 pub mod Slots
+pub mod Calls
 pub mod Memory
 pub mod Real

@@ -1,16 +1,30 @@
--- The calls of a shelf or a sink in memory: how many were made, and the numbers of those that are to fail.
+-- What is seen of files and text in memory.
 use Rattle.std.specs.Prelude.{ℕ, List}
+use Rattle.edge_io.specs.declared.outside.InUse.{InUse}
 use Rattle.edge_io.specs.declared.memory.MemoryShelf.{MemoryShelf}
-use Rattle.edge_io.specs.declared.memory.MemorySink.{MemorySink}
+use Rattle.edge_io.specs.declared.memory_sink.MemorySink.{MemorySink}
+use Rattle.edge_io.specs.Calls.{Calls}
+use Rattle.edge_io.specs.Counts.{Counts}
+use Rattle.edge_io.specs.Shelf.{Told}
+use Rattle.edge_io.specs.Stored.{lookup, told_of}
 
-abbrev pub shelf_calls : MemoryShelf → ℕ
-shelf_calls s = s.failures.calls
+abbrev pub shelf_told : MemoryShelf → Told
+shelf_told s = told_of (lookup s.folder.held) s.folder
 
-abbrev pub shelf_fails : MemoryShelf → List ℕ
-shelf_fails s = s.failures.numbers.items
+abbrev pub shelf_in_use : MemoryShelf → InUse
+shelf_in_use s = s.folder.in_use
 
-abbrev pub sink_calls : MemorySink → ℕ
-sink_calls s = s.failures.calls
+abbrev pub shelf_counts : MemoryShelf → Counts
+shelf_counts s = s.counts
 
-abbrev pub sink_fails : MemorySink → List ℕ
-sink_fails s = s.failures.numbers.items
+abbrev pub shelf_calls : MemoryShelf → Calls
+shelf_calls s = s.calls
+
+abbrev pub sink_written : MemorySink → List ℕ
+sink_written s = s.text.items
+
+abbrev pub sink_faults : MemorySink → ℕ
+sink_faults s = s.faults
+
+abbrev pub sink_calls : MemorySink → Calls
+sink_calls s = s.calls

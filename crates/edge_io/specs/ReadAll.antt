@@ -1,26 +1,25 @@
 -- What reading a whole file does.
-use Rattle.std.specs.Prelude.{◌≡◌, ℕ, ◌≤◌, List, [], ◌⊎◌, Result, OnOk, IsErrOf}
-use Rattle.spec_base.specs.Counts.{Rose}
+use Rattle.std.specs.Prelude.{◌≡◌, ℕ, List, [], ◌⊎◌, Result, OnOk, IsErrOf}
 use Rattle.edge_io.specs.declared.outside.Failed.{Failed}
 use Rattle.edge_io.specs.declared.outside.Failed.TheVariants as failed
 use Rattle.edge_io.specs.declared.outside.InUse.{InUse}
 use Rattle.edge_io.specs.declared.outside.InUse.TheVariants.{Nothing, Opened}
 use Rattle.edge_io.specs.declared.reading.ReadFault.{ReadFault}
 use Rattle.edge_io.specs.declared.reading.ReadFault.TheVariants.{Fault, Over, OutOfMemory}
+use Rattle.edge_io.specs.Counts.{Counts, ReadFailed}
 use Rattle.edge_io.specs.Shelf.{Told}
 
 abbrev pub read_fault_of : Failed → ReadFault
 read_fault_of failed.Fault = Fault
 read_fault_of failed.OutOfMemory = OutOfMemory
 
--- A fault comes only where the count of reading rose. Every other answer leaves it, and the other count stays.
-pub record ReadCause {T : Type 0} (before now other_before other_now : ℕ) (result : Result T ReadFault) : Type 0 where
-  pub later : before ≤ now
-  pub failed : IsErrOf result Fault → Rose before now
-  pub no_memory : IsErrOf result OutOfMemory → now ≡ before
+-- A fault comes only where calls of reading failed: one did, and perhaps the close after it. Any other answer leaves
+-- both counts.
+pub record ReadCause {T : Type 0} (before now : Counts) (result : Result T ReadFault) : Type 0 where
+  pub fault : IsErrOf result Fault → ReadFailed before now
   pub over : IsErrOf result Over → now ≡ before
+  pub no_memory : IsErrOf result OutOfMemory → now ≡ before
   pub ok : OnOk result (now ≡ before)
-  pub other : other_now ≡ other_before
 
 -- Only what is left changed, and the last name.
 abbrev pub OnlyRead : Told → Told → Type 0
@@ -30,7 +29,7 @@ OnlyRead before after = after ≡ record before { left = after.left; last = afte
 abbrev pub was_read : Told → List ℕ → Told
 was_read t name = record t { left = []; last = name }
 
--- The last name is the given one. Where memory is wanting, it may be the one before.
+-- The last name is the given one. Out of memory, it may be the one before.
 pub record Names {T : Type 0} (before after name : List ℕ) (result : Result T ReadFault) : Type 0 where
   pub ok : OnOk result (after ≡ name)
   pub fault : IsErrOf result Fault → after ≡ name

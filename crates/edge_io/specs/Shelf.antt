@@ -1,6 +1,6 @@
--- What the calls of a shelf do to what it tells, and when they may answer a fault.
-use Rattle.std.specs.Prelude.{◌≡◌, ℕ, ◌≤◌, ◌<◌, List, [], ◌∷◌, ◌++◌, length, take, drop, Option, Some, Result, OnOk, OnErr, IfOk, IsErrOf}
-use Rattle.spec_base.specs.Counts.{Rose}
+-- What the calls of a shelf do to what it tells.
+use Rattle.std.specs.Prelude.{◌≡◌, ℕ, ◌<◌, List, [], ◌∷◌, ◌++◌, length, take, drop, Option, Some, Result, OnOk, OnErr, IfOk, IsErrOf}
+use Rattle.spec_base.specs.Files.{File}
 use Rattle.edge_io.specs.declared.outside.Failed.{Failed}
 use Rattle.edge_io.specs.declared.outside.Failed.TheVariants.{Fault, OutOfMemory}
 
@@ -10,7 +10,7 @@ use Rattle.edge_io.specs.declared.outside.Failed.TheVariants.{Fault, OutOfMemory
 pub record Told : Type 0 where
   pub holds : List ℕ → Option (List ℕ)
   pub left : List ℕ
-  pub done : List (List ℕ × List ℕ)
+  pub done : List File
   pub current : List ℕ
   pub last : List ℕ
 
@@ -18,15 +18,7 @@ pub record Told : Type 0 where
 abbrev pub untouched : (List ℕ → Option (List ℕ)) → Told
 untouched holds = record { holds = holds; left = []; done = []; current = []; last = [] }
 
--- A call answers a fault only where its count rose. Every other answer leaves it, and the other count stays.
-pub record HasCause {T : Type 0} (before now other_before other_now : ℕ) (result : Result T Failed) : Type 0 where
-  pub later : before ≤ now
-  pub failed : IsErrOf result Fault → Rose before now
-  pub no_memory : IsErrOf result OutOfMemory → now ≡ before
-  pub ok : OnOk result (now ≡ before)
-  pub other : other_now ≡ other_before
-
--- Opening finds the contents of the name. A fault keeps the name alone, and want of memory nothing.
+-- Opening finds the contents of the name. A fault keeps the name alone, and out of memory nothing changes.
 pub record Opens {T : Type 0} (before after : Told) (name : List ℕ) (result : Result T Failed) : Type 0 where
   pub found : OnOk result (before.holds name ≡ Some after.left)
   pub ok : OnOk result (after ≡ record before { left = after.left; last = name })
@@ -41,7 +33,7 @@ pub record Reads (before after : Told) (into : List ℕ) (result : Result ℕ Fa
   pub no_memory : IsErrOf result OutOfMemory → after ≡ before
   pub rest : after ≡ record before { left = after.left }
 
--- Creating begins an empty file under the name. A fault keeps the name alone, and want of memory nothing.
+-- Creating begins an empty file under the name. A fault keeps the name alone, and out of memory nothing changes.
 pub record Creates {T : Type 0} (before after : Told) (name : List ℕ) (result : Result T Failed) : Type 0 where
   pub ok : OnOk result (after ≡ record before { current = []; last = name })
   pub fault : IsErrOf result Fault → after ≡ record before { current = []; last = name }
@@ -66,5 +58,5 @@ abbrev pub closed : Told → Told
 closed t = record t { done = t.done ++ (t.last, t.current) ∷ []; current = [] }
 
 -- a file of this name was created, written and closed
-abbrev pub kept : Told → List ℕ × List ℕ → Told
+abbrev pub kept : Told → File → Told
 kept t file = record t { done = t.done ++ file ∷ []; current = []; last = file.0 }

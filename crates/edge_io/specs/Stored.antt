@@ -3,33 +3,34 @@ use Rattle.std.specs.Prelude.{ℕ, nat_eq, List, [], ◌∷◌, map, slice_get, 
 use Rattle.std.specs.Option.{option_map_or}
 use Rattle.std.specs.Cmp.Lexicographic.{pointwise}
 use Rattle.std.specs.declared.alloc.Global.{Global}
+use Rattle.spec_base.specs.Files.{File}
 use Rattle.edge_io.specs.declared.outside.InUse.{InUse}
 use Rattle.edge_io.specs.Shelf.{Told}
 
 -- the names of files, with their bytes
-abbrev pub pairs : List (String Global × Vec ℕ Global) → List (List ℕ × List ℕ)
+abbrev pub pairs : List (String Global × Vec ℕ Global) → List File
 pairs files = map (λ file. (string_bytes file.0, file.1.items)) files
 
 -- the contents of the first file of a name
-abbrev pub lookup : List (List ℕ × List ℕ) → List ℕ → Option (List ℕ)
+abbrev pub lookup : List File → List ℕ → Option (List ℕ)
 lookup [] name = None
 lookup (file ∷ files) name = if pointwise nat_eq file.0 name then Some file.1 else lookup files name
 
 -- the contents of the first file of a name, with every other name an empty file
-abbrev pub lookup_or_empty : List (List ℕ × List ℕ) → List ℕ → Option (List ℕ)
+abbrev pub lookup_or_empty : List File → List ℕ → Option (List ℕ)
 lookup_or_empty files name = Some (unwrap_or (lookup files name) [])
 
 -- the contents of the file at a place; without a place it is an empty file
-abbrev pub contents_of : List (List ℕ × List ℕ) → Option ℕ → List ℕ
+abbrev pub contents_of : List File → Option ℕ → List ℕ
 contents_of files None = []
 contents_of files (Some place) = option_map_or (λ file. file.1) (slice_get files place) []
 
 -- A folder in memory: the files that it holds, and what was done with it.
 pub record Stored : Type 0 where
-  pub held : List (List ℕ × List ℕ)
+  pub held : List File
   pub in_use : InUse
   pub left : List ℕ
-  pub done : List (List ℕ × List ℕ)
+  pub done : List File
   pub current : List ℕ
   pub last : List ℕ
 

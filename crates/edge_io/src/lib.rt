@@ -6,20 +6,23 @@
 //! # Why a call may fail
 //!
 //! Nobody can prove that a disk works, but a program that merely says that it doesn't must not pass for a
-//! proved one. So a *shelf*, which holds files, has two counts of its failed calls, and a *sink*, which takes
-//! text, has one. `Failed::Fault` may be answered only where the call's own count rose in the call, and no
-//! other answer changes a count. The reading count is for `open_file`, `read` and the close of an opened
-//! file, the writing count for `create_file`, `write` and the close of a created one; each call leaves the
-//! other count. The counts are known to contracts alone: a caller can't read them, and hands on the answer.
-//! A count is a number of 64 bits and stands still at its end, where it counts as risen. Want of memory is
-//! an answer of its own, which no count explains, and takes no byte.
+//! proved one. So a *shelf*, which holds files, counts its failed calls, those of reading and those of
+//! writing, and a *sink*, which takes text, counts its own. A call that answers `Failed::Fault` raises the
+//! count of its kind by one and leaves the other; every other answer leaves both. `open_file`, `read` and the
+//! close of an opened file are of reading, `create_file`, `write` and the close of a created one of writing.
+//! The counts are known to contracts alone: a caller can't read them. So whoever ends well is known to have
+//! met no fault, also none that it hid or tried again, and whoever tells a fault met one of that kind.
+//! A count is a number of 64 bits and stands still at its end, where it counts as risen.
+//!
+//! Out of memory is an answer of its own, which no count explains, and takes no byte. A kind of sink says by
+//! `needs_memory` whether it may come: where it can't, and the count didn't rise, all was said.
 //!
 //! # What is told
 //!
 //! No contract can say what a disk holds. A shelf says by `tells` whether it tells its bytes; if so, `told`
 //! is the contents that it holds by name, what is left of the opened file, the files that were written and
 //! closed, what was written to the created file, and the name that was last asked for. Each call is one
-//! change of that record, after a refusal too: a fault may take a front of the bytes, want of memory takes
+//! change of that record, after a refusal too: a fault may take a prefix of the bytes, out of memory takes
 //! none. So "the files written are exactly these" is one equation, and the name of a refused file is known.
 //! A sink that tells says which bytes were written.
 //!
@@ -36,9 +39,10 @@
 //!   `say_all` repeat a write until all is taken. The traits' calls take as many bytes as suits them.
 //! - `RealShelf` and `StdoutSink` are the system's files and standard output. They tell nothing, so they are
 //!   proved only to keep their counts and the file in use; what they do is tried by tests. Small writes are
-//!   gathered in a buffer of std's, which goes out when it is full or the file is closed.
-//! - `MemoryShelf` and `MemorySink` are for tests. They tell everything, and fail at the calls whose numbers
-//!   they are given, so a test can try each call of a run in turn.
+//!   gathered in a buffer of std's, which goes out when it is full or the file is closed. A call that a signal
+//!   interrupts is made again. What the system finds out as it closes a file, or later, isn't seen.
+//! - `MemoryShelf` and `MemorySink` are for tests. They tell everything, and by their own clauses they fail
+//!   exactly at the calls whose numbers they are given, so a test can try each call of a run in turn.
 //! - `SteadyShelf` and `SteadySink` never fail: their counts are 0 for good. Over them a run can be proved to
 //!   give its one right answer, if there is memory.
 //! - A `Gate` is told of points at which threads meet, and may hold them, so that a test picks the order.
@@ -48,15 +52,19 @@
 //! a refusal becomes.
 #![tactic(auto)]
 
+mod calls;
+mod counts;
 mod folder;
 mod memory;
+mod memory_sink;
 mod outside;
 mod reading;
 mod real;
 mod steady;
 mod writing;
 
-pub use memory::{MemoryShelf, MemorySink};
+pub use memory::MemoryShelf;
+pub use memory_sink::MemorySink;
 pub use outside::{Failed, Gate, InUse, Point, Shelf, Sink};
 pub use reading::{ReadFault, read_all};
 pub use real::{OpenGate, RealShelf, StdoutSink};

@@ -1,8 +1,8 @@
-ghost use Rattle.std.specs.Prelude.{◌≡◌, ◌≢◌, ℕ, ◌+◌, ◌<◌, ◌≤◌, Bool, List, length, min, IsTrue, OnOk, OnErr, IfOk};
-ghost use Rattle.spec_base.specs.Counts.{Rose};
+ghost use Rattle.std.specs.Prelude.{◌≡◌, ◌≢◌, ℕ, ◌<◌, ◌≤◌, Bool, List, length, IsTrue, OnOk, OnErr, IfOk, IsErrOf};
 ghost use Rattle.edge_io.specs.declared.outside.Failed.TheVariants.{OutOfMemory};
 ghost use Rattle.edge_io.specs.declared.outside.InUse.{InUse};
-ghost use Rattle.edge_io.specs.Shelf.{Told, HasCause, Opens, Reads, Creates, Writes, released, closed};
+ghost use Rattle.edge_io.specs.Counts.{Counts, with_fault, with_read_fault, with_write_fault, HasCause};
+ghost use Rattle.edge_io.specs.Shelf.{Told, Opens, Reads, Creates, Writes, released, closed};
 ghost use Rattle.edge_io.specs.Sink.{Says};
 
 use std::alloc::AllocError;
@@ -39,8 +39,8 @@ pub enum InUse {
 ///
 /// # Errors
 ///
-/// Each call may answer `Fault`, where its own count rose in the call, or `OutOfMemory`. The other
-/// count stays, and every answer but `Fault` leaves both.
+/// Each call may answer `Fault`, which raises the count of its kind and leaves the other, or
+/// `OutOfMemory`, which leaves both as `Ok` does.
 pub trait Shelf {
     /// Whether this kind of shelf tells its bytes.
     ghost tells: { Bool };
@@ -51,20 +51,16 @@ pub trait Shelf {
     /// Which file is in use.
     ghost in_use: { Self → InUse };
 
-    /// How often `open_file`, `read` and the close of an opened file have failed, in 64 bits.
-    ghost reading: { Self → ℕ };
+    /// How often its calls have failed.
+    ghost counts: { Self → Counts };
 
-    /// How often `create_file`, `write` and the close of a created file have failed, in 64 bits.
-    ghost writing: { Self → ℕ };
-
-    /// Opens the file of a name, to be read from its front.
+    /// Opens the file of a name, to be read from its beginning.
     fn open_file(&mut self, name: &str) -> Result<(), Failed>
         requires { in_use self.old ≡ InUse.Nothing }
         ensures opened { OnOk result (in_use self.new ≡ InUse.Opened) }
         ensures refused { OnErr result (in_use self.new ≡ InUse.Nothing) }
         ensures told { IsTrue tells → Opens (told self.old) (told self.new) name.now result }
-        ensures cause { HasCause (reading self.old) (reading self.new)
-            (writing self.old) (writing self.new) result };
+        ensures cause { HasCause with_read_fault (counts self.old) (counts self.new) result };
 
     /// Reads the next bytes of the opened file to the front of `into`, and answers how many. A read
     /// of 0 bytes into a slice that isn't empty is the end of the file.
@@ -73,8 +69,7 @@ pub trait Shelf {
         ensures in_use { in_use self.new ≡ InUse.Opened }
         ensures bound { IfOk result (λ n. n ≤ length into.new) }
         ensures told { IsTrue tells → Reads (told self.old) (told self.new) into.new result }
-        ensures cause { HasCause (reading self.old) (reading self.new)
-            (writing self.old) (writing self.new) result };
+        ensures cause { HasCause with_read_fault (counts self.old) (counts self.new) result };
 
     /// Creates an empty file of a name, to be written.
     fn create_file(&mut self, name: &str) -> Result<(), Failed>
@@ -82,8 +77,7 @@ pub trait Shelf {
         ensures created { OnOk result (in_use self.new ≡ InUse.Created) }
         ensures refused { OnErr result (in_use self.new ≡ InUse.Nothing) }
         ensures told { IsTrue tells → Creates (told self.old) (told self.new) name.now result }
-        ensures cause { HasCause (writing self.old) (writing self.new)
-            (reading self.old) (reading self.new) result };
+        ensures cause { HasCause with_write_fault (counts self.old) (counts self.new) result };
 
     /// Writes bytes from the front of these to the created file, and answers how many: at least one,
     /// where there is one.
@@ -93,8 +87,7 @@ pub trait Shelf {
         ensures bound { IfOk result (λ n. n ≤ length bytes.now) }
         ensures some { IfOk result (λ n. 0 < length bytes.now → 0 < n) }
         ensures told { IsTrue tells → Writes (told self.old) (told self.new) bytes.now result }
-        ensures cause { HasCause (writing self.old) (writing self.new)
-            (reading self.old) (reading self.new) result };
+        ensures cause { HasCause with_write_fault (counts self.old) (counts self.new) result };
 
     /// Closes the file that is in use. It is closed whatever the answer is, and a created one keeps
     /// the bytes that were written.
@@ -106,20 +99,21 @@ pub trait Shelf {
         ensures told_opened { IsTrue tells → in_use self.old ≡ InUse.Opened →
             told self.new ≡ released (told self.old) }
         ensures cause_opened { in_use self.old ≡ InUse.Opened →
-            HasCause (reading self.old) (reading self.new) (writing self.old) (writing self.new) result }
+            HasCause with_read_fault (counts self.old) (counts self.new) result }
 
         // A created file.
         ensures told_created { IsTrue tells → in_use self.old ≡ InUse.Created →
             told self.new ≡ closed (told self.old) }
         ensures cause_created { in_use self.old ≡ InUse.Created →
-            HasCause (writing self.old) (writing self.new) (reading self.old) (reading self.new) result };
+            HasCause with_write_fault (counts self.old) (counts self.new) result };
 }
 
 /// Where text is written.
 ///
 /// # Errors
 ///
-/// `write` may answer `Fault`, where the count rose in the call, or `OutOfMemory`.
+/// `write` may answer `Fault`, which raises the count, or `OutOfMemory`, where this kind of sink needs
+/// memory. Every answer but `Fault` leaves the count.
 pub trait Sink {
     /// Whether this kind of sink tells its bytes.
     ghost tells: { Bool };
@@ -127,17 +121,19 @@ pub trait Sink {
     /// The bytes that were written.
     ghost written: { Self → List ℕ };
 
-    /// How often writing has failed, in 64 bits.
+    /// How often writing has failed.
     ghost faults: { Self → ℕ };
+
+    /// Whether this kind of sink takes memory. One that doesn't is never out of memory.
+    ghost needs_memory: { Bool };
 
     /// Writes bytes from the front of these, and answers how many: at least one, where there is one.
     fn write(&mut self, bytes: &[u8]) -> Result<usize, Failed>
         ensures bound { IfOk result (λ n. n ≤ length bytes.now) }
         ensures some { IfOk result (λ n. 0 < length bytes.now → 0 < n) }
         ensures told { IsTrue tells → Says (written self.old) (written self.new) bytes.now result }
-
-        // A sink has one count. In the place of another stands a count that never changes.
-        ensures cause { HasCause (faults self.old) (faults self.new) 0 0 result };
+        ensures memory { IsErrOf result OutOfMemory → IsTrue needs_memory }
+        ensures cause { HasCause with_fault (faults self.old) (faults self.new) result };
 }
 
 /// A point of a run at which threads can be held, so that a test picks their order.
@@ -158,15 +154,4 @@ pub enum Point {
 /// It promises nothing, and changes nothing of the run.
 pub trait Gate {
     fn pass(&self, point: Point);
-}
-
-/// Counts a failed call, up to the greatest number of 64 bits.
-pub(crate) fn counted_fault(count: &mut u64) -> Failed
-    ensures fault { result ≡ Failed.Fault }
-    ensures counted { count.new ≡ min (count.old + 1) u64.MAX }
-    ensures later { count.old ≤ count.new }
-    ensures rose { Rose count.old count.new }
-{
-    *count = count.saturating_add(1);
-    Failed::Fault
 }

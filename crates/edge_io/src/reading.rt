@@ -55,8 +55,7 @@ fn read_rest<S: Shelf>(
         max < length (S.told shelf.old).left }
     ensures told { IsTrue S.tells →
         S.told shelf.new ≡ record (S.told shelf.old) { left = (S.told shelf.new).left } }
-    ensures cause { ReadCause (S.reading shelf.old) (S.reading shelf.new)
-        (S.writing shelf.old) (S.writing shelf.new) result }
+    ensures cause { ReadCause (S.counts shelf.old) (S.counts shelf.new) result }
 {
     let mut bytes = Vec::new(alloc);
     'pieces: while bytes.len() <= max {
@@ -87,8 +86,7 @@ fn read_opened<S: Shelf>(
     ensures told { IsTrue S.tells →
         S.told shelf.new ≡ record (S.told shelf.old) { left = (S.told shelf.new).left } }
     ensures left { IsTrue S.tells → OnOk result ((S.told shelf.new).left ≡ []) }
-    ensures cause { ReadCause (S.reading shelf.old) (S.reading shelf.new)
-        (S.writing shelf.old) (S.writing shelf.new) result }
+    ensures cause { ReadCause (S.counts shelf.old) (S.counts shelf.new) result }
 {
     match read_rest(alloc, shelf, piece, max) {
         Ok(bytes) => {
@@ -145,8 +143,7 @@ pub fn read_all<S: Shelf>(
     ensures only_read { IsTrue S.tells → OnlyRead (S.told shelf.old) (S.told shelf.new) }
     ensures named { IsTrue S.tells →
         Names (S.told shelf.old).last (S.told shelf.new).last name.now result }
-    ensures cause { ReadCause (S.reading shelf.old) (S.reading shelf.new)
-        (S.writing shelf.old) (S.writing shelf.new) result }
+    ensures cause { ReadCause (S.counts shelf.old) (S.counts shelf.new) result }
 {
     let mut piece = vec![in alloc; 0; PIECE]?;
     shelf.open_file(name)?;

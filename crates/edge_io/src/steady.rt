@@ -1,5 +1,6 @@
 ghost use Rattle.std.specs.Prelude.{◌≡◌, ℕ, [], true, Some};
 ghost use Rattle.edge_io.specs.declared.outside.InUse.TheVariants.{Nothing};
+ghost use Rattle.edge_io.specs.Counts.{no_faults};
 ghost use Rattle.edge_io.specs.Shelf.{untouched};
 ghost use Rattle.edge_io.specs.Stored.{pairs, lookup_or_empty, told_of};
 
@@ -9,7 +10,7 @@ use std::alloc::Global;
 
 /// Files in memory, of which every name that it wasn't given is an empty one. It tells its bytes.
 ///
-/// Its counts are 0 for good, so it refuses for want of memory alone.
+/// Its counts are 0 for good, so it refuses only when out of memory.
 #[derive(Drop)]
 pub struct SteadyShelf {
     folder: Folder,
@@ -42,9 +43,7 @@ impl Shelf for SteadyShelf {
 
     ghost in_use = { λ s. s.folder.in_use };
 
-    ghost reading = { λ _. 0 };
-
-    ghost writing = { λ _. 0 };
+    ghost counts = { λ _. no_faults };
 
     fn open_file(&mut self, name: &str) -> Result<(), Failed> {
         let place = self.folder.place_of(name);
@@ -72,7 +71,7 @@ impl Shelf for SteadyShelf {
     }
 }
 
-/// Text in memory. It tells its bytes, and refuses for want of memory alone.
+/// Text in memory. It tells its bytes, and refuses only when out of memory.
 #[derive(Drop)]
 pub struct SteadySink {
     text: Vec<u8>,
@@ -102,6 +101,8 @@ impl Sink for SteadySink {
     ghost written = { λ s. s.text.items };
 
     ghost faults = { λ _. 0 };
+
+    ghost needs_memory = { true };
 
     fn write(&mut self, bytes: &[u8]) -> Result<usize, Failed> {
         self.text.extend_from_slice(bytes)?;

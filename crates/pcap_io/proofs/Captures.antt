@@ -1,9 +1,9 @@
 -- What is known of the capture of a file.
 use Rattle.std.proofs.Common.{◌≡◌, ℕ, zero, suc, ◌≤◌, Bool, true, false, List, [], ◌∷◌, length, Option, Some, None, refl, sym, ap, ◌∙◌, arith}
-use Rattle.std.specs.Prelude.{◌==◌, Result, Ok, Err, IsOk}
+use Rattle.std.specs.Prelude.{◌==◌, Ok, Err, IsOk}
 use Rattle.spec_pcap.specs.declared.format.Format.{Format}
 use Rattle.spec_pcap.specs.declared.fault.PcapFault.{PcapFault}
-use Rattle.spec_pcap.specs.Pcap.{Frame, Capture, preceded, captured, frames_from, frame_at, record_fault, behind, header_length, format_of, capture_of}
+use Rattle.spec_pcap.specs.Pcap.{Frame, preceded, captured, frames_from, record_frame, record_fault, record_end, header_length, format_of, capture_of}
 use Rattle.pcap_io.specs.Records.{count_of}
 use Rattle.pcap_io.proofs.Walk.{Walked, frames_from-end, frames_from-full, frames_from-faulty, frames_from-record}
 
@@ -26,19 +26,19 @@ module _ (format : Format) (bytes : List ℕ) where
       let nil : frames ≡ [] = cc (frames_from-end format bytes room at end) in
       rw nil (frames_from-end format bytes 0 at end, omega arith)
 
-  at_record : (room at : ℕ) → (at == length bytes) ≡ false → record_fault format bytes at ≡ None → AllFit room (behind format bytes at)
+  at_record : (room at : ℕ) → (at == length bytes) ≡ false → record_fault format bytes at ≡ None → AllFit room (record_end format bytes at)
       → AllFit (suc room) at
   at_record room at more whole fits frames read =
-      by_rest (walk room (behind format bytes at)) refl (sym read ∙ frames_from-record format bytes room at more whole)
+      by_rest (walk room (record_end format bytes at)) refl (sym read ∙ frames_from-record format bytes room at more whole)
     where
-      by_rest : (rest : Walked) → walk room (behind format bytes at) ≡ rest → Ok frames ≡ preceded (frame_at format bytes at) None rest
+      by_rest : (rest : Walked) → walk room (record_end format bytes at) ≡ rest → Ok frames ≡ preceded (record_frame format bytes at) None rest
           → Fits (suc room) at frames
       by_rest (Err fault) is e = absurd (cc)
       by_rest (Ok others) is e =
-          let all : frames ≡ frame_at format bytes at ∷ others = cc in
+          let all : frames ≡ record_frame format bytes at ∷ others = cc in
           let others_fit = fits others is in
           let again = frames_from-record format bytes (length others) at more whole in
-          rw all (again ∙ ap (preceded (frame_at format bytes at) None) others_fit.0, omega (arith, others_fit.1))
+          rw all (again ∙ ap (preceded (record_frame format bytes at) None) others_fit.0, omega (arith, others_fit.1))
 
   pub frames_from-fits : (room at : ℕ) → AllFit room at
   frames_from-fits zero at = by_end (at == length bytes) refl
@@ -46,10 +46,10 @@ module _ (format : Format) (bytes : List ℕ) where
       by_end : (test : Bool) → (at == length bytes) ≡ test → AllFit zero at
       by_end true end = at_end zero at end
       by_end false more = λ frames read. absurd (cc (frames_from-full format bytes at more))
-  frames_from-fits (suc room) at = by_tests (at == length bytes) (record_fault format bytes at) refl refl (frames_from-fits room (behind format bytes at))
+  frames_from-fits (suc room) at = by_tests (at == length bytes) (record_fault format bytes at) refl refl (frames_from-fits room (record_end format bytes at))
     where
       by_tests : (test : Bool) (found : Option PcapFault) → (at == length bytes) ≡ test → record_fault format bytes at ≡ found
-          → AllFit room (behind format bytes at) → AllFit (suc room) at
+          → AllFit room (record_end format bytes at) → AllFit (suc room) at
       by_tests true found end is fits = at_end (suc room) at end
       by_tests false (Some fault) more is fits = λ frames read. absurd (cc (frames_from-faulty format bytes room at fault more is))
       by_tests false None more is fits = at_record room at more is fits
@@ -69,7 +69,7 @@ module _ (format : Format) (bytes : List ℕ) where
           let fits = frames_from-fits room at frames is in
           record { same = rw number (fits.0 ∙ sym is); some = rw (number, fits.0) refl }
 
--- ---- the capture, by its header and the frames behind it
+-- ---- the capture, by its header and the frames after it
 
 module _ (room : ℕ) (bytes : List ℕ) where
   pub capture_of-no_format : (fault : PcapFault) → format_of bytes ≡ Err fault → capture_of room bytes ≡ Err fault

@@ -1,5 +1,5 @@
 -- A walk along the records of a file, from its front to its end.
-use Rattle.std.proofs.Common.{◌≡◌, ℕ, zero, suc, ◌-◌, ◌+◌, ◌≤◌, ◌<◌, Bool, true, false, List, [], ◌∷◌, ◌++◌, length, Option, Some, None, refl, sym, ap, ◌∙◌, append_assoc, inl, inr, arith}
+use Rattle.std.proofs.Common.{◌≡◌, ℕ, zero, suc, ◌-◌, ◌+◌, ◌≤◌, ◌<◌, true, false, List, [], ◌∷◌, ◌++◌, length, Option, Some, None, refl, sym, ap, ◌∙◌, append_assoc, inl, inr, arith}
 use Rattle.std.specs.Prelude.{◌==◌, Result, Ok, Err, IsOk}
 use Rattle.std.proofs.lemmas.Bool.Decides.{nat_tests}
 use Rattle.std.proofs.lemmas.Bool.{ne_eqb, eq-eqb, cases_lt, false≢true}
@@ -7,7 +7,7 @@ use Rattle.std.proofs.lemmas.List.{append-nil, map_push}
 use Rattle.spec_pcap.specs.declared.format.Format.{Format}
 use Rattle.spec_pcap.specs.declared.fault.PcapFault.{PcapFault}
 use Rattle.spec_pcap.specs.declared.fault.PcapFault.TheVariants.{TooManyFrames}
-use Rattle.spec_pcap.specs.Pcap.{Frame, preceded, frames_from, frame_at, record_fault, behind, record_header_length}
+use Rattle.spec_pcap.specs.Pcap.{Frame, preceded, frames_from, record_frame, record_fault, record_end, record_header_length}
 use Rattle.pcap_io.specs.Records.{frames_at, count_of}
 
 -- the frames of a walk, or the fault that ended it
@@ -31,19 +31,19 @@ counted-preceded k frame (Ok frames) = ap (λ (n : ℕ). let is : Result ℕ Pca
 counted-preceded k frame (Err fault) = refl
 
 -- the frames passed, and those still to come
-abbrev pub behind_front : List Frame → Walked → Walked
-behind_front front (Ok frames) = Ok (front ++ frames)
-behind_front front (Err fault) = Err fault
+abbrev pub after_prefix : List Frame → Walked → Walked
+after_prefix prefix (Ok frames) = Ok (prefix ++ frames)
+after_prefix prefix (Err fault) = Err fault
 
-pub behind_front-nil : (walked : Walked) → behind_front [] walked ≡ walked
-behind_front-nil (Ok frames) = refl
-behind_front-nil (Err fault) = refl
+pub after_prefix-nil : (walked : Walked) → after_prefix [] walked ≡ walked
+after_prefix-nil (Ok frames) = refl
+after_prefix-nil (Err fault) = refl
 
-behind_front-preceded : (front : List Frame) (frame : Frame) (walked : Walked)
-    → behind_front front (preceded frame None walked) ≡ behind_front (front ++ frame ∷ []) walked
-behind_front-preceded front frame (Ok frames) =
-    ap (λ (all : List Frame). let is : Walked = Ok all in is) (sym (append_assoc front (frame ∷ []) frames))
-behind_front-preceded front frame (Err fault) = refl
+after_prefix-preceded : (prefix : List Frame) (frame : Frame) (walked : Walked)
+    → after_prefix prefix (preceded frame None walked) ≡ after_prefix (prefix ++ frame ∷ []) walked
+after_prefix-preceded prefix frame (Ok frames) =
+    ap (λ (all : List Frame). let is : Walked = Ok all in is) (sym (append_assoc prefix (frame ∷ []) frames))
+after_prefix-preceded prefix frame (Err fault) = refl
 
 module _ (format : Format) (bytes : List ℕ) where
   abbrev walk : ℕ → ℕ → Walked
@@ -70,7 +70,7 @@ module _ (format : Format) (bytes : List ℕ) where
 
   -- a whole one gives a frame
   pub frames_from-record : (room at : ℕ) → (at == length bytes) ≡ false → record_fault format bytes at ≡ None
-      → walk (suc room) at ≡ preceded (frame_at format bytes at) None (walk room (behind format bytes at))
+      → walk (suc room) at ≡ preceded (record_frame format bytes at) None (walk room (record_end format bytes at))
   unfolding frames_from
   frames_from-record room at more whole = rw (more, whole) refl
 
@@ -78,9 +78,9 @@ module _ (format : Format) (bytes : List ℕ) where
   unfolding record_fault
   header-within at whole = grind (arith, nat_tests)
 
-  pub behind-within : (at : ℕ) → record_fault format bytes at ≡ None → behind format bytes at ≤ length bytes
+  pub after-within : (at : ℕ) → record_fault format bytes at ≡ None → record_end format bytes at ≤ length bytes
   unfolding record_fault
-  behind-within at whole = grind (arith, nat_tests)
+  after-within at whole = grind (arith, nat_tests)
 
   -- ---- steps of a loop, which has passed k records and has room for so many in all
 
@@ -99,7 +99,7 @@ module _ (format : Format) (bytes : List ℕ) where
       rw left (frames_from-faulty (room - (k + 1)) at fault (not_at_end at within) is)
 
   one_more : (room k at : ℕ) → k < room → at < length bytes → record_fault format bytes at ≡ None
-      → walk (room - k) at ≡ preceded (frame_at format bytes at) None (walk (room - (k + 1)) (behind format bytes at))
+      → walk (room - k) at ≡ preceded (record_frame format bytes at) None (walk (room - (k + 1)) (record_end format bytes at))
   one_more room k at free within whole =
       let left : room - k ≡ suc (room - (k + 1)) = omega arith in
       rw left (frames_from-record (room - (k + 1)) at (not_at_end at within) whole)
@@ -107,9 +107,9 @@ module _ (format : Format) (bytes : List ℕ) where
   -- ---- a loop that counts
 
   pub counted-record : (room k at : ℕ) → k < room → at < length bytes → record_fault format bytes at ≡ None
-      → counted k (walk (room - k) at) ≡ counted (k + 1) (walk (room - (k + 1)) (behind format bytes at))
+      → counted k (walk (room - k) at) ≡ counted (k + 1) (walk (room - (k + 1)) (record_end format bytes at))
   counted-record room k at free within whole =
-      ap (counted k) (one_more room k at free within whole) ∙ counted-preceded k (frame_at format bytes at) _
+      ap (counted k) (one_more room k at free within whole) ∙ counted-preceded k (record_frame format bytes at) _
 
   pub counted-end : (room k at : ℕ) → at ≡ length bytes → counted k (walk room at) ≡ Ok k
   counted-end room k at end = ap (counted k) (frames_from-end room at (eq-eqb at (length bytes) end)) ∙ counted-nil k
@@ -134,9 +134,9 @@ module _ (format : Format) (bytes : List ℕ) where
       by_fault None _ = refl
       by_fault (Some fault) never = absurd (never fault refl)
 
-  -- and behind it whole records stand again
+  -- and after it whole records stand again
   pub rest_is_whole : (room k at : ℕ) → at < length bytes → IsOk (walk (room - k) at)
-      → IsOk (walk (room - (k + 1)) (behind format bytes at))
+      → IsOk (walk (room - (k + 1)) (record_end format bytes at))
   rest_is_whole room k at within whole =
       let free = has_room room k at within whole in
       let there = has_record room k at within whole in
@@ -146,17 +146,17 @@ module _ (format : Format) (bytes : List ℕ) where
       unmapped frame (Err fault) ok = ok
       unmapped frame (Ok frames) ok = refl
 
-  pub behind_front-record : (starts : List ℕ) (room k at : ℕ) → at < length bytes → IsOk (walk (room - k) at)
-      → behind_front (frames_at format bytes starts) (walk (room - k) at)
-      ≡ behind_front (frames_at format bytes (starts ++ at ∷ [])) (walk (room - (k + 1)) (behind format bytes at))
-  behind_front-record starts room k at within whole =
-      let front = frames_at format bytes starts in
+  pub after_prefix-record : (starts : List ℕ) (room k at : ℕ) → at < length bytes → IsOk (walk (room - k) at)
+      → after_prefix (frames_at format bytes starts) (walk (room - k) at)
+      ≡ after_prefix (frames_at format bytes (starts ++ at ∷ [])) (walk (room - (k + 1)) (record_end format bytes at))
+  after_prefix-record starts room k at within whole =
+      let prefix = frames_at format bytes starts in
       let free = has_room room k at within whole in
       let there = has_record room k at within whole in
-      rw (map_push (frame_at format bytes) starts at)
-      (ap (behind_front front) (one_more room k at free within there) ∙ behind_front-preceded front (frame_at format bytes at) _)
+      rw (map_push (record_frame format bytes) starts at)
+      (ap (after_prefix prefix) (one_more room k at free within there) ∙ after_prefix-preceded prefix (record_frame format bytes at) _)
 
-  pub behind_front-end : (front : List Frame) (room at : ℕ) → at ≡ length bytes → behind_front front (walk room at) ≡ Ok front
-  behind_front-end front room at end =
-      ap (behind_front front) (frames_from-end room at (eq-eqb at (length bytes) end))
-      ∙ ap (λ (all : List Frame). let is : Walked = Ok all in is) (append-nil front)
+  pub after_prefix-end : (prefix : List Frame) (room at : ℕ) → at ≡ length bytes → after_prefix prefix (walk room at) ≡ Ok prefix
+  after_prefix-end prefix room at end =
+      ap (after_prefix prefix) (frames_from-end room at (eq-eqb at (length bytes) end))
+      ∙ ap (λ (all : List Frame). let is : Walked = Ok all in is) (append-nil prefix)

@@ -2,11 +2,11 @@
 use Rattle.std.specs.Prelude.{◌≡◌, ℕ, List, length, map, All, None, Result, Ok, Err}
 use Rattle.spec_pcap.specs.declared.fault.PcapFault.{PcapFault}
 use Rattle.spec_pcap.specs.declared.format.Format.{Format}
-use Rattle.spec_pcap.specs.Pcap.{Frame, Capture, frame_at, record_fault}
+use Rattle.spec_pcap.specs.Pcap.{Frame, Capture, record_frame, record_fault}
 
 -- the frames of the records at these offsets
 abbrev pub frames_at : Format → List ℕ → List ℕ → List Frame
-frames_at format bytes starts = map (frame_at format bytes) starts
+frames_at format bytes starts = map (record_frame format bytes) starts
 
 -- how many frames there are, if none is faulty
 abbrev pub count_of : Result (List Frame) PcapFault → Result ℕ PcapFault

@@ -12,7 +12,7 @@
 //! - A file is read exactly where `spec_pcap` finds no fault in it, and then the trace is what it holds. A file with a
 //!   fault, one of more frames than there is room for among them, is refused by the first one, with memory or without.
 //! - After each call of a writer that is `Ok`, the file has exactly the header and the records so far, and no bytes
-//!   wait in a buffer. After a refusal a front of the header or of the record was written, and nothing else.
+//!   wait in a buffer. After a refusal a prefix of the header or of the record was written, and nothing else.
 //! - What was written is read back (`written_is_read`).
 //!
 //! # How

@@ -7,7 +7,7 @@ use crate::format::{HEADER_LENGTH, RECORD_HEADER_LENGTH, captured_at, record_fau
 use spec_pcap::{Format, PcapFault};
 use std::alloc::{AllocError, Global};
 
-/// How many records stand behind the header, if they are whole and at most `room`.
+/// How many records stand after the header, if they are whole and at most `room`.
 pub fn count_records(bytes: &[u8], format: Format, room: usize) -> Result<usize, PcapFault>
     requires { header_length ≤ length bytes.now }
     ensures { result ≡ count_of (frames_from format room bytes.now header_length) }
@@ -27,7 +27,7 @@ pub fn count_records(bytes: &[u8], format: Format, room: usize) -> Result<usize,
     Ok(count)
 }
 
-/// Where the records behind the header begin, which are whole and at most `count`.
+/// Where the records after the header begin, which are whole and at most `count`.
 pub fn starts_of(
     alloc: Global,
     bytes: &[u8],

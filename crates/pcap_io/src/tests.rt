@@ -1,5 +1,5 @@
 use super::*;
-use edge_io::{Failed, MemoryShelf};
+use edge_io::MemoryShelf;
 use std::alloc::{AllocError, Global};
 use std::test::Fail;
 
@@ -75,7 +75,11 @@ fn empty_trace_has_no_frames(rt: HostRuntime) -> Result<(), Fail> {
 }
 
 // What is answered to the file in which these bytes stand at an offset.
-fn fault_with(alloc: Global, offset: usize, piece: &[u8]) -> Result<Option<PcapFault>, AllocError> {
+fn fault_with(
+    alloc: Global,
+    offset: usize,
+    piece: [u8; 4],
+) -> Result<Option<PcapFault>, AllocError> {
     let good = file(alloc)?;
     let mut bytes = Vec::new(alloc);
     for (at, byte) in good.iter().enumerate() {
@@ -86,91 +90,52 @@ fn fault_with(alloc: Global, offset: usize, piece: &[u8]) -> Result<Option<PcapF
 }
 
 // What is answered to the file's first bytes.
-fn fault_of_front(alloc: Global, len: usize) -> Result<Option<PcapFault>, AllocError> {
+fn fault_of_prefix(alloc: Global, len: usize) -> Result<Option<PcapFault>, AllocError> {
     let mut bytes = file(alloc)?;
     bytes.truncate(len);
     Ok(read_trace(alloc, bytes, 1).err())
 }
 
 #[test]
-fn fewer_than_24_bytes_are_a_short_header(rt: HostRuntime) -> Result<(), Fail> {
-    let fault = fault_of_front(rt.alloc(), 23)?;
-    assert_eq!(rt; fault, Some(PcapFault::ShortHeader));
-    Ok(())
-}
-
-#[test]
-fn other_beginnings_are_no_magic(rt: HostRuntime) -> Result<(), Fail> {
+fn each_fault_of_a_file_is_told(rt: HostRuntime) -> Result<(), Fail> {
     let alloc = rt.alloc();
-    // A section header block of pcapng, the format of Kuznetzov's patched libpcap, and one bit that is wrong.
-    for magic in [
-        [0x0a, 0x0d, 0x0d, 0x0a],
-        [0x34, 0xcd, 0xb2, 0xa1],
-        [0xd4, 0xc3, 0xb2, 0xa0],
+    let version = |major, minor| Some(PcapFault::Version { major, minor });
+    let fraction = Some(PcapFault::Fraction { at: 24 });
+    let long = Some(PcapFault::TooLong { at: 24, n: 262_145 });
+    for (offset, bytes, fault) in [
+        // A section header block of pcapng, the format of Kuznetzov's patched libpcap, and one bit that is wrong.
+        (0, [0x0a, 0x0d, 0x0d, 0x0a], Some(PcapFault::Magic)),
+        (0, [0x34, 0xcd, 0xb2, 0xa1], Some(PcapFault::Magic)),
+        (0, [0xd4, 0xc3, 0xb2, 0xa0], Some(PcapFault::Magic)),
+        (4, [3, 0, 4, 0], version(3, 4)),
+        (4, [2, 0, 4, 1], version(2, 0x0104)),
+        // LINKTYPE_RAW; and a frame check sequence of four bytes, which is no part of the type.
+        (20, [101, 0, 0, 0], Some(PcapFault::LinkType(101))),
+        (20, [1, 0, 0, 0x24], None),
+        // Records of a second, of a microsecond less, and of a byte more than there may be.
+        (28, [0x40, 0x42, 0x0f, 0], fraction),
+        (28, [0x3f, 0x42, 0x0f, 0], None),
+        (32, [1, 0, 4, 0], long),
     ] {
-        assert_eq!(rt; fault_with(alloc, 0, &magic)?, Some(PcapFault::Magic));
+        assert_eq!(rt; fault_with(alloc, offset, bytes)?, fault);
     }
     Ok(())
 }
 
 #[test]
-fn other_versions_are_refused(rt: HostRuntime) -> Result<(), Fail> {
+fn cut_file_and_one_without_room_are_refused(rt: HostRuntime) -> Result<(), Fail> {
     let alloc = rt.alloc();
-    let fault = PcapFault::Version { major: 3, minor: 4 };
-    assert_eq!(rt; fault_with(alloc, 4, &[3])?, Some(fault));
-    let fault = PcapFault::Version {
-        major: 2,
-        minor: 0x0104,
-    };
-    assert_eq!(rt; fault_with(alloc, 7, &[1])?, Some(fault));
-    Ok(())
-}
-
-#[test]
-fn other_link_types_are_refused(rt: HostRuntime) -> Result<(), Fail> {
-    let alloc = rt.alloc();
-    // LINKTYPE_RAW; and a frame check sequence of four bytes, which is no part of the type.
-    assert_eq!(rt;
-        fault_with(alloc, 20, &[101])?,
-        Some(PcapFault::LinkType(101))
-    );
-    assert_eq!(rt; fault_with(alloc, 23, &[0x24])?, None);
-    Ok(())
-}
-
-#[test]
-fn cut_records_are_short(rt: HostRuntime) -> Result<(), Fail> {
-    let alloc = rt.alloc();
-    let fault = Some(PcapFault::ShortRecord { at: 24 });
-    for len in [25, 39, 40, 99] {
-        assert_eq!(rt; fault_of_front(alloc, len)?, fault);
+    let short = Some(PcapFault::ShortRecord { at: 24 });
+    for (len, fault) in [
+        (23, Some(PcapFault::ShortHeader)),
+        (24, None),
+        (25, short),
+        (39, short),
+        (40, short),
+        (99, short),
+    ] {
+        assert_eq!(rt; fault_of_prefix(alloc, len)?, fault);
     }
-    assert_eq!(rt; fault_of_front(alloc, 24)?, None);
-    Ok(())
-}
-
-#[test]
-fn long_records_are_refused_before_their_bytes(rt: HostRuntime) -> Result<(), Fail> {
-    let alloc = rt.alloc();
-    let n = 262_145;
-    let fault = PcapFault::TooLong { at: 24, n };
-    assert_eq!(rt; fault_with(alloc, 32, &n.to_le_bytes())?, Some(fault));
-    Ok(())
-}
-
-#[test]
-fn fractions_of_a_second_or_more_are_refused(rt: HostRuntime) -> Result<(), Fail> {
-    let alloc = rt.alloc();
-    let micros: u32 = 1_000_000;
-    let fault = Some(PcapFault::Fraction { at: 24 });
-    assert_eq!(rt; fault_with(alloc, 28, &micros.to_le_bytes())?, fault);
-    assert_eq!(rt; fault_with(alloc, 28, &(micros - 1).to_le_bytes())?, None);
-    Ok(())
-}
-
-#[test]
-fn frame_without_room_is_refused(rt: HostRuntime) -> Result<(), Fail> {
-    let alloc = rt.alloc();
     let refused = read_trace(alloc, file(alloc)?, 0).err();
     assert_eq!(rt; refused, Some(PcapFault::TooManyFrames));
     Ok(())
@@ -190,19 +155,5 @@ fn big_endian_nanoseconds_are_read(rt: HostRuntime) -> Result<(), Fail> {
     assert!(rt; trace.nanos());
     assert_eq!(rt; trace.time(1), 1_000_000_005);
     assert_eq!(rt; trace.frame(1), frame().as_slice());
-    Ok(())
-}
-
-#[test]
-fn refused_record_leaves_the_header(rt: HostRuntime) -> Result<(), Fail> {
-    let alloc = rt.alloc();
-    // The calls create the file and write the header, and then the record's header.
-    let mut shelf = MemoryShelf::new(alloc, Vec::new(alloc), vec![in alloc; 3]?);
-    let mut writer = PcapWriter::start(&mut shelf, "out", false)?;
-    assert_eq!(rt; writer.frame(&mut shelf, 0, &[7]), Err(Failed::Fault));
-    writer.end(&mut shelf)?;
-    let made = shelf.made();
-    assert_eq!(rt; made.len(), 1);
-    assert_eq!(rt; made[0].1.as_slice(), HEADER.as_slice());
     Ok(())
 }

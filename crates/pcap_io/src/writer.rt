@@ -2,7 +2,8 @@ ghost use Rattle.std.specs.Prelude.{◌≡◌, ℕ, [], ◌++◌, ◌/◌, ◌<�
 ghost use Rattle.spec_pcap.specs.Pcap.{second, header, record_header, record_of};
 ghost use Rattle.pcap_io.specs.Writing.{IsNotStarted};
 ghost use Rattle.edge_io.specs.declared.outside.InUse.TheVariants.{Nothing, Created};
-ghost use Rattle.edge_io.specs.Shelf.{HasCause, wrote, closed};
+ghost use Rattle.edge_io.specs.Counts.{HasCause, with_write_fault};
+ghost use Rattle.edge_io.specs.Shelf.{wrote, closed};
 
 use crate::format::{
     ETHERNET, HEADER_LENGTH, MAJOR_VERSION, MINOR_VERSION, RECORD_HEADER_LENGTH, SECOND,
@@ -68,8 +69,7 @@ impl PcapWriter {
             (S.told shelf.new ≡ record (S.told shelf.old) { current = header nanos; last = name.now }) }
         ensures err { IsTrue S.tells → OnErr result
             (IsNotStarted (S.in_use shelf.new) (S.told shelf.old) (S.told shelf.new) name.now (header nanos) result) }
-        ensures cause { HasCause (S.writing shelf.old) (S.writing shelf.new)
-            (S.reading shelf.old) (S.reading shelf.new) result }
+        ensures cause { HasCause with_write_fault (S.counts shelf.old) (S.counts shelf.new) result }
     {
         shelf.create_file(name)?;
         write_all(shelf, &header(nanos))?;
@@ -79,7 +79,7 @@ impl PcapWriter {
     /// Writes the record of a frame. Its time is in nanoseconds since the beginning of 1970 (UTC), and is cut to the
     /// unit of the file.
     ///
-    /// After a refusal a front of the record was written.
+    /// After a refusal a prefix of the record was written.
     pub fn frame<S: Shelf>(&mut self, shelf: &mut S, time: u64, bytes: &[u8]) -> Result<(), Failed>
         requires in_use { S.in_use shelf.old ≡ Created }
         requires seconds { time / second < 2 ^ 32 }
@@ -91,8 +91,7 @@ impl PcapWriter {
         ensures err { let bytes_of_record = record_of self.old (record { time = time; bytes = bytes.now }) in
             IsTrue S.tells → OnErr result
             ((n : ℕ) × (S.told shelf.new ≡ wrote (S.told shelf.old) (take n bytes_of_record))) }
-        ensures cause { HasCause (S.writing shelf.old) (S.writing shelf.new)
-            (S.reading shelf.old) (S.reading shelf.new) result }
+        ensures cause { HasCause with_write_fault (S.counts shelf.old) (S.counts shelf.new) result }
     {
         write_all(shelf, &record_header(self.nanos, time, bytes.len() as u32))?;
         write_all(shelf, bytes)
@@ -103,8 +102,7 @@ impl PcapWriter {
         requires { S.in_use shelf.old ≡ Created }
         ensures in_use { S.in_use shelf.new ≡ Nothing }
         ensures told { IsTrue S.tells → S.told shelf.new ≡ closed (S.told shelf.old) }
-        ensures cause { HasCause (S.writing shelf.old) (S.writing shelf.new)
-            (S.reading shelf.old) (S.reading shelf.new) result }
+        ensures cause { HasCause with_write_fault (S.counts shelf.old) (S.counts shelf.new) result }
     {
         shelf.close_file()
     }

@@ -26,7 +26,7 @@ returns-in_err-open_file-clause-named g c = λ t.
 
 pub returns-in_err-open_file-clause-cause : goal.returns-in_err-open_file-clause-cause
 returns-in_err-open_file-clause-cause g c =
-    refusals.cause _ _ _ _ _ c.in_err-open_file.field-0.0 c.from_residual-in_err-open_file.ensures.1
+    refusals.cause _ _ _ c.in_err-open_file.field-0.0 c.from_residual-in_err-open_file.ensures.1
     c.in_err-open_file.ensures.cause
 
 pub returns-clause-bytes : goal.returns-clause-bytes

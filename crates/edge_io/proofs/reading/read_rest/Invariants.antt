@@ -11,8 +11,7 @@ invariant-pieces g l = record {
       l.bytes.items ++ (g.S.Shelf.told l.shelf).left ≡ (g.S.Shelf.told l.initial.shelf).left;
   told : IsTrue g.S.Shelf.tells →
       g.S.Shelf.told l.shelf ≡ record (g.S.Shelf.told l.initial.shelf) { left = (g.S.Shelf.told l.shelf).left };
-  reading : g.S.Shelf.reading l.shelf ≡ g.S.Shelf.reading l.initial.shelf;
-  writing : g.S.Shelf.writing l.shelf ≡ g.S.Shelf.writing l.initial.shelf;
+  counts : g.S.Shelf.counts l.shelf ≡ g.S.Shelf.counts l.initial.shelf;
 }
 
 abbrev pub decreases-pieces : goal.decreases-pieces

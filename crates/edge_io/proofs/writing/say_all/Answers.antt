@@ -1,6 +1,6 @@
 use Rattle.std.proofs.Common.{◌+◌, ◌∙◌, arith}
 use Rattle.std.proofs.lemmas.Result.{err_from_is_err_and}
-use Rattle.edge_io.proofs.Fronts.{said_twice}
+use Rattle.edge_io.proofs.Prefixes.{said_twice}
 use Rattle.edge_io.proofs.writing.say_all.Goals as goal
 
 pub returns-in_err-at-clause-err : goal.returns-in_err-at-clause-err

@@ -1,6 +1,6 @@
 use Rattle.std.proofs.Common.{◌+◌, ◌∙◌, arith}
 use Rattle.std.proofs.lemmas.Result.{err_from_is_err_and}
-use Rattle.edge_io.proofs.Fronts.{wrote_twice}
+use Rattle.edge_io.proofs.Prefixes.{wrote_twice}
 use Rattle.edge_io.proofs.writing.write_all.Goals as goal
 
 pub returns-in_err-at-clause-err : goal.returns-in_err-at-clause-err
@@ -18,6 +18,5 @@ loop-at-preserved g c = record {
   in_use = c.in_ok-at.ensures.in_use;
   told = λ t. wrote_twice _ _ _ c.args.bytes.now c.loop-at.at c.in_ok-at.field-0
       (c.loop-at.invariant.told t) (c.in_ok-at.ensures.told t).ok;
-  writing = c.in_ok-at.ensures.cause.ok ∙ c.loop-at.invariant.writing;
-  reading = c.in_ok-at.ensures.cause.other ∙ c.loop-at.invariant.reading;
+  counts = c.in_ok-at.ensures.cause.ok ∙ c.loop-at.invariant.counts;
 }

@@ -10,8 +10,7 @@ invariant-loop-at g l = record {
   in_use : g.S.Shelf.in_use l.shelf ≡ Created;
   told : IsTrue g.S.Shelf.tells →
       g.S.Shelf.told l.shelf ≡ wrote (g.S.Shelf.told l.initial.shelf) (take l.at l.bytes);
-  writing : g.S.Shelf.writing l.shelf ≡ g.S.Shelf.writing l.initial.shelf;
-  reading : g.S.Shelf.reading l.shelf ≡ g.S.Shelf.reading l.initial.shelf;
+  counts : g.S.Shelf.counts l.shelf ≡ g.S.Shelf.counts l.initial.shelf;
 }
 
 abbrev pub decreases-loop-at : goal.decreases-loop-at

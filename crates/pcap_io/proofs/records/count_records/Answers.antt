@@ -1,7 +1,7 @@
 use Rattle.std.proofs.Common.{◌≡◌, ◌+◌, ap, sym, ◌∙◌, arith}
 use Rattle.std.specs.Prelude.{None}
-use Rattle.spec_pcap.specs.Pcap.{record_fault, behind}
-use Rattle.pcap_io.proofs.Walk.{counted, counted-end, counted-record, no_room, no_record, header-within, behind-within}
+use Rattle.spec_pcap.specs.Pcap.{record_fault, record_end}
+use Rattle.pcap_io.proofs.Walk.{counted, counted-end, counted-record, no_room, no_record, header-within, after-within}
 use Rattle.pcap_io.proofs.records.count_records.Goals as goal
 
 pub returns-then-count-room : goal.returns-then-count-room
@@ -29,10 +29,10 @@ records-preserved c =
     let k = c.records.count in
     let at = c.records.at in
     let whole : record_fault format bytes at ≡ None = sym c.record_fault.ensures ∙ c.in_default.is in
-    let next : at + (16 + c.captured_at.result) ≡ behind format bytes at = omega (arith, c.captured_at.ensures) in
+    let next : at + (16 + c.captured_at.result) ≡ record_end format bytes at = omega (arith, c.captured_at.ensures) in
     let passed = counted-record format bytes c.args.room k at c.if-count-room.false c.records-test.true whole in
     record {
-      within = rw next (behind-within format bytes at whole);
+      within = rw next (after-within format bytes at whole);
       room = omega arith;
       so_far = rw next (sym passed ∙ c.records.invariant.so_far);
     }

@@ -2,7 +2,7 @@ use Rattle.std.proofs.Common.{◌≡◌, ◌-◌, ◌≤◌, length, vec_len, ve
 use Rattle.std.specs.Prelude.{IsOk}
 use Rattle.spec_pcap.specs.Pcap.{header_length, frames_from}
 use Rattle.pcap_io.specs.Records.{frames_at, AreRecords}
-use Rattle.pcap_io.proofs.Walk.{behind_front}
+use Rattle.pcap_io.proofs.Walk.{after_prefix}
 use Rattle.pcap_io.proofs.records.starts_of.Given as goal
 
 abbrev pub invariant-records : goal.invariant-records
@@ -13,7 +13,7 @@ invariant-records l =
       room : l.count ≤ vec_capacity l.starts;
       records : AreRecords l.format l.bytes l.starts.items;
       whole : IsOk left;
-      so_far : behind_front (frames_at l.format l.bytes l.starts.items) left ≡ frames_from l.format l.count l.bytes header_length;
+      so_far : after_prefix (frames_at l.format l.bytes l.starts.items) left ≡ frames_from l.format l.count l.bytes header_length;
     }
 
 abbrev pub decreases-records : goal.decreases-records

@@ -1,10 +1,9 @@
-use Rattle.std.proofs.Common.{◌≡◌, ℕ, List, refl, sym, ◌∙◌, inl, inr}
-use Rattle.std.specs.Prelude.{Ok, Err}
+use Rattle.std.proofs.Common.{◌≡◌, ℕ, List, sym, ◌∙◌, inr}
+use Rattle.std.specs.Prelude.{Ok}
 use Rattle.std.proofs.lemmas.Bool.{false≢true}
 use Rattle.std.proofs.lemmas.Result.{err_from_is_err_and}
 use Rattle.spec_pcap.specs.declared.format.Format.{Format}
-use Rattle.spec_pcap.specs.declared.fault.PcapFault.{PcapFault}
-use Rattle.spec_pcap.specs.Pcap.{header_length, format_of, frames_from, captured, capture_of}
+use Rattle.spec_pcap.specs.Pcap.{header_length, frames_from}
 use Rattle.pcap_io.specs.Records.{count_of}
 use Rattle.pcap_io.proofs.Captures.{Found, frames_from-found, frames_fit, capture_of-no_format, capture_of-no_count, capture_of-counted, capture_of-frames}
 use Rattle.pcap_io.proofs.trace.read_trace.Goals as goal

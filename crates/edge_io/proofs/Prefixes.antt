@@ -1,14 +1,14 @@
--- Writing a front of the bytes, and then a front of what is left.
+-- Writing a prefix of the bytes, and then a prefix of what is left.
 use Rattle.std.proofs.Common.{◌≡◌, ℕ, ◌+◌, ◌-◌, List, ◌++◌, length, take, drop, sym, ap, ◌∙◌, append_assoc}
 use Rattle.std.proofs.Math.Seq.{take-add}
 use Rattle.std.proofs.lemmas.List.{take_rest}
 use Rattle.edge_io.specs.Shelf.{Told, wrote}
 
-joined : (front bytes : List ℕ) (i n : ℕ) →
-    (front ++ take i bytes) ++ take n (drop i bytes) ≡ front ++ take (i + n) bytes
-joined front bytes i n =
-    append_assoc front (take i bytes) (take n (drop i bytes)) ∙
-    ap (λ (y : List ℕ). front ++ y) (sym (take-add i n bytes))
+joined : (prefix bytes : List ℕ) (i n : ℕ) →
+    (prefix ++ take i bytes) ++ take n (drop i bytes) ≡ prefix ++ take (i + n) bytes
+joined prefix bytes i n =
+    append_assoc prefix (take i bytes) (take n (drop i bytes)) ∙
+    ap (λ (y : List ℕ). prefix ++ y) (sym (take-add i n bytes))
 
 pub said_twice : (t u v bytes : List ℕ) (i n : ℕ) →
     u ≡ t ++ take i bytes → v ≡ u ++ take n (take (length bytes - i) (drop i bytes)) →
