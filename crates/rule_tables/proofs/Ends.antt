@@ -1,22 +1,22 @@
 -- What stands at each place once a rule's life has ended.
-use Rattle.std.proofs.Common.{◌≡◌, ℕ, zero, suc, ◌+◌, ◌-◌, ◌<◌, ◌≤◌, List, [], ◌∷◌, ◌++◌, length, Option, Some, None, refl, sym, ap, arith, ◌⊎◌, inl, inr}
+use Rattle.std.proofs.Common.{◌≡◌, ℕ, zero, suc, ◌<◌, List, [], ◌∷◌, ◌++◌, length, Option, Some, None, refl, sym, ap, arith, ◌⊎◌, inl, inr}
 use Rattle.std.specs.Prelude.{slice_get, slice_set}
 use Rattle.std.proofs.lemmas.Option.{none-some, same_Some}
 use Rattle.rule_tables.specs.declared.stored.StoredRule.{StoredRule}
 use Rattle.rule_tables.specs.Stored.{ended, with_end}
 
--- how the rule t at place i came from the rule s there: its life ended, if it is the one of this number, or it stayed
+-- how the rule t at place i came from the rule s there: its life ended, if it is the one at the old place, or it stayed
 abbrev pub Follows : Option ℕ → ℕ → ℕ → StoredRule → StoredRule → Type 0
-Follows old gone i s t = ((old ≡ Some (i + 1)) × (t ≡ record s { gone = Some gone })) ⊎ ((old ≡ Some (i + 1) → ⊥) × (t ≡ s))
+Follows old gone i s t = ((old ≡ Some i) × (t ≡ record s { gone = Some gone })) ⊎ ((old ≡ Some i → ⊥) × (t ≡ s))
 
-pub length-ended : (place gone : ℕ) (xs : List StoredRule) → length (ended place gone xs) ≡ length xs
+length-ended : (place gone : ℕ) (xs : List StoredRule) → length (ended place gone xs) ≡ length xs
 length-ended place gone [] = refl
 length-ended zero gone (x ∷ xs) = refl
 length-ended (suc place) gone (x ∷ xs) = ap suc (length-ended place gone xs)
 
 pub length-with_end : (old : Option ℕ) (gone : ℕ) (xs : List StoredRule) → length (with_end old gone xs) ≡ length xs
 length-with_end None gone xs = refl
-length-with_end (Some n) gone xs = length-ended (n - 1) gone xs
+length-with_end (Some place) gone xs = length-ended place gone xs
 
 ended_cases : (place gone i : ℕ) (xs : List StoredRule) (t : StoredRule) → slice_get (ended place gone xs) i ≡ Some t
     → (s : StoredRule) × (slice_get xs i ≡ Some s) × (((i ≡ place) × (t ≡ record s { gone = Some gone })) ⊎ ((i ≡ place → ⊥) × (t ≡ s)))
@@ -28,17 +28,16 @@ ended_cases (suc place) gone (suc i) (x ∷ xs) t at =
     let rest = ended_cases place gone i xs t at in
     (rest.0, rest.1, elim rest.2 [ inl (e, is) ↦ inl (ap suc e, is) | inr (ne, is) ↦ inr (λ e. ne (omega arith), is) ])
 
-pub with_end_cases : (old : Option ℕ) (gone i : ℕ) (xs : List StoredRule) (t : StoredRule) → ((n : ℕ) → old ≡ Some n → 0 < n) → slice_get (with_end old gone xs) i ≡ Some t
+pub with_end_cases : (old : Option ℕ) (gone i : ℕ) (xs : List StoredRule) (t : StoredRule) → slice_get (with_end old gone xs) i ≡ Some t
     → (s : StoredRule) × (slice_get xs i ≡ Some s) × Follows old gone i s t
-with_end_cases None gone i xs t positive at = (t, at, inr (λ e. none-some (i + 1) e, refl))
-with_end_cases (Some n) gone i xs t positive at =
-    let pos : 0 < n = positive n refl in
-    let rest = ended_cases (n - 1) gone i xs t at in (
+with_end_cases None gone i xs t at = (t, at, inr (λ e. none-some i e, refl))
+with_end_cases (Some place) gone i xs t at =
+    let rest = ended_cases place gone i xs t at in (
       rest.0,
       rest.1,
       elim rest.2 [
-        | inl (e, is) ↦ inl (ap (λ m. Some m) (let same : n ≡ i + 1 = omega arith in same), is)
-        | inr (ne, is) ↦ inr (λ e. ne (let same : n ≡ i + 1 = same_Some n (i + 1) e in omega arith), is)
+        | inl (e, is) ↦ inl (ap (λ (k : ℕ). Some k) (sym e), is)
+        | inr (ne, is) ↦ inr (λ e. ne (sym (same_Some place i e)), is)
       ],
     )
 
@@ -48,14 +47,10 @@ set-ended [] place gone s at = absurd (none-some s at)
 set-ended (x ∷ xs) zero gone s at = ap (λ (r : StoredRule). record r { gone = Some gone } ∷ xs) (sym (same_Some x s at))
 set-ended (x ∷ xs) (suc place) gone s at = ap (λ (rest : List StoredRule). x ∷ rest) (set-ended xs place gone s at)
 
--- one more rule behind stays
-pub with_end-push : (old : Option ℕ) (gone : ℕ) (xs : List StoredRule) (x : StoredRule) → ((n : ℕ) → old ≡ Some n → (0 < n) × (n ≤ length xs)) → with_end old gone (xs ++ x ∷ []) ≡ with_end old gone xs ++ x ∷ []
+-- one more rule after stays
+pub with_end-push : (old : Option ℕ) (gone : ℕ) (xs : List StoredRule) (x : StoredRule) → ((i : ℕ) → old ≡ Some i → i < length xs) → with_end old gone (xs ++ x ∷ []) ≡ with_end old gone xs ++ x ∷ []
 with_end-push None gone xs x within = refl
-with_end-push (Some n) gone xs x within =
-    let bounds = within n refl in
-    let pos : 0 < n = bounds.0 in
-    let le : n ≤ length xs = bounds.1 in
-    ended-push (n - 1) gone xs x (omega arith)
+with_end-push (Some place) gone xs x within = ended-push place gone xs x (within place refl)
   where
     ended-push : (place gone : ℕ) (xs : List StoredRule) (x : StoredRule) → place < length xs → ended place gone (xs ++ x ∷ []) ≡ ended place gone xs ++ x ∷ []
     ended-push place gone [] x lt = absurd (omega arith)

@@ -1,5 +1,5 @@
 -- Lists by what stands at each place.
-use Rattle.std.proofs.Common.{◌≡◌, ℕ, zero, suc, ◌<◌, Bool, true, false, cond, List, [], ◌∷◌, ◌++◌, length, map, Option, Some, None, refl, sym, ap, ap₂, ◌∙◌, arith, ◌⊎◌, inl, inr}
+use Rattle.std.proofs.Common.{◌≡◌, ℕ, zero, suc, ◌<◌, Bool, true, false, cond, List, [], ◌∷◌, ◌++◌, length, Option, Some, None, refl, sym, ap, ap₂, ◌∙◌, arith, ◌⊎◌, inl, inr}
 use Rattle.std.specs.Prelude.{slice_get, filter}
 use Rattle.std.specs.List.{filter_map, cons_option, list_any}
 use Rattle.std.proofs.lemmas.Bool.{or_left, or_right, or_from}
@@ -13,14 +13,6 @@ filter_map_alike f g [] (y ∷ ys) len alike = absurd (omega arith)
 filter_map_alike f g (x ∷ xs) [] len alike = absurd (omega arith)
 filter_map_alike f g (x ∷ xs) (y ∷ ys) len alike =
     ap₂ cons_option (alike 0 x y refl refl) (filter_map_alike f g xs ys (omega arith) (λ i a b at bt. alike (suc i) a b at bt))
-
-pub map_alike : {A B : Type 0} (f g : A → B) (xs ys : List A) → length xs ≡ length ys
-    → ((i : ℕ) (x y : A) → slice_get xs i ≡ Some x → slice_get ys i ≡ Some y → f x ≡ g y) → map f xs ≡ map g ys
-map_alike f g [] [] len alike = refl
-map_alike f g [] (y ∷ ys) len alike = absurd (omega arith)
-map_alike f g (x ∷ xs) [] len alike = absurd (omega arith)
-map_alike {A} {B} f g (x ∷ xs) (y ∷ ys) len alike =
-    ap₂ (λ (z : B) (zs : List B). z ∷ zs) (alike 0 x y refl refl) (map_alike f g xs ys (omega arith) (λ i a b at bt. alike (suc i) a b at bt))
 
 -- what an option has that passes a test
 abbrev pub passing : {A : Type 0} → (A → Bool) → Option A → Option A

@@ -1,8 +1,9 @@
 mod Adding
-mod Editions
 mod Ends
 mod FilterMaps
+pub mod Histories
+mod Identities
 mod Lives
-mod Names
 mod Numbered
+mod Seen
 mod Winners

@@ -4,13 +4,13 @@ use Rattle.std.specs.Prelude.{nat_le}
 use Rattle.std.proofs.lemmas.Bool.{and_from, and_left, and_right, le-leb, lt-leb, lt-ltb, le-ltb, cond-true, cond-false}
 use Rattle.spec_tables.specs.Rules as tables
 use Rattle.rule_tables.specs.declared.stored.StoredRule.{StoredRule}
-use Rattle.rule_tables.specs.Stored.{stored_view, is_before, is_alive, rule_at}
+use Rattle.rule_tables.specs.Stored.{stored_in, is_before, is_alive, rule_at}
 
-pub rule_at-alive : (v : ℕ) (s : StoredRule) → is_alive v s ≡ true → rule_at v s ≡ Some (stored_view s)
-rule_at-alive v s alive = cond-true (is_alive v s) (Some (stored_view s)) None alive
+pub rule_at-alive : (v : ℕ) (s : StoredRule) → is_alive v s ≡ true → rule_at v s ≡ Some (stored_in v s)
+rule_at-alive v s alive = cond-true (is_alive v s) (Some (stored_in v s)) None alive
 
 pub rule_at-dead : (v : ℕ) (s : StoredRule) → is_alive v s ≡ false → rule_at v s ≡ None
-rule_at-dead v s dead = cond-false (is_alive v s) (Some (stored_view s)) None dead
+rule_at-dead v s dead = cond-false (is_alive v s) (Some (stored_in v s)) None dead
 
 pub alive_on : (v : ℕ) (s : StoredRule) → s.gone ≡ None → s.rule.number ≤ v → is_alive v s ≡ true
 alive_on v s on le =
@@ -27,7 +27,7 @@ dead_before v s lt = and_left (nat_le s.rule.number v) (is_before v s.gone) (lt-
 pub alive_as_before : (v gone : ℕ) (s : StoredRule) → s.gone ≡ None → v < gone → rule_at v (record s { gone = Some gone }) ≡ rule_at v s
 alive_as_before v gone s on lt =
     let yes : is_before v (Some gone) ≡ is_before v s.gone = lt-ltb v gone lt ∙ sym (ap (is_before v) on) in
-    ap (λ (b : Bool). cond {A = Option tables.Rule} (nat_le s.rule.number v && b) (Some (stored_view s)) None) yes
+    ap (λ (b : Bool). cond {A = Option tables.Rule} (nat_le s.rule.number v && b) (Some (stored_in v s)) None) yes
 
 -- the life of a rule that is alive has not ended
 pub gone_cases : (o : Option ℕ) → (o ≡ None) ⊎ ((gone : ℕ) × (o ≡ Some gone))

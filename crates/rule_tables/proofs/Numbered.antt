@@ -1,18 +1,18 @@
--- The rule of a number stands at its place.
-use Rattle.std.proofs.Common.{◌≡◌, ℕ, zero, suc, ◌+◌, ◌≤◌, Bool, true, false, ◌||◌, ◌==◌, List, [], ◌∷◌, length, Option, Some, None, refl, sym, ap, ◌∙◌, arith, inl, inr}
-use Rattle.std.specs.Prelude.{slice_get, is_some}
+-- The stored rule of a number, and what a version has of it.
+use Rattle.std.proofs.Common.{◌≡◌, ℕ, zero, suc, ◌<◌, Bool, true, false, ◌||◌, ◌==◌, List, [], ◌∷◌, length, Option, Some, None, refl, sym, ap, ◌∙◌, subst, arith, inl, inr}
+use Rattle.std.specs.Prelude.{slice_get, slice_index_or, nat_lt, is_some}
 use Rattle.std.specs.List.{cons_option, find, list_any}
+use Rattle.std.specs.List.Sorted.{IsPartitionedBy, IsPartitionPoint}
 use Rattle.std.specs.Option.{option_and_then, option_map}
-use Rattle.std.proofs.lemmas.Bool.{cases_Bool, false≢true, eq-eqb, ne_eqb, cond-true, cond-false}
-use Rattle.std.proofs.lemmas.List.{length-map}
-use Rattle.std.proofs.lemmas.Option.{slice_get-map}
+use Rattle.std.proofs.lemmas.Bool.{cases_Bool, cases_lt, false≢true, eq-eqb, ne_eqb, ltb-true, eqb-true, lt-ltb, both_ways, cond-true, cond-false}
+use Rattle.std.proofs.lemmas.Option.{none-some, same_Some, slice_get_within, slice_get_cases, slice_get-get_or}
 use Rattle.spec_tables.specs.Rules as tables
-use Rattle.spec_tables.specs.Edits.{Edit, rule_of, version}
-use Rattle.spec_tables.specs.Live.{is_live, rule_by, rule_numbered, rule_added}
-use Rattle.rule_tables.specs.declared.name.Name.{Name}
+use Rattle.spec_tables.specs.Live.{is_live, rule_numbered}
 use Rattle.rule_tables.specs.declared.stored.StoredRule.{StoredRule}
-use Rattle.rule_tables.specs.Stored.{stored_view, edit_of, edits_of, is_alive, rule_at, rules_at, stored_numbered, IsNumbered, IsSound}
+use Rattle.rule_tables.specs.Stored.{stored_in, is_alive, rule_at, rules_at, stored_numbered, AreInOrder}
 use Rattle.rule_tables.proofs.Lives.{rule_at-alive, rule_at-dead}
+
+-- ---- finding
 
 -- some element passes exactly where one is found
 any-find : {A : Type 0} (p : A → Bool) (xs : List A) → list_any p xs ≡ is_some (find p xs)
@@ -26,13 +26,84 @@ any-find p (x ∷ xs) =
 pub is_live-rule_numbered : (number : ℕ) (rules : List tables.Rule) → is_live number rules ≡ is_some (rule_numbered number rules)
 is_live-rule_numbered number rules = any-find (λ r. r.number == number) rules
 
+first_found : (number i : ℕ) (xs : List StoredRule) (s : StoredRule) → slice_get xs i ≡ Some s → s.rule.number ≡ number
+    → ((k : ℕ) (t : StoredRule) → k < i → slice_get xs k ≡ Some t → t.rule.number ≡ number → ⊥) → stored_numbered number xs ≡ Some s
+first_found number i [] s at is others = absurd (none-some s at)
+first_found number zero (x ∷ xs) s at is others =
+    let here : x ≡ s = same_Some x s at in
+    cond-true (x.rule.number == number) (Some x) (stored_numbered number xs) (eq-eqb x.rule.number number (ap (λ (t : StoredRule). t.rule.number) here ∙ is)) ∙ ap (λ (t : StoredRule). Some t) here
+first_found number (suc i) (x ∷ xs) s at is others =
+    cond-false (x.rule.number == number) (Some x) (stored_numbered number xs) (ne_eqb x.rule.number number (others 0 x (omega arith) refl))
+    ∙ first_found number i xs s at is (λ k t lt there. others (suc k) t (omega arith) there)
+
+none_found : (number : ℕ) (xs : List StoredRule) → ((k : ℕ) (t : StoredRule) → slice_get xs k ≡ Some t → t.rule.number ≡ number → ⊥) → stored_numbered number xs ≡ None
+none_found number [] others = refl
+none_found number (x ∷ xs) others =
+    cond-false (x.rule.number == number) (Some x) (stored_numbered number xs) (ne_eqb x.rule.number number (others 0 x refl)) ∙ none_found number xs (λ k t there. others (suc k) t there)
+
+-- ---- by the order of the numbers
+
+abbrev pub is_less : ℕ → StoredRule → Bool
+is_less number s = nat_lt s.rule.number number
+
+pub partitioned : (number : ℕ) (xs : List StoredRule) → AreInOrder xs → IsPartitionedBy (is_less number) xs
+partitioned number xs in_order i j d le within less =
+    let there : slice_get xs j ≡ Some (slice_index_or xs j d) = slice_get-get_or xs j d within in
+    let here : slice_get xs i ≡ Some (slice_index_or xs i d) = slice_get-get_or xs i d (omega arith) in
+    elim (cases_lt i j) [
+      | inl lt ↦
+          let rises : (slice_index_or xs i d).rule.number < (slice_index_or xs j d).rule.number = in_order i j _ _ here there lt in
+          let below : (slice_index_or xs j d).rule.number < number = ltb-true _ _ less in
+          lt-ltb _ _ (omega arith)
+      | inr ge ↦ let same : i ≡ j = omega arith in subst (λ (k : ℕ). is_less number (slice_index_or xs k d) ≡ true) (sym same) less
+    ]
+
+module _ (number place : ℕ) (xs : List StoredRule) (in_order : AreInOrder xs) (halves : IsPartitionPoint (λ s. is_less number s ≡ true) (λ s. is_less number s ≡ false) xs place) where
+  before : (k : ℕ) (t : StoredRule) → k < place → slice_get xs k ≡ Some t → t.rule.number < number
+  before k t lt at =
+      let same : slice_index_or xs k t ≡ t = same_Some _ t (sym (slice_get-get_or xs k t (slice_get_within xs k t at)) ∙ at) in
+      ltb-true t.rule.number number (subst (λ (s : StoredRule). is_less number s ≡ true) same (halves.0 k t (omega arith) lt))
+
+  pub at_place : (s : StoredRule) → slice_get xs place ≡ Some s → s.rule.number ≡ number → stored_numbered number xs ≡ Some s
+  at_place s at is =
+      first_found number place xs s at is (λ k t lt there same. let less : t.rule.number < number = before k t lt there in absurd (omega arith))
+
+  pub other_at_place : (s : StoredRule) → slice_get xs place ≡ Some s → (s.rule.number ≡ number → ⊥) → stored_numbered number xs ≡ None
+  other_at_place s at other = none_found number xs (λ k t there same.
+      elim (cases_lt k place) [
+        | inl lt ↦ let less : t.rule.number < number = before k t lt there in absurd (omega arith)
+        | inr ge ↦ elim (cases_lt place k) [
+          | inl gt ↦
+              let rises : s.rule.number < t.rule.number = in_order place k s t at there gt in
+              let same_s : slice_index_or xs place s ≡ s = same_Some _ s (sym (slice_get-get_or xs place s (slice_get_within xs place s at)) ∙ at) in
+              let least = subst (λ (u : StoredRule). is_less number u ≡ false) same_s (halves.1 place s (omega arith) (slice_get_within xs place s at)) in
+              elim (cases_lt s.rule.number number) [
+                | inl less ↦ absurd (both_ways (is_less number s) least (lt-ltb s.rule.number number less))
+                | inr more ↦ absurd (omega arith)
+              ]
+          | inr le ↦
+              let here : k ≡ place = omega arith in
+              other (ap (λ (u : StoredRule). u.rule.number) (same_Some s t (sym at ∙ sym (ap (slice_get xs) here) ∙ there)) ∙ same)
+        ]
+      ])
+
+  pub past_all : slice_get xs place ≡ None → stored_numbered number xs ≡ None
+  past_all none = none_found number xs (λ k t there same.
+      let within : k < length xs = slice_get_within xs k t there in
+      elim (slice_get_cases xs place).1 [
+        | inl (x, lt, at, _) ↦ absurd (none-some x (sym none ∙ at))
+        | inr (past, _) ↦ let less : t.rule.number < number = before k t (omega arith) there in absurd (omega arith)
+      ])
+
+-- ---- in a version
+
 -- a rule of another number is passed over
 passed_over : (v number : ℕ) (s : StoredRule) (rest : List tables.Rule) → (s.rule.number ≡ number → ⊥) → rule_numbered number (cons_option (rule_at v s) rest) ≡ rule_numbered number rest
 passed_over v number s rest other =
     elim (cases_Bool (is_alive v s)) [
       | inl alive ↦
           ap (λ (o : Option tables.Rule). rule_numbered number (cons_option o rest)) (rule_at-alive v s alive)
-          ∙ cond-false (s.rule.number == number) (Some (stored_view s)) (rule_numbered number rest) (ne_eqb s.rule.number number other)
+          ∙ cond-false (s.rule.number == number) (Some (stored_in v s)) (rule_numbered number rest) (ne_eqb s.rule.number number other)
       | inr dead ↦ ap (λ (o : Option tables.Rule). rule_numbered number (cons_option o rest)) (rule_at-dead v s dead)
     ]
 
@@ -41,88 +112,56 @@ none_numbered v number [] others = refl
 none_numbered v number (s ∷ rest) others =
     passed_over v number s (rules_at v rest) (others 0 s refl) ∙ none_numbered v number rest (λ i t at. others (suc i) t at)
 
--- the numbers of stored rules count from one after base
-numbered_from : (v base place : ℕ) (stored : List StoredRule) → ((i : ℕ) (s : StoredRule) → slice_get stored i ≡ Some s → s.rule.number ≡ base + i + 1)
-    → rule_numbered (base + place + 1) (rules_at v stored) ≡ option_and_then (rule_at v) (slice_get stored place)
-numbered_from v base place [] numbers = refl
-numbered_from v base zero (s ∷ rest) numbers =
-    let here : s.rule.number ≡ base + 0 + 1 = numbers 0 s refl in
-    elim (cases_Bool (is_alive v s)) [
-      | inl alive ↦
-          ap (λ (o : Option tables.Rule). rule_numbered (base + 0 + 1) (cons_option o (rules_at v rest))) (rule_at-alive v s alive)
-          ∙ cond-true (s.rule.number == base + 0 + 1) (Some (stored_view s)) (rule_numbered (base + 0 + 1) (rules_at v rest)) (eq-eqb s.rule.number (base + 0 + 1) here)
-          ∙ sym (rule_at-alive v s alive)
-      | inr dead ↦
-          ap (λ (o : Option tables.Rule). rule_numbered (base + 0 + 1) (cons_option o (rules_at v rest))) (rule_at-dead v s dead)
-          ∙ none_numbered v (base + 0 + 1) rest (λ i t at is. let later : t.rule.number ≡ base + suc i + 1 = numbers (suc i) t at in omega arith)
-          ∙ sym (rule_at-dead v s dead)
+pub rule_numbered-rules_at : (v number : ℕ) (stored : List StoredRule) → AreInOrder stored → rule_numbered number (rules_at v stored) ≡ option_and_then (rule_at v) (stored_numbered number stored)
+rule_numbered-rules_at v number [] in_order = refl
+rule_numbered-rules_at v number (s ∷ rest) in_order =
+    elim (cases_Bool (s.rule.number == number)) [
+      | inl here ↦
+          let is : s.rule.number ≡ number = eqb-true s.rule.number number here in
+          let later : rule_numbered number (rules_at v rest) ≡ None =
+          none_numbered v number rest (λ i t at same. let rises : s.rule.number < t.rule.number = in_order 0 (suc i) s t refl at (omega arith) in absurd (omega arith)) in
+          by_life is later ∙ sym (ap (option_and_then (rule_at v)) (cond-true (s.rule.number == number) (Some s) (stored_numbered number rest) here))
+      | inr other ↦
+          passed_over v number s (rules_at v rest) (λ is. absurd (both_ways (s.rule.number == number) other (eq-eqb s.rule.number number is)))
+          ∙ rule_numbered-rules_at v number rest (λ i j a b at bt lt. in_order (suc i) (suc j) a b at bt (omega arith))
+          ∙ sym (ap (option_and_then (rule_at v)) (cond-false (s.rule.number == number) (Some s) (stored_numbered number rest) other))
     ]
-numbered_from v base (suc place) (s ∷ rest) numbers =
-    let here : s.rule.number ≡ base + 0 + 1 = numbers 0 s refl in
-    let next : base + suc place + 1 ≡ suc base + place + 1 = omega arith in
-    passed_over v (base + suc place + 1) s (rules_at v rest) (λ is. omega arith)
-    ∙ ap (λ (number : ℕ). rule_numbered number (rules_at v rest)) next
-    ∙ numbered_from v (suc base) place rest (λ i t at. let later : t.rule.number ≡ base + suc i + 1 = numbers (suc i) t at in omega arith)
+  where
+    by_life : s.rule.number ≡ number → rule_numbered number (rules_at v rest) ≡ None → rule_numbered number (cons_option (rule_at v s) (rules_at v rest)) ≡ rule_at v s
+    by_life is later =
+        elim (cases_Bool (is_alive v s)) [
+          | inl alive ↦
+              ap (λ (o : Option tables.Rule). rule_numbered number (cons_option o (rules_at v rest))) (rule_at-alive v s alive)
+              ∙ cond-true (s.rule.number == number) (Some (stored_in v s)) (rule_numbered number (rules_at v rest)) (eq-eqb s.rule.number number is)
+              ∙ sym (rule_at-alive v s alive)
+          | inr dead ↦
+              ap (λ (o : Option tables.Rule). rule_numbered number (cons_option o (rules_at v rest))) (rule_at-dead v s dead) ∙ later ∙ sym (rule_at-dead v s dead)
+        ]
 
-pub rule_numbered-rules_at : (v number : ℕ) (stored : List StoredRule) → IsNumbered stored → rule_numbered number (rules_at v stored) ≡ option_and_then (rule_at v) (stored_numbered stored number)
-rule_numbered-rules_at v zero stored numbers =
-    none_numbered v 0 stored (λ i s at is. let later : s.rule.number ≡ i + 1 = numbers i s at in omega arith)
-rule_numbered-rules_at v (suc place) stored numbers =
-    let number : suc place ≡ 0 + place + 1 = omega arith in
-    ap (λ (n : ℕ). rule_numbered n (rules_at v stored)) number
-    ∙ numbered_from v 0 place stored (λ i s at. let at_place : s.rule.number ≡ i + 1 = numbers i s at in omega arith)
+-- the answer by what is found
+pub none_at_number : (v number : ℕ) (stored : List StoredRule) → AreInOrder stored → None ≡ stored_numbered number stored → None ≡ rule_numbered number (rules_at v stored)
+none_at_number v number stored in_order none = sym (rule_numbered-rules_at v number stored in_order ∙ sym (ap (option_and_then (rule_at v)) none))
 
--- the answer by what stands at the place
-pub none_at_place : (v number : ℕ) (stored : List StoredRule) → IsNumbered stored → None ≡ stored_numbered stored number → None ≡ rule_numbered number (rules_at v stored)
-none_at_place v number stored numbers none = sym (rule_numbered-rules_at v number stored numbers ∙ sym (ap (option_and_then (rule_at v)) none))
+pub alive_at_number : (v number : ℕ) (stored : List StoredRule) (s : StoredRule) → AreInOrder stored → Some s ≡ stored_numbered number stored → is_alive v s ≡ true
+    → Some (stored_in v s) ≡ rule_numbered number (rules_at v stored)
+alive_at_number v number stored s in_order at alive =
+    sym (rule_numbered-rules_at v number stored in_order ∙ sym (ap (option_and_then (rule_at v)) at) ∙ rule_at-alive v s alive)
 
-pub alive_at_place : (v number : ℕ) (stored : List StoredRule) (s : StoredRule) → IsNumbered stored → Some s ≡ stored_numbered stored number → is_alive v s ≡ true
-    → Some (stored_view s) ≡ rule_numbered number (rules_at v stored)
-alive_at_place v number stored s numbers at alive =
-    sym (rule_numbered-rules_at v number stored numbers ∙ sym (ap (option_and_then (rule_at v)) at) ∙ rule_at-alive v s alive)
-
-pub dead_at_place : (v number : ℕ) (stored : List StoredRule) (s : StoredRule) → IsNumbered stored → Some s ≡ stored_numbered stored number → is_alive v s ≡ false
+pub dead_at_number : (v number : ℕ) (stored : List StoredRule) (s : StoredRule) → AreInOrder stored → Some s ≡ stored_numbered number stored → is_alive v s ≡ false
     → None ≡ rule_numbered number (rules_at v stored)
-dead_at_place v number stored s numbers at dead =
-    sym (rule_numbered-rules_at v number stored numbers ∙ sym (ap (option_and_then (rule_at v)) at) ∙ rule_at-dead v s dead)
+dead_at_number v number stored s in_order at dead =
+    sym (rule_numbered-rules_at v number stored in_order ∙ sym (ap (option_and_then (rule_at v)) at) ∙ rule_at-dead v s dead)
 
--- ---- what holds of sound rules
-
-module _ (stored : List StoredRule) (find : Name → Option ℕ) (changes : ℕ) (sound : IsSound stored find changes) where
-  pub numbered : IsNumbered stored
-  numbered i s at = sym (ap (λ (r : tables.Rule). r.number) (sound.added i s at))
-
-  pub rule_added-stored : (number : ℕ) → rule_added (edits_of stored) number ≡ option_map stored_view (stored_numbered stored number)
-  rule_added-stored zero = refl
-  rule_added-stored (suc place) =
-      ap (option_and_then (λ e. rule_by e.word (suc place) e)) (slice_get-map edit_of stored place) ∙ by_place (slice_get stored place) refl
-    where
-      by_place : (o : Option StoredRule) → slice_get stored place ≡ o → option_and_then (λ e. rule_by e.word (suc place) e) (option_map edit_of o) ≡ option_map stored_view o
-      by_place None is = refl
-      by_place (Some s) is =
-          let number : suc place ≡ place + 1 = omega arith in
-          ap (λ (r : tables.Rule). Some r) (ap (λ (n : ℕ). rule_of n (edit_of s)) number ∙ sound.added place s is)
-
--- the same of a slice of the stored rules
-pub numbers_in : (stored slice : List StoredRule) (find : Name → Option ℕ) (changes : ℕ) → slice ≡ stored → IsSound stored find changes → IsNumbered slice
-numbers_in stored slice find changes same sound = λ i s at. numbered stored find changes sound i s (ap (λ (rules : List StoredRule). slice_get rules i) (sym same) ∙ at)
-
-pub rules_in_version : (stored slice : List StoredRule) (find : Name → Option ℕ) (changes : ℕ) (edits : List Edit) (v : ℕ) → slice ≡ stored → IsSound stored find changes → edits_of stored ≡ edits → v ≤ length edits
-    → rules_at v slice ≡ version edits v
-rules_in_version stored slice find changes edits v same sound view le =
-    let length_is : length edits ≡ length stored = ap length (sym view) ∙ length-map stored edit_of in
-    ap (rules_at v) same ∙ sym (sound.versions v (omega arith)) ∙ ap (λ (es : List Edit). version es v) view
+-- ---- live rules
 
 -- whether a rule of this number is live, by whether one is found
-pub live_if_found : {A : Type 0} (f : A → tables.Rule) (o : Option A) (number : ℕ) (rules rules' : List tables.Rule) → option_map f o ≡ rule_numbered number rules → rules ≡ rules' → is_some o ≡ is_live number rules'
-live_if_found {A} f o number rules rules' is same =
-    same_answer o ∙ ap is_some is ∙ sym (is_live-rule_numbered number rules) ∙ ap (is_live number) same
+pub live_if_found : {A : Type 0} (f : A → tables.Rule) (o : Option A) (number : ℕ) (rules : List tables.Rule) → option_map f o ≡ rule_numbered number rules → is_some o ≡ is_live number rules
+live_if_found {A} f o number rules is = same_answer o ∙ ap is_some is ∙ sym (is_live-rule_numbered number rules)
   where
     same_answer : (p : Option A) → is_some p ≡ is_some (option_map f p)
     same_answer None = refl
     same_answer (Some x) = refl
 
 -- a live rule is found
-pub not_live : (number : ℕ) (rules rules' : List tables.Rule) → None ≡ rule_numbered number rules → rules ≡ rules' → is_live number rules' ≡ true → ⊥
-not_live number rules rules' none same live =
-    false≢true (ap is_some none ∙ sym (is_live-rule_numbered number rules) ∙ ap (is_live number) same ∙ live)
+pub not_live : (number : ℕ) (rules : List tables.Rule) → None ≡ rule_numbered number rules → is_live number rules ≡ true → ⊥
+not_live number rules none live = false≢true (ap is_some none ∙ sym (is_live-rule_numbered number rules) ∙ live)

@@ -7,7 +7,7 @@ use Rattle.spec_tables.specs.Rules as tables
 use Rattle.spec_tables.specs.Rules.{is_matched, better, rules_in, winner}
 use Rattle.rule_tables.specs.declared.stored.StoredRule.{StoredRule}
 use Rattle.rule_tables.specs.Candidates.{is_candidate}
-use Rattle.rule_tables.specs.Stored.{stored_view, is_alive, rules_at}
+use Rattle.rule_tables.specs.Stored.{stored_in, is_alive, rules_at}
 use Rattle.rule_tables.proofs.Lives.{rule_at-alive, rule_at-dead}
 
 -- the winner for a key in a table of a version
@@ -15,14 +15,14 @@ abbrev pub winner_in : ℕ → ℕ → List ℕ → List StoredRule → Option t
 winner_in v table key stored = winner (rules_in table (rules_at v stored)) key
 
 winner-candidate : (v table : ℕ) (key : List ℕ) (s : StoredRule) (rest : List StoredRule) → is_candidate v table key s ≡ true
-    → winner_in v table key (s ∷ rest) ≡ better (stored_view s) (winner_in v table key rest)
+    → winner_in v table key (s ∷ rest) ≡ better (stored_in v s) (winner_in v table key rest)
 unfolding winner
 winner-candidate v table key s rest is =
-    let first = and_parts (s.rule.table == table) (is_alive v s && is_matched key (stored_view s).matching) is in
-    let second = and_parts (is_alive v s) (is_matched key (stored_view s).matching) first.1 in
+    let first = and_parts (s.rule.table == table) (is_alive v s && is_matched key (stored_in v s).matching) is in
+    let second = and_parts (is_alive v s) (is_matched key (stored_in v s).matching) first.1 in
     ap (λ (o : Option tables.Rule). winner (rules_in table (cons_option o (rules_at v rest))) key) (rule_at-alive v s second.0)
-    ∙ ap (λ (rules : List tables.Rule). winner rules key) (cond-true (s.rule.table == table) (stored_view s ∷ rules_in table (rules_at v rest)) (rules_in table (rules_at v rest)) first.0)
-    ∙ cond-true (is_matched key (stored_view s).matching) (better (stored_view s) (winner_in v table key rest)) (winner_in v table key rest) second.1
+    ∙ ap (λ (rules : List tables.Rule). winner rules key) (cond-true (s.rule.table == table) (stored_in v s ∷ rules_in table (rules_at v rest)) (rules_in table (rules_at v rest)) first.0)
+    ∙ cond-true (is_matched key (stored_in v s).matching) (better (stored_in v s) (winner_in v table key rest)) (winner_in v table key rest) second.1
 
 winner-no_candidate : (v table : ℕ) (key : List ℕ) (s : StoredRule) (rest : List StoredRule) → is_candidate v table key s ≡ false
     → winner_in v table key (s ∷ rest) ≡ winner_in v table key rest
@@ -32,15 +32,15 @@ winner-no_candidate v table key s rest is =
       | inr dead ↦ ap (λ (o : Option tables.Rule). winner (rules_in table (cons_option o (rules_at v rest))) key) (rule_at-dead v s dead)
       | inl alive ↦
           ap (λ (o : Option tables.Rule). winner (rules_in table (cons_option o (rules_at v rest))) key) (rule_at-alive v s alive) ∙ elim (cases_Bool (s.rule.table == table)) [
-            | inr apart ↦ ap (λ (rules : List tables.Rule). winner rules key) (cond-false (s.rule.table == table) (stored_view s ∷ rules_in table (rules_at v rest)) (rules_in table (rules_at v rest)) apart)
+            | inr apart ↦ ap (λ (rules : List tables.Rule). winner rules key) (cond-false (s.rule.table == table) (stored_in v s ∷ rules_in table (rules_at v rest)) (rules_in table (rules_at v rest)) apart)
             | inl here ↦
-                ap (λ (rules : List tables.Rule). winner rules key) (cond-true (s.rule.table == table) (stored_view s ∷ rules_in table (rules_at v rest)) (rules_in table (rules_at v rest)) here)
-                ∙ cond-false (is_matched key (stored_view s).matching) (better (stored_view s) (winner_in v table key rest)) (winner_in v table key rest) (unmatched here alive)
+                ap (λ (rules : List tables.Rule). winner rules key) (cond-true (s.rule.table == table) (stored_in v s ∷ rules_in table (rules_at v rest)) (rules_in table (rules_at v rest)) here)
+                ∙ cond-false (is_matched key (stored_in v s).matching) (better (stored_in v s) (winner_in v table key rest)) (winner_in v table key rest) (unmatched here alive)
           ]
     ]
   where
-    unmatched : s.rule.table == table ≡ true → is_alive v s ≡ true → is_matched key (stored_view s).matching ≡ false
-    unmatched here alive = sym (ap (λ (a : Bool). a && (is_alive v s && is_matched key (stored_view s).matching)) here ∙ ap (λ (a : Bool). a && is_matched key (stored_view s).matching) alive) ∙ is
+    unmatched : s.rule.table == table ≡ true → is_alive v s ≡ true → is_matched key (stored_in v s).matching ≡ false
+    unmatched here alive = sym (ap (λ (a : Bool). a && (is_alive v s && is_matched key (stored_in v s).matching)) here ∙ ap (λ (a : Bool). a && is_matched key (stored_in v s).matching) alive) ∙ is
 
 -- ---- from a place on
 
@@ -55,9 +55,9 @@ rules_from stored i s pos le is =
     rw (more, back, ← is) refl
 
 pub candidate_wins : (v table : ℕ) (key : List ℕ) (stored : List StoredRule) (i : ℕ) (s : StoredRule) (best now : Option tables.Rule) → 0 < i → i ≤ length stored → s ≡ get_or stored (i - 1) s
-    → is_candidate v table key s ≡ true → best ≡ winner_in v table key (drop i stored) → better (stored_view s) best ≡ now → now ≡ winner_in v table key (drop (i - 1) stored)
+    → is_candidate v table key s ≡ true → best ≡ winner_in v table key (drop i stored) → better (stored_in v s) best ≡ now → now ≡ winner_in v table key (drop (i - 1) stored)
 candidate_wins v table key stored i s best now pos le is may so_far made =
-    sym made ∙ ap (better (stored_view s)) so_far ∙ sym (winner-candidate v table key s (drop i stored) may) ∙ sym (ap (winner_in v table key) (rules_from stored i s pos le is))
+    sym made ∙ ap (better (stored_in v s)) so_far ∙ sym (winner-candidate v table key s (drop i stored) may) ∙ sym (ap (winner_in v table key) (rules_from stored i s pos le is))
 
 pub others_stay : (v table : ℕ) (key : List ℕ) (stored : List StoredRule) (i : ℕ) (s : StoredRule) (best : Option tables.Rule) → 0 < i → i ≤ length stored → s ≡ get_or stored (i - 1) s
     → is_candidate v table key s ≡ false → best ≡ winner_in v table key (drop i stored) → best ≡ winner_in v table key (drop (i - 1) stored)

@@ -1,4 +1,4 @@
--- How many rules edits add and remove.
+-- How many rules edits change (ovs-ofctl(8) tells what each edit does to which rules).
 use Rattle.std.specs.Prelude.{ℕ, zero, suc, ◌+◌, if◌then◌else◌, List, slice_get, count_by}
 use Rattle.std.specs.List.{list_any}
 use Rattle.std.specs.Option.{option_map_or}
@@ -7,15 +7,15 @@ use Rattle.spec_tables.specs.declared.edit_word.EditWord.TheVariants.{Add, Modif
 use Rattle.spec_tables.specs.Rules.{Rule}
 use Rattle.spec_tables.specs.Edits.{Edit, is_named_by, is_reached_by, version}
 
--- how many rules an edit of this kind adds to these rules and removes from them; one that replaces a rule does both
+-- how many of these rules an edit of this kind adds, gives actions to or removes; an add that replaces a rule does both
 abbrev pub changes_by : EditWord → Edit → List Rule → ℕ
 changes_by Add e rules = if list_any (is_named_by e) rules then 2 else 1
-changes_by Modify e rules = 0
-changes_by ModifyStrict e rules = 0
+changes_by Modify e rules = count_by (is_reached_by e) rules
+changes_by ModifyStrict e rules = count_by (is_named_by e) rules
 changes_by Delete e rules = count_by (is_reached_by e) rules
 changes_by DeleteStrict e rules = count_by (is_named_by e) rules
 
--- how many rules the edits up to version v add and remove
+-- how many rules the edits up to version v change
 unfoldable pub changes_to : List Edit → ℕ → ℕ
 changes_to edits zero = 0
 changes_to edits (suc v) = changes_to edits v + option_map_or (λ e. changes_by e.word e (version edits v)) (slice_get edits v) 0

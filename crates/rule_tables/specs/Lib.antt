@@ -3,6 +3,7 @@ pub mod Candidates
 pub mod Changes
 pub mod HashInput
 pub mod Hashing
+pub mod History
 pub mod Stored
 pub mod Versions
 pub mod Views

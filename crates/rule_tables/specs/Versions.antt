@@ -1,12 +1,11 @@
--- The rules of all versions, as the edits that made them.
-use Rattle.std.specs.Prelude.{List}
+-- The rules of all versions, as the edits made them.
 use Rattle.std.specs.HashMap.{get}
-use Rattle.spec_tables.specs.Edits.{Edit}
 use Rattle.rule_tables.specs.declared.versions.VersionedRules.TheInside.{Inside}
-use Rattle.rule_tables.specs.Stored.{edits_of, is_same_name, IsSound}
+use Rattle.rule_tables.specs.History.{History, versions_to}
+use Rattle.rule_tables.specs.Stored.{rules_at, is_same_identity, IsSound}
 
-abbrev pub edits_in : Inside → List Edit
-edits_in a = edits_of a.rules.items
+abbrev pub history_in : Inside → History
+history_in a = record { versions = versions_to a.last (λ v. rules_at v a.rules.items); changes = a.changes }
 
 abbrev pub IsVersioned : Inside → Type 0
-IsVersioned a = IsSound a.rules.items (λ name. get is_same_name a.numbers name) a.changes
+IsVersioned a = IsSound a.rules.items (λ identity. get is_same_identity a.places identity) a.last a.changes

@@ -4,46 +4,8 @@ ghost use Rattle.ovs_fields.specs.Packed.{numbers, bits};
 ghost use Rattle.std.specs.List.{fold};
 ghost use Rattle.rule_tables.specs.HashInput.{mask_writes};
 
-use ovs_fields::{FieldId, Key, Mask, key_hash};
+use ovs_fields::{FieldId, Key, Mask, all_fields, key_hash};
 use std::hash::{Hash, Hasher};
-
-/// The fields of a mask, in the order in which they are hashed.
-const MASK_FIELDS: [FieldId; 34] = [
-    FieldId::InPort,
-    FieldId::Metadata,
-    FieldId::Reg0,
-    FieldId::Reg1,
-    FieldId::Reg2,
-    FieldId::Reg3,
-    FieldId::Reg4,
-    FieldId::Reg5,
-    FieldId::Reg6,
-    FieldId::Reg7,
-    FieldId::Reg8,
-    FieldId::Reg9,
-    FieldId::Reg10,
-    FieldId::Reg11,
-    FieldId::Reg12,
-    FieldId::Reg13,
-    FieldId::Reg14,
-    FieldId::Reg15,
-    FieldId::DlSrc,
-    FieldId::DlDst,
-    FieldId::DlType,
-    FieldId::VlanTci,
-    FieldId::NwSrc,
-    FieldId::NwDst,
-    FieldId::Ipv6Src,
-    FieldId::Ipv6Dst,
-    FieldId::NwProto,
-    FieldId::NwTos,
-    FieldId::NwTtl,
-    FieldId::IpFrag,
-    FieldId::ArpSha,
-    FieldId::ArpTha,
-    FieldId::TpSrc,
-    FieldId::TpDst,
-];
 
 /// What a rule states of a packet: the numbers of the key, at the bits of the mask.
 ///
@@ -82,7 +44,7 @@ impl Hash for Match {
 
     fn hash<H: Hasher>(&self, state: &mut H) {
         state.write_u64(key_hash(&self.key));
-        hash_mask(&self.mask, &MASK_FIELDS, state);
+        hash_mask(&self.mask, all_fields(), state);
     }
 }
 

@@ -1,26 +1,39 @@
-ghost use Rattle.std.specs.Prelude.{◌≡◌, Option, Some, None};
+ghost use Rattle.std.specs.Prelude.{◌≡◌, ℕ, Option, Some, None, slice_get};
 ghost use Rattle.std.specs.Option.{option_map};
 ghost use Rattle.spec_tables.specs.Rules.{is_beaten, better, rules_in, winner};
 ghost use Rattle.spec_tables.specs.Live.{rule_numbered};
 ghost use Rattle.ovs_fields.specs.Packed.{numbers};
 ghost use Rattle.rule_tables.specs.Candidates.{is_candidate};
-ghost use Rattle.rule_tables.specs.Stored.{stored_view, stored_numbered, rules_at, IsNumbered};
+ghost use Rattle.rule_tables.specs.Stored.{stored_in, stored_numbered, rules_at, AreInOrder};
 
 use crate::stored::StoredRule;
 use ovs_fields::{Key, agree};
 
-/// The stored rule of a number, as they count from 1.
-pub(crate) fn stored_at(rules: &[StoredRule], number: u32) -> Option<&StoredRule>
-    ensures { option_map (λ s. s.now) result ≡ stored_numbered rules.now number }
+/// The stored rule at a place, if there is one.
+fn rule_at(rules: &[StoredRule], place: usize) -> Option<&StoredRule>
+    ensures { option_map (λ s. s.now) result ≡ slice_get rules.now place }
 {
-    let place = number.checked_sub(1)?;
-    rules.get(place as usize)
+    rules.get(place)
+}
+
+/// The stored rule of a number. They stand in the order of their numbers.
+pub(crate) fn stored_at(rules: &[StoredRule], number: u32) -> Option<&StoredRule>
+    requires { AreInOrder rules.now }
+    ensures { option_map (λ s. s.now) result ≡ stored_numbered number rules.now }
+{
+    let place = rules.partition_point(|stored| stored.rule.number < number);
+    let stored = rule_at(rules, place)?;
+    if stored.rule.number == number {
+        Some(stored)
+    } else {
+        None
+    }
 }
 
 /// The stored rule of a number, if it is live in a version.
 pub(crate) fn find_live(rules: &[StoredRule], version: u32, number: u32) -> Option<&StoredRule>
-    requires { IsNumbered rules.now }
-    ensures { option_map (λ s. stored_view s.now) result ≡ rule_numbered number (rules_at version rules.now) }
+    requires { AreInOrder rules.now }
+    ensures { option_map (λ s. stored_in version s.now) result ≡ rule_numbered number (rules_at version rules.now) }
 {
     let stored = stored_at(rules, number)?;
     if stored.is_live(version) {
@@ -31,14 +44,14 @@ pub(crate) fn find_live(rules: &[StoredRule], version: u32, number: u32) -> Opti
 }
 
 fn is_beaten_by(rule: &StoredRule, other: &StoredRule) -> bool
-    ensures { result ≡ is_beaten (stored_view rule.now) (stored_view other.now) }
+    ensures { (v : ℕ) → result ≡ is_beaten (stored_in v rule.now) (stored_in v other.now) }
 {
     rule.rule.priority < other.rule.priority
         || (rule.rule.priority == other.rule.priority && other.rule.number < rule.rule.number)
 }
 
 fn better_of<'a>(rule: &'a StoredRule, best: Option<&'a StoredRule>) -> &'a StoredRule
-    ensures { better (stored_view rule.now) (option_map (λ s. stored_view s.now) best.entry) ≡ Some (stored_view result.now) }
+    ensures { (v : ℕ) → better (stored_in v rule.now) (option_map (λ s. stored_in v s.now) best.entry) ≡ Some (stored_in v result.now) }
 {
     match best {
         None => rule,
@@ -69,7 +82,7 @@ pub(crate) fn winner_of<'a>(
     table: u8,
     key: &Key,
 ) -> Option<&'a StoredRule>
-    ensures { option_map (λ s. stored_view s.now) result ≡ winner (rules_in table (rules_at version rules.now)) (numbers key.now) }
+    ensures { option_map (λ s. stored_in version s.now) result ≡ winner (rules_in table (rules_at version rules.now)) (numbers key.now) }
 {
     let mut best = None;
     'rules: for i in (0..rules.len()).rev() {

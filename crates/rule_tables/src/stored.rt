@@ -1,34 +1,44 @@
-ghost use Rattle.std.specs.Prelude.{◌≡◌, ◌<◌, ◌≤◌, ◌-◌, length, Option, Some, None};
-ghost use Rattle.std.specs.Option.{ForSome};
-ghost use Rattle.rule_tables.specs.Stored.{with_end};
+ghost use Rattle.std.specs.Prelude.{◌≡◌, ◌<◌, ◌≤◌, length, Option, Some, None};
+ghost use Rattle.std.specs.Option.{option_map, ForSome};
+ghost use Rattle.rule_tables.specs.Stored.{revision_in, with_end};
 
 use crate::actions::Actions;
 use crate::edit::Edit;
 use crate::rule::Rule;
+use spec_actions::OfAction;
+use std::alloc::Global;
 
-/// A rule with its actions and the end of its life.
+/// What an edit gave to a rule that was there: from its version on, the rule has this cookie and these actions.
+#[derive(Debug, Drop)]
+pub(crate) struct Revision {
+    pub(crate) version: u32,
+    pub(crate) cookie: u64,
+    pub(crate) actions: Actions,
+}
+
+/// A rule with its actions, its revisions, and the end of its life.
 #[derive(Debug, Drop)]
 pub(crate) struct StoredRule {
     pub(crate) rule: Rule,
+    /// Those of the edit that added it.
     pub(crate) actions: Actions,
+    /// What later edits gave to it, in the order of their versions.
+    pub(crate) revisions: Vec<Revision>,
     /// The first version without the rule, if there is one. Its first version is its number.
     pub(crate) gone: Option<u32>,
-    /// Whether the edit that added it names the table and the cookie, or leaves them to be 0.
-    pub(crate) names_table: bool,
-    pub(crate) names_cookie: bool,
 }
 
 impl StoredRule {
-    ghost use Rattle.spec_tables.specs.declared.edit_word.EditWord.TheVariants.{Add};
+    ghost use Rattle.std.specs.Prelude.{[]};
     ghost use Rattle.spec_tables.specs.Edits.{rule_of};
-    ghost use Rattle.rule_tables.specs.Stored.{edit_of, stored_view, is_alive};
+    ghost use Rattle.rule_tables.specs.Stored.{actions_in, cookie_in, stored_in, is_alive};
 
-    /// The rule that an edit adds, with these actions.
-    pub(crate) fn new(number: u32, edit: &Edit, actions: Actions) -> StoredRule
-        requires add { edit.now.word ≡ Add }
-        requires actions { actions ≡ edit.now.actions }
-        ensures edit { edit_of result ≡ edit.now }
-        ensures rule { stored_view result ≡ rule_of number edit.now }
+    /// The rule that an edit adds, with these actions. It takes no memory.
+    pub(crate) fn new(alloc: Global, number: u32, edit: &Edit, actions: Actions) -> StoredRule
+        requires { actions ≡ edit.now.actions }
+        ensures rule { stored_in number result ≡ rule_of number edit.now }
+        ensures number { result.rule.number ≡ number }
+        ensures revisions { result.revisions.items ≡ [] }
         ensures gone { result.gone ≡ None }
     {
         StoredRule {
@@ -40,9 +50,8 @@ impl StoredRule {
                 matching: edit.matching,
             },
             actions,
+            revisions: Vec::new(alloc),
             gone: None,
-            names_table: edit.table.is_some(),
-            names_cookie: edit.cookie.is_some(),
         }
     }
 
@@ -56,14 +65,47 @@ impl StoredRule {
                 Some(gone) => version < gone,
             }
     }
+
+    /// The cookie that the rule has in a version.
+    pub(crate) fn cookie_in(&self, version: u32) -> u64
+        ensures { result ≡ cookie_in version self.now }
+    {
+        match revision_in(&self.revisions, version) {
+            Some(revision) => revision.cookie,
+            None => self.rule.cookie,
+        }
+    }
+
+    /// The actions that the rule has in a version.
+    pub(crate) fn actions_in(&self, version: u32) -> &[OfAction]
+        ensures { result.now ≡ actions_in version self.now }
+    {
+        match revision_in(&self.revisions, version) {
+            Some(revision) => revision.actions.as_slice(),
+            None => self.actions.as_slice(),
+        }
+    }
 }
 
-/// Ends the life of the rule of a number, if there is one.
-pub(crate) fn end_rule(rules: &mut [StoredRule], number: Option<u32>, gone: u32)
-    requires { ForSome number (λ n. (0 < n) × (n ≤ length rules.old)) }
-    ensures { rules.new ≡ with_end number gone rules.old }
+/// The last of the revisions up to a version.
+fn revision_in(revisions: &[Revision], version: u32) -> Option<&Revision>
+    ensures { option_map (λ r. r.now) result ≡ revision_in version revisions.now }
 {
-    if let Some(number) = number {
-        rules[number as usize - 1].gone = Some(gone);
+    let mut last = None;
+    'revisions: for revision in revisions {
+        if revision.version <= version {
+            last = Some(revision);
+        }
+    }
+    last
+}
+
+/// Ends the life of the rule at a place, if there is one.
+pub(crate) fn end_rule(rules: &mut [StoredRule], place: Option<u32>, gone: u32)
+    requires { ForSome place (λ i. i < length rules.old) }
+    ensures { rules.new ≡ with_end place gone rules.old }
+{
+    if let Some(place) = place {
+        rules[place as usize].gone = Some(gone);
     }
 }

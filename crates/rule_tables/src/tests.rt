@@ -1,4 +1,5 @@
-ghost use Rattle.std.specs.Prelude.{◌≡◌, length, IfOk};
+ghost use Rattle.std.specs.Prelude.{◌≡◌, IfOk};
+ghost use Rattle.rule_tables.specs.History.{newest};
 ghost use Rattle.spec_tables.specs.declared.edit_word.EditWord.TheVariants.{Add};
 
 use crate::{Actions, Edit, EditWord, Match, OfAction, VersionedRules};
@@ -31,7 +32,7 @@ fn adding(
 
 /// Two versions: a rule, and another that replaces it.
 fn two_versions(alloc: Global) -> Result<VersionedRules, AllocError>
-    ensures { IfOk result (λ rules. length rules ≡ 2) }
+    ensures { IfOk result (λ rules. newest rules ≡ 2) }
 {
     let mut rules = VersionedRules::new(alloc);
     rules.apply(&adding(alloc, None, Some(7), 1)?)?;

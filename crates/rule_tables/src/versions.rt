@@ -1,16 +1,15 @@
-ghost use Rattle.std.specs.Prelude.{◌≡◌, ◌+◌, ◌-◌, ◌*◌, ◌<◌, ◌≤◌, ◌^◌, ◌↔◌, ℕ, [], ◌∷◌, ◌++◌, length, IsTrue, IsNone, IfSome, IfOk, OnOk, OnErr, Option, Some, None, is_some, if◌then◌else◌};
-ghost use Rattle.std.specs.Option.{option_map, ForSome};
+ghost use Rattle.std.specs.Prelude.{◌≡◌, ◌+◌, ◌<◌, ◌≤◌, ◌^◌, ◌↔◌, IsTrue, IsNone, IfSome, IfOk, OnOk, OnErr, Some, None, [], is_some, if◌then◌else◌};
+ghost use Rattle.std.specs.Option.{option_map};
 ghost use Rattle.spec_tables.specs.declared.edit_word.EditWord.TheVariants.{Add};
 ghost use Rattle.spec_tables.specs.Rules.{rules_in, winner};
-ghost use Rattle.spec_tables.specs.Edits.{version};
-ghost use Rattle.spec_tables.specs.Live.{is_live, rule_added, rule_numbered};
+ghost use Rattle.spec_tables.specs.Live.{is_live, rule_numbered};
 ghost use Rattle.ovs_fields.specs.Packed.{numbers};
 ghost use Rattle.rule_tables.specs.Added.{IsAdded};
-ghost use Rattle.rule_tables.specs.Changes.{changes_to};
+ghost use Rattle.rule_tables.specs.History.{newest, rules_of, added_as, edited_by};
 
 use crate::actions::Actions;
 use crate::edit::Edit;
-use crate::name::Name;
+use crate::identity::RuleIdentity;
 use crate::rule::Rule;
 use crate::search::{find_live, stored_at, winner_of};
 use crate::stored::{StoredRule, end_rule};
@@ -24,83 +23,88 @@ use std::marker::Model;
 #[derive(Drop)]
 pub struct VersionedRules {
     alloc: Global,
-    /// Every rule that was ever added, in the order of the numbers, which count from 1.
+    /// Every rule that was ever added, in the order of their numbers.
     rules: Vec<StoredRule>,
-    /// The number of the rule of each name in the last version.
-    numbers: HashMap<Name, u32>,
+    /// The place among these of the live rule of each identity.
+    places: HashMap<RuleIdentity, u32>,
+    /// The last version: how many edits were applied.
+    last: u32,
     changes: u64,
 }
 
 impl Model for VersionedRules {
-    ghost use Rattle.std.specs.Prelude.{List};
-    ghost use Rattle.spec_tables.specs.Edits.{Edit};
+    ghost use Rattle.rule_tables.specs.History.{History};
 
-    ghost Value = { List Edit };
+    ghost Value = { History };
 
-    ghost use Rattle.rule_tables.specs.Versions.{edits_in, IsVersioned};
+    ghost use Rattle.rule_tables.specs.Versions.{history_in, IsVersioned};
 
-    ghost view = { edits_in };
+    ghost view = { history_in };
 
     ghost invariant = { IsVersioned };
 }
 
 impl VersionedRules {
     ghost use Rattle.spec_tables.specs.Edits.{rule_of};
-    ghost use Rattle.rule_tables.specs.Stored.{edit_of, stored_view};
+    ghost use Rattle.rule_tables.specs.History.{no_edits};
+    ghost use Rattle.rule_tables.specs.Stored.{stored_in};
 
     /// No rules, and no version but version 0. It takes no memory.
     pub fn new(alloc: Global) -> VersionedRules
-        ensures { result ≡ [] }
+        ensures { result ≡ no_edits }
     {
         VersionedRules {
             alloc,
             rules: Vec::new(alloc),
-            numbers: HashMap::new(alloc),
+            places: HashMap::new(alloc),
+            last: 0,
             changes: 0,
         }
     }
 
     /// The last version, which is how many edits were applied.
     pub fn version(&self) -> u32
-        ensures { result ≡ length self.now }
+        ensures { result ≡ newest self.now }
     {
-        self.rules.len() as u32
+        self.last
     }
 
-    /// How many rules the edits added and removed; one that replaces a rule does both.
+    /// How many rules the edits added, gave actions to and removed; an add that replaces a rule counts twice.
     pub fn changes(&self) -> u64
-        ensures { result ≡ changes_to self.now (length self.now) }
+        ensures { result ≡ self.now.changes }
     {
         self.changes
     }
 
     /// Makes the next version, and answers it.
     ///
-    /// The only error is want of memory, and then nothing changed.
+    /// The only error is out of memory, and then nothing changed.
     pub fn apply(&mut self, edit: &Edit) -> Result<u32, AllocError>
         requires add { edit.now.word ≡ Add }
-        requires room { length self.old + 1 < 2 ^ 32 }
-        ensures edits { OnOk result (self.new ≡ self.old ++ edit.now ∷ []) }
-        ensures version { IfOk result (λ v. v ≡ length self.new) }
+        requires room { newest self.old + 1 < 2 ^ 32 }
+        ensures edited { OnOk result (self.new ≡ edited_by edit.now self.old) }
+        ensures version { IfOk result (λ v. v ≡ newest self.new) }
         ensures err { OnErr result (self.new ≡ self.old) }
     {
         let actions = Vec::from_slice(self.alloc, edit.actions.as_slice())?;
         let number = self.version() + 1;
-        self.add(StoredRule::new(number, edit, Actions::new(actions)))?;
+        let stored = StoredRule::new(self.alloc, number, edit, Actions::new(actions));
+        self.add(edit, stored)?;
         Ok(number)
     }
 
     /// The number of the rule that wins for a key in a table of a version.
     pub fn scan(&self, v: u32, table: u8, key: &Key) -> Option<u32>
-        requires { v ≤ length self.now }
-        ensures { result ≡ option_map (λ r. r.number) (winner (rules_in table (version self.now v)) (numbers key.now)) }
+        requires { v ≤ newest self.now }
+        ensures { result ≡ option_map (λ r. r.number) (winner (rules_in table (rules_of self.now v)) (numbers key.now)) }
     {
-        winner_of(&self.rules, v, table, key).map(|stored| stored.rule.number)
+        let stored = winner_of(&self.rules, v, table, key)?;
+        Some(stored.rule.number)
     }
 
-    /// The rule that the edit of a number added.
+    /// The rule that the edit of a number added, as it was added.
     pub fn rule(&self, number: u32) -> Option<&Rule>
-        ensures none { IsNone result ↔ (rule_added self.now number ≡ None) }
+        ensures none { IsNone result ↔ (added_as self.now number ≡ None) }
         ensures some { IfSome result (λ r. IsAdded self.now number r.now) }
     {
         let stored = stored_at(&self.rules, number)?;
@@ -109,55 +113,61 @@ impl VersionedRules {
 
     /// Whether the rule of a number is live in a version.
     pub fn live(&self, v: u32, number: u32) -> bool
-        requires { v ≤ length self.now }
-        ensures { result ≡ is_live number (version self.now v) }
+        requires { v ≤ newest self.now }
+        ensures { result ≡ is_live number (rules_of self.now v) }
     {
         find_live(&self.rules, v, number).is_some()
     }
 
     /// The cookie that a live rule has in a version.
     pub fn cookie(&self, v: u32, number: u32) -> u64
-        requires made { v ≤ length self.now }
-        requires live { IsTrue (is_live number (version self.now v)) }
-        ensures { option_map (λ r. r.cookie) (rule_numbered number (version self.now v)) ≡ Some result }
+        requires made { v ≤ newest self.now }
+        requires live { IsTrue (is_live number (rules_of self.now v)) }
+        ensures { option_map (λ r. r.cookie) (rule_numbered number (rules_of self.now v)) ≡ Some result }
     {
         match find_live(&self.rules, v, number) {
-            Some(stored) => stored.rule.cookie,
+            Some(stored) => stored.cookie_in(v),
             None => unreachable!(),
         }
     }
 
     /// The actions that a live rule has in a version.
     pub fn actions(&self, v: u32, number: u32) -> &[OfAction]
-        requires made { v ≤ length self.now }
-        requires live { IsTrue (is_live number (version self.now v)) }
-        ensures { option_map (λ r. r.actions) (rule_numbered number (version self.now v)) ≡ Some result.now }
+        requires made { v ≤ newest self.now }
+        requires live { IsTrue (is_live number (rules_of self.now v)) }
+        ensures { option_map (λ r. r.actions) (rule_numbered number (rules_of self.now v)) ≡ Some result.now }
     {
         match find_live(&self.rules, v, number) {
-            Some(stored) => stored.actions.as_slice(),
+            Some(stored) => stored.actions_in(v),
             None => unreachable!(),
         }
     }
 
-    /// Adds a rule, and ends the life of the one whose name it has.
-    fn add(&mut self, stored: StoredRule) -> Result<(), AllocError>
-        requires room { length self.old + 1 < 2 ^ 32 }
+    /// Adds the rule of an edit, and ends the life of the one whose identity it has.
+    fn add(&mut self, edit: &Edit, stored: StoredRule) -> Result<(), AllocError>
+        requires add { edit.now.word ≡ Add }
+        requires room { newest self.old + 1 < 2 ^ 32 }
         requires on { stored.gone ≡ None }
-        requires rule { rule_of (length self.old + 1) (edit_of stored) ≡ stored_view stored }
-        ensures edits { OnOk result (self.new ≡ self.old ++ edit_of stored ∷ []) }
+        requires unrevised { stored.revisions.items ≡ [] }
+        requires number { stored.rule.number ≡ newest self.old + 1 }
+        requires rule { stored_in stored.rule.number stored ≡ rule_of stored.rule.number edit.now }
+        ensures edited { OnOk result (self.new ≡ edited_by edit.now self.old) }
         ensures err { OnErr result (self.new ≡ self.old) }
     {
+        let _ = edit;
         self.rules.reserve(1)?;
+        let place = self.rules.len() as u32;
         let number = stored.rule.number;
-        let replaced = self.numbers.insert(Name::of(&stored.rule), number)?;
+        let replaced = self.places.insert(RuleIdentity::of(&stored.rule), place)?;
         self.rules.push(stored)?;
         end_rule(&mut self.rules, replaced, number);
+        self.last = number;
         self.changes += count_changes(replaced);
         Ok(())
     }
 }
 
-/// How many rules an edit adds and removes that adds one in place of the one of this number, if there is one.
+/// How many rules an edit changes that adds one, in place of the one at a place if there is one.
 fn count_changes(replaced: Option<u32>) -> u64
     ensures { result ≡ (if is_some replaced then 2 else 1) }
 {

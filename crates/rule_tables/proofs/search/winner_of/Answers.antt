@@ -9,7 +9,7 @@ rules-init c = winner_past c.args.version c.args.table (numbers c.args.key.now) 
 pub rules-preserved-then-is_candidate : goal.rules-preserved-then-is_candidate
 rules-preserved-then-is_candidate c =
     candidate_wins c.args.version c.args.table (numbers c.args.key.now) c.args.rules.now c.rules.i _ _ _ (omega arith) (omega arith) c.index-rules-i.is
-    (sym c.is_candidate.ensures ∙ c.if-is_candidate.true) c.rules.invariant c.better_of.ensures
+    (sym c.is_candidate.ensures ∙ c.if-is_candidate.true) c.rules.invariant (c.better_of.ensures c.args.version)
 
 pub rules-preserved : goal.rules-preserved
 rules-preserved c =

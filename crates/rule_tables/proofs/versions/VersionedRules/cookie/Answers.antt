@@ -1,10 +1,18 @@
-use Rattle.rule_tables.proofs.Numbered.{numbers_in, rules_in_version, not_live}
+use Rattle.std.proofs.Common.{Some, sym, ap, ◌∙◌}
+use Rattle.std.specs.Option.{option_map}
+use Rattle.spec_tables.specs.Live.{rule_numbered}
+use Rattle.rule_tables.proofs.Numbered.{not_live}
+use Rattle.rule_tables.proofs.Seen.{in_order_there, seen_rules}
 use Rattle.rule_tables.proofs.versions.VersionedRules.cookie.Goals as goal
 
 pub find_live-requires : goal.find_live-requires
-find_live-requires c = numbers_in c.self.inside.rules.items c.deref.result.now _ _ c.deref.ensures.value c.self.invariant
+find_live-requires c = in_order_there c.self.inside.rules.items c.deref.result.now c.deref.ensures.value c.self.invariant.in_order
 
 pub unreachable-requires : goal.unreachable-requires
 unreachable-requires c =
-    not_live c.args.number _ _ c.in-None.ensures
-    (rules_in_version c.self.inside.rules.items c.deref.result.now _ _ c.args.self.now c.args.v c.deref.ensures.value c.self.invariant c.self.view_is c.requires.made) c.requires.live
+    not_live c.args.number _ (c.in-None.ensures ∙ ap (rule_numbered c.args.number) (seen_rules c.self.inside.rules.items c.deref.result.now c.self.inside.last c.self.inside.changes c.args.self.now c.deref.ensures.value c.self.view_is c.args.v c.requires.made)) c.requires.live
+
+pub returns : goal.returns
+returns c =
+    ap (option_map (λ r. r.cookie)) (ap (rule_numbered c.args.number) (sym (seen_rules c.self.inside.rules.items c.deref.result.now c.self.inside.last c.self.inside.changes c.args.self.now c.deref.ensures.value c.self.view_is c.args.v c.requires.made)) ∙ sym c.in-Some.ensures)
+    ∙ ap (λ x. Some x) (sym c.cookie_in.ensures)

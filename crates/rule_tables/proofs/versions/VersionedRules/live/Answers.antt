@@ -1,12 +1,14 @@
-use Rattle.std.proofs.Common.{◌∙◌}
-use Rattle.rule_tables.specs.Stored.{stored_view}
-use Rattle.rule_tables.proofs.Numbered.{numbers_in, rules_in_version, live_if_found}
+use Rattle.std.proofs.Common.{ap, ◌∙◌}
+use Rattle.spec_tables.specs.Live.{is_live}
+use Rattle.rule_tables.specs.Stored.{stored_in}
+use Rattle.rule_tables.proofs.Numbered.{live_if_found}
+use Rattle.rule_tables.proofs.Seen.{in_order_there, seen_rules}
 use Rattle.rule_tables.proofs.versions.VersionedRules.live.Goals as goal
 
 pub find_live-requires : goal.find_live-requires
-find_live-requires c = numbers_in c.self.inside.rules.items c.deref.result.now _ _ c.deref.ensures.value c.self.invariant
+find_live-requires c = in_order_there c.self.inside.rules.items c.deref.result.now c.deref.ensures.value c.self.invariant.in_order
 
 pub returns : goal.returns
 returns c =
-    c.is_some.ensures ∙ live_if_found (λ s. stored_view s.now) c.find_live.result c.args.number _ _ c.find_live.ensures
-    (rules_in_version c.self.inside.rules.items c.deref.result.now _ _ c.args.self.now c.args.v c.deref.ensures.value c.self.invariant c.self.view_is c.requires)
+    c.is_some.ensures ∙ live_if_found (λ s. stored_in c.args.v s.now) c.find_live.result c.args.number _ c.find_live.ensures
+    ∙ ap (is_live c.args.number) (seen_rules c.self.inside.rules.items c.deref.result.now c.self.inside.last c.self.inside.changes c.args.self.now c.deref.ensures.value c.self.view_is c.args.v c.requires)
