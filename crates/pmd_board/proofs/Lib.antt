@@ -1,4 +1,2 @@
-pub mod Facts
-pub mod Bare
-pub mod Once
+pub mod NamedLists
 pub mod Steps

@@ -1,217 +1,147 @@
 -- One more step of a board.
-use Rattle.std.proofs.Common.{◌≡◌, ℕ, zero, suc, ◌+◌, ◌-◌, ◌≤◌, max, true, false, if◌then◌else◌, List, [], ◌∷◌, ◌++◌, map, length, length-append, slice_index_or, slice_set, replicate, count_by, All, refl, sym, ap, ◌∙◌, subst, arith}
-use Rattle.std.proofs.lemmas.List.Sums.{fold-append, sum_by-set, sum_by-cons}
-use Rattle.std.proofs.lemmas.List.{map-append, map-set, get_or_append_left}
-use Rattle.std.proofs.lemmas.List.Elements.{All-tail, All-set, All-replicate}
-use Rattle.std.proofs.Math.Seq.{get_or-append_seam}
+use Rattle.std.proofs.Common.{◌≡◌, ℕ, ◌+◌, ◌<◌, ◌≤◌, List, [], ◌∷◌, ◌++◌, length, All, ◌⊎◌, inl, inr, refl, sym, ap, ◌∙◌, subst, arith}
+use Rattle.std.proofs.lemmas.List.{map-append, nil_from_length}
+use Rattle.std.proofs.lemmas.Bool.{cases_lt}
+use Rattle.spec_keys.specs.Keys.{IsKey}
 use Rattle.spec_actions.specs.declared.action.DpAction.{DpAction}
-use Rattle.spec_base.specs.Machine as machine
-use Rattle.spec_case.specs.Run.{Run, frames_of}
+use Rattle.spec_case.specs.Run.{Run, last_version}
 use Rattle.spec_case.specs.Blocks.{AreInOrder}
 use Rattle.spec_board.specs.declared.looked.Looked.TheVariants.{Miss}
-use Rattle.spec_board.specs.Steps.{Step, Open, Look, Settle, Begin, End, Full}
-use Rattle.spec_board.specs.State.{State, Place, Waiting, Pending, Decided, place_at, is_pending}
-use Rattle.spec_board.specs.Results.{key_at, translated}
+use Rattle.spec_board.specs.Steps.{Step, Full}
+use Rattle.spec_board.specs.State.{Entry, State, Decided, place_at, is_decided}
+use Rattle.spec_board.specs.Results.{key_at, numbers_of, looked, settled}
 use Rattle.spec_board.specs.Effects.{effect}
 use Rattle.spec_board.specs.Journals.{Legal, IsLegal, opened, after}
+use Rattle.translation_laws.proofs.MemberLaws.{Among}
+use Rattle.board_laws.specs.Entries.{HasKeys}
+use Rattle.board_laws.proofs.Journals.{after_step, legal_step}
+use Rattle.board_laws.proofs.Kept.{kept_after}
+use Rattle.board_laws.proofs.Looked.{next_after}
+use Rattle.board_laws.proofs.Once.{decided_in}
+use Rattle.board_laws.proofs.Stated.{few_entries, look_misses, places_after, versions_after}
 use Rattle.run_case.specs.Places.{HasPort}
 use Rattle.pmd_board.specs.declared.step.Step as rust
-use Rattle.pmd_board.specs.declared.place.Place as rust_places
-use Rattle.pmd_board.specs.declared.place.Place.TheVariants as rust_place
+use Rattle.pmd_board.specs.declared.board.Board.TheInside.{Inside}
 use Rattle.pmd_board.specs.StepViews.{step_view, steps_view}
-use Rattle.pmd_board.specs.Shown.{Shown, Appends, state_of, with_step}
-use Rattle.pmd_board.specs.Fields.{Fields, AreOf, Keeps, NamesList, place_view}
-use Rattle.pmd_board.proofs.Facts.{at, at_there, pending_from, pending_upto}
-use Rattle.pmd_board.proofs.Bare.{bare_keeps, bare_opened}
+use Rattle.pmd_board.specs.BoardView.{BoardView, Appends, IsDecision, state_of, with_step}
+use Rattle.pmd_board.specs.Fields.{view_of, AreVersionsOf, ArePlacesOf, NamesList, AreBounds, HasRoom, IsLawful, IsKept}
 
--- the state behind one more step
-pub after_step : (run : Run) (port : ℕ) (steps : List Step) (step : Step) → after run port (steps ++ step ∷ []) ≡ effect run port (after run port steps) step
-after_step run port steps step = fold-append (effect run port) (opened run port) steps (step ∷ [])
+-- ---- boards that may have no entries
 
-legal_from : (run : Run) (port limit : ℕ) (s : State) (steps : List Step) (step : Step) → machine.IsLegal (Legal run port limit) (effect run port) s steps → Legal run port limit (machine.after (effect run port) s steps) step
-    → machine.IsLegal (Legal run port limit) (effect run port) s (steps ++ step ∷ [])
-legal_from run port limit s [] step legal last = (last, tt)
-legal_from run port limit s (x ∷ steps) step legal last = (legal.0, legal_from run port limit (effect run port s x) steps step legal.1 last)
+no_entries : (run : Run) (port : ℕ) (steps : List Step) → IsLegal run port 0 steps → (after run port steps).entries ≡ []
+no_entries run port steps legal = nil_from_length (after run port steps).entries (omega (arith, few_entries run port 0 steps legal))
 
--- a legal journal with one more step that is legal is legal
-pub legal_step : (run : Run) (port limit : ℕ) (steps : List Step) (step : Step) → IsLegal run port limit steps → Legal run port limit (after run port steps) step → IsLegal run port limit (steps ++ step ∷ [])
-legal_step run port limit steps step legal last = legal_from run port limit (opened run port) steps step legal last
+none_listed : (run : Run) (port : ℕ) (steps : List Step) → IsLegal run port 0 steps → (after run port steps).listed ≡ []
+none_listed run port steps legal = at (after run port steps).listed live
+  where
+    live : (n : ℕ) → Among n (after run port steps).listed → ⊥
+    live n a =
+        subst (λ (es : List Entry). Among n (numbers_of es)) (no_entries run port steps legal)
+        ((kept_after run port 0 steps legal).listed.live n a)
 
--- what a board keeps, with one more step and the fields that it leads to
-pub keeps_step : (run : Run) (port : ℕ) (steps : List Step) (step : Step) (f g : Fields) → Keeps run port steps f → Legal run port 0 (after run port steps) step
-    → AreOf g (effect run port (after run port steps) step) → Keeps run port (steps ++ step ∷ []) g
-keeps_step run port steps step f g k legal fields = record {
-  has_port = k.has_port;
-  in_order = k.in_order;
-  legal = legal_step run port 0 steps step k.legal legal;
-  bare = rw (after_step run port steps step) (bare_keeps run port k.in_order (after run port steps) k.bare step legal);
-  fields = rw (after_step run port steps step) fields;
+    at : (ns : List ℕ) → ((n : ℕ) → Among n ns → ⊥) → ns ≡ []
+    at [] none = refl
+    at (n ∷ ns) none = absurd (none n (inl refl))
+
+lawful_after : (run : Run) (port : ℕ) (steps : List Step) → AreInOrder run.syncs (last_version run) → IsLegal run port 0 steps
+    → IsLawful run port (after run port steps)
+lawful_after run port steps in_order legal = record {
+  versions = versions_after run port 0 steps in_order legal;
+  places = places_after run port 0 steps legal;
+  next_within = next_after run port 0 steps in_order legal;
+  no_entries = no_entries run port steps legal;
+  none_listed = none_listed run port steps legal;
 }
 
--- the state of a board with one more step
-pub state_behind : (run : Run) (a b : Shown) (step : Step) → Appends run a step b → state_of run b ≡ effect run a.port (state_of run a) step
-state_behind run a b step appends = ap (state_of run) appends.appended ∙ after_step run a.port a.journal step
+-- a place more was looked up, whose frame has a key
+pub key_looked_up : (run : Run) (port next : ℕ) → HasKeys run port next → (place : ℕ) → place ≡ next → IsKey (key_at run port place)
+    → HasKeys run port (next + 1)
+key_looked_up run port next keys place turn has other first last = at (cases_lt other next)
+  where
+    at : (other < next) ⊎ (next ≤ other) → IsKey (key_at run port other)
+    at (inl before) = keys other first before
+    at (inr this) = subst (λ i. IsKey (key_at run port i)) (let e : place ≡ other = omega (arith, turn, this, last) in e) has
 
--- ---- what each step does to the fields
+-- without entries a look misses, and a settle finds the limit reached
+pub missed : (run : Run) (port : ℕ) (steps : List Step) → IsLegal run port 0 steps → (key : List ℕ) → looked key (after run port steps) ≡ Miss
+missed run port steps legal key = (look_misses run port 0 steps legal key).1 (rw (no_entries run port steps legal) refl)
+
+pub full : (run : Run) (key : List ℕ) (v : ℕ) (s : State) → s.entries ≡ [] → settled run 0 key v s ≡ Full
+full run key v s none = rw none refl
+
+-- ---- journals with one more step
+
+-- the state of a board with one more step
+pub state_after : (run : Run) (a b : BoardView) (step : Step) → Appends run a step b → state_of run b ≡ effect run a.port (state_of run a) step
+state_after run a b step appends = ap (state_of run) appends.appended ∙ after_step run a.port a.journal step
 
 steps_pushed : (steps items : List rust.Step) (step : rust.Step) → items ≡ steps ++ step ∷ [] → steps_view items ≡ steps_view steps ++ step_view step ∷ []
 steps_pushed steps items step is = ap steps_view is ∙ map-append step_view steps (step ∷ [])
 
--- one more step pushed onto the list of steps
-pub keeps_pushed : (run : Run) (port : ℕ) (steps items : List rust.Step) (step : rust.Step) (f g : Fields) → items ≡ steps ++ step ∷ [] → Keeps run port (steps_view steps) f
-    → Legal run port 0 (after run port (steps_view steps)) (step_view step) → AreOf g (effect run port (after run port (steps_view steps)) (step_view step)) → Keeps run port (steps_view items) g
-keeps_pushed run port steps items step f g is k legal fields =
-    subst (λ x. Keeps run port x g) (sym (steps_pushed steps items step is)) (keeps_step run port (steps_view steps) (step_view step) f g k legal fields)
-
-counts_written : (places : List Place) (place : ℕ) (p : Place) → 1 ≤ place → place ≤ length places
-    → count_by is_pending (slice_set places (place - 1) p) + (if is_pending (at place places) then 1 else 0) ≡ count_by is_pending places + (if is_pending p then 1 else 0)
-counts_written places place p first last =
-    ap (λ x. count_by is_pending (slice_set places (place - 1) p) + (if is_pending x then 1 else 0)) (at_there places place first)
-    ∙ sum_by-set (λ x. if is_pending x then 1 else 0) places (place - 1) p Waiting (omega (arith, first, last))
-
-pub pending_written : (places : List Place) (place : ℕ) → 1 ≤ place → place ≤ length places → at place places ≡ Waiting → count_by is_pending (slice_set places (place - 1) Pending) ≡ count_by is_pending places + 1
-pending_written places place first last waits =
-    let c = counts_written places place Pending first last in
-    let d = subst (λ x. count_by is_pending (slice_set places (place - 1) Pending) + (if is_pending x then 1 else 0) ≡ count_by is_pending places + 1) waits c in omega (arith, d)
-
-pub decided_written : (places : List Place) (place v : ℕ) (actions : List DpAction) → is_pending (at place places) ≡ true → count_by is_pending (slice_set places (place - 1) (Decided v actions)) + 1 ≡ count_by is_pending places
-decided_written places place v actions pends =
-    let c = counts_written places place (Decided v actions) (pending_from places place pends) (pending_upto places place pends) in
-    let d = subst (λ t. count_by is_pending (slice_set places (place - 1) (Decided v actions)) + (if t then 1 else 0) ≡ count_by is_pending places + 0) pends c in omega (arith, d)
-
 -- the view of a board whose list of steps has one more
-pub view_pushed : (port : ℕ) (steps items : List rust.Step) (step : rust.Step) (b : Shown) → items ≡ steps ++ step ∷ [] → record { port = port; flow_limit = 0; journal = steps_view steps } ≡ b
+pub view_pushed : (port : ℕ) (steps items : List rust.Step) (step : rust.Step) (b : BoardView) → items ≡ steps ++ step ∷ []
+    → record { port = port; flow_limit = 0; journal = steps_view steps } ≡ b
     → record { port = port; flow_limit = 0; journal = steps_view items } ≡ with_step (step_view step) b
 view_pushed port steps items step b is view =
-    let journal : List Step → Shown = λ j. record { port = port; flow_limit = 0; journal = j } in
+    let journal : List Step → BoardView = λ j. record { port = port; flow_limit = 0; journal = j } in
     ap journal (steps_pushed steps items step is) ∙ ap (with_step (step_view step)) view
 
-pub open_fields : (run : Run) (port block : ℕ) (f : Fields) (s : State) → AreOf f s → AreOf (record f { block = block }) (effect run port s (Open block))
-open_fields run port block f s k = record {
-  block = refl;
-  newest = k.newest;
-  floor = k.floor;
-  done = k.done;
-  is_sweeping = k.is_sweeping;
-  next = k.next;
-  pending = k.pending;
-  places = k.places;
-}
+-- A board c keeps what it has to, if it is b with one more step in its journal, and its fields fit that step.
+pub pushed : {X : Type 0} (run : Run) (b c : Inside X) (step : rust.Step) → IsKept run b
+    → c.port ≡ b.port → c.blocks ≡ b.blocks → c.journal.items ≡ b.journal.items ++ step ∷ []
+    → Legal run b.port 0 (state_of run (view_of b)) (step_view step)
+    → HasKeys run b.port (effect run b.port (state_of run (view_of b)) (step_view step)).next
+    → AreVersionsOf c (effect run b.port (state_of run (view_of b)) (step_view step))
+    → ArePlacesOf c (effect run b.port (state_of run (view_of b)) (step_view step))
+    → All (NamesList (length c.lists.items)) c.places.items → HasRoom run c → IsKept run c
+pushed run b c step k port blocks is legal keys versions places named room =
+    let steps = steps_view b.journal.items in
+    let longer = steps_pushed b.journal.items c.journal.items step is in
+    let state : state_of run (view_of c) ≡ effect run b.port (state_of run (view_of b)) (step_view step) =
+    ap (after run c.port) longer ∙ ap (λ p. after run p (steps ++ step_view step ∷ [])) port ∙ after_step run b.port steps (step_view step) in
+    let legal_now : IsLegal run c.port 0 (steps_view c.journal.items) =
+    rw (port, longer) (legal_step run b.port 0 steps (step_view step) k.legal legal) in
+    record {
+      has_port = rw port k.has_port;
+      in_order = k.in_order;
+      legal = legal_now;
+      has_keys = rw (state, port) keys;
+      lawful = lawful_after run c.port (steps_view c.journal.items) k.in_order legal_now;
+      versions = rw state versions;
+      places = rw state places;
+      named = named;
+      bounds = rw (port, blocks) k.bounds;
+      room = room;
+    }
 
-pub miss_fields : (run : Run) (port place : ℕ) (f : Fields) (s : State) → AreOf f s → 1 ≤ place → place ≤ length s.places → place_at place s ≡ Waiting
-    → AreOf (record f { next = f.next + 1; pending = f.pending + 1; places = slice_set f.places (place - 1) Pending }) (effect run port s (Look place Miss))
-miss_fields run port place f s k first last waits = record {
-  block = k.block;
-  newest = k.newest;
-  floor = k.floor;
-  done = k.done;
-  is_sweeping = k.is_sweeping;
-  next = ap (λ n. n + 1) k.next;
-  pending = pending_written s.places place first last waits ∙ ap (λ n. n + 1) k.pending;
-  places = ap (λ ps. slice_set ps (place - 1) Pending) k.places;
-}
+-- A new board keeps what it has to.
+pub opened_keeps : {X : Type 0} (run : Run) (b : Inside X) → HasPort run.ports b.port → AreInOrder run.syncs (last_version run)
+    → b.journal.items ≡ [] → AreVersionsOf b (opened run b.port) → ArePlacesOf b (opened run b.port)
+    → All (NamesList (length b.lists.items)) b.places.items → AreBounds run b.port b.blocks.items → HasRoom run b → IsKept run b
+opened_keeps run b has_port in_order none versions places named bounds room =
+    let empty = ap steps_view none in
+    let state : state_of run (view_of b) ≡ opened run b.port = ap (after run b.port) empty in
+    let legal : IsLegal run b.port 0 (steps_view b.journal.items) = subst (IsLegal run b.port 0) (sym empty) tt in
+    record {
+      has_port = has_port;
+      in_order = in_order;
+      legal = legal;
+      has_keys = rw state (λ place first last. absurd (omega (arith, first, last)));
+      lawful = lawful_after run b.port (steps_view b.journal.items) in_order legal;
+      versions = rw state versions;
+      places = rw state places;
+      named = named;
+      bounds = bounds;
+      room = room;
+    }
 
-pub full_fields : (run : Run) (port place v : ℕ) (f : Fields) (s : State) → AreOf f s → is_pending (place_at place s) ≡ true
-    → AreOf (record f { newest = max f.newest v; pending = f.pending - 1; places = slice_set f.places (place - 1) (Decided v (translated run v (key_at run port place)).actions) }) (effect run port s (Settle place v Full))
-full_fields run port place v f s k pends = let actions = (translated run v (key_at run port place)).actions in record {
-  block = k.block;
-  newest = ap (λ n. max n v) k.newest;
-  floor = k.floor;
-  done = k.done;
-  is_sweeping = k.is_sweeping;
-  next = k.next;
-  pending = (let d = decided_written s.places place v actions pends in let e = k.pending in omega (arith, d, e));
-  places = ap (λ ps. slice_set ps (place - 1) (Decided v actions)) k.places;
-}
+-- ---- decisions
 
-pub begin_fields : (run : Run) (port v : ℕ) (f : Fields) (s : State) → AreOf f s → AreOf (record f { newest = max f.newest v; floor = max f.floor v; is_sweeping = true }) (effect run port s (Begin v))
-begin_fields run port v f s k = record {
-  block = k.block;
-  newest = ap (λ n. max n v) k.newest;
-  floor = ap (λ n. max n v) k.floor;
-  done = k.done;
-  is_sweeping = refl;
-  next = k.next;
-  pending = k.pending;
-  places = k.places;
-}
-
-pub end_fields : (run : Run) (port : ℕ) (f : Fields) (s : State) → AreOf f s → AreOf (record f { done = f.floor; is_sweeping = false }) (effect run port s End)
-end_fields run port f s k = record {
-  block = k.block;
-  newest = k.newest;
-  floor = k.floor;
-  done = k.floor;
-  is_sweeping = refl;
-  next = k.next;
-  pending = k.pending;
-  places = k.places;
-}
-
--- ---- lists of actions
-
--- a list more changes no place that names one of those before
-view_grown : (lists : List (List DpAction)) (list : List DpAction) (p : rust_places.Place) → NamesList (length lists) p → place_view (lists ++ list ∷ []) p ≡ place_view lists p
-view_grown lists list rust_place.Waiting there = refl
-view_grown lists list rust_place.Pending there = refl
-view_grown lists list (rust_place.Decided v n) there = ap (Decided v) (get_or_append_left lists (list ∷ []) [] n there)
-
-pub views_grown : (lists : List (List DpAction)) (list : List DpAction) (places : List rust_places.Place) → All (NamesList (length lists)) places → map (place_view (lists ++ list ∷ [])) places ≡ map (place_view lists) places
-views_grown lists list [] there = refl
-views_grown lists list (p ∷ places) there =
-    let first = view_grown lists list p (there 0 p (omega arith)) in
-    let others = views_grown lists list places (All-tail (NamesList (length lists)) p places there) in
-    ap (λ v. v ∷ map (place_view (lists ++ list ∷ [])) places) first ∙ ap (λ vs. place_view lists p ∷ vs) others
-
--- a place that names one of these lists names one of more
-pub names_grown : (lists : List (List DpAction)) (list : List DpAction) (p : rust_places.Place) → NamesList (length lists) p → NamesList (length (lists ++ list ∷ [])) p
-names_grown lists list rust_place.Waiting there = there
-names_grown lists list rust_place.Pending there = there
-names_grown lists list (rust_place.Decided v n) there = omega (arith, there, length-append lists (list ∷ []))
-
--- a place that is decided by a list behind those before
-pub views_decided : (lists grown : List (List DpAction)) (list : List DpAction) (places : List rust_places.Place) (place v n : ℕ) → grown ≡ lists ++ list ∷ [] → n ≡ length lists → All (NamesList (length lists)) places
-    → map (place_view grown) (slice_set places (place - 1) (rust_place.Decided v n)) ≡ slice_set (map (place_view lists) places) (place - 1) (Decided v list)
-views_decided lists grown list places place v n is last there =
-    map-set (place_view grown) places (place - 1) (rust_place.Decided v n)
-    ∙ ap (λ l. slice_set (map (place_view grown) places) (place - 1) (Decided v l)) (rw (is, last) (get_or-append_seam lists list [] []))
-    ∙ ap (λ ps. slice_set ps (place - 1) (Decided v list)) (rw is (views_grown lists list places there))
-
-pub names_decided : (lists grown : List (List DpAction)) (list : List DpAction) (places : List rust_places.Place) (place v n : ℕ) → grown ≡ lists ++ list ∷ [] → n ≡ length lists → All (NamesList (length lists)) places
-    → All (NamesList (length grown)) (slice_set places (place - 1) (rust_place.Decided v n))
-names_decided lists grown list places place v n is last there =
-    let longer : length grown ≡ length lists + 1 = ap length is ∙ length-append lists (list ∷ []) in
-    All-set (NamesList (length grown)) places (place - 1) (rust_place.Decided v n) (omega (arith, longer, last))
-    (λ k d within. subst (λ l. NamesList (length l) (slice_index_or places k d)) (sym is) (names_grown lists list (slice_index_or places k d) (there k d within)))
-
--- ---- a new board
-
-none_pending_yet : (n : ℕ) → count_by is_pending (replicate n Waiting) ≡ 0
-none_pending_yet zero = refl
-none_pending_yet (suc n) = sum_by-cons (λ p. if is_pending p then 1 else 0) Waiting (replicate n Waiting) ∙ (let e = none_pending_yet n in omega (arith, e))
-
-waits_alike : (n : ℕ) → map (place_view []) (replicate n rust_place.Waiting) ≡ replicate n Waiting
-waits_alike zero = refl
-waits_alike (suc n) = ap (λ ps. Waiting ∷ ps) (waits_alike n)
-
-pub keeps_opened : (run : Run) (port : ℕ) → HasPort run.ports port → AreInOrder run.syncs (length run.edits)
-    → Keeps run port [] (record { block = 0; newest = 0; floor = 0; done = 0; is_sweeping = false; next = 1; pending = 0; places = map (place_view []) (replicate (length (frames_of run port)) rust_place.Waiting) })
-keeps_opened run port has in_order = let n = length (frames_of run port) in record {
-  has_port = has;
-  in_order = in_order;
-  legal = tt;
-  bare = bare_opened run port;
-  fields = record {
-    block = refl;
-    newest = refl;
-    floor = refl;
-    done = refl;
-    is_sweeping = refl;
-    next = refl;
-    pending = none_pending_yet n;
-    places = sym (waits_alike n);
-  };
-}
-
-pub names_none : (n count : ℕ) → All (NamesList count) (replicate n rust_place.Waiting)
-names_none n count = All-replicate (NamesList count) n rust_place.Waiting tt
+-- what a legal journal decided of a frame, by what it has at its place
+pub decision_in : (run : Run) (port : ℕ) (steps : List Step) → AreInOrder run.syncs (last_version run) → HasKeys run port (after run port steps).next
+    → IsLegal run port 0 steps → (place v : ℕ) (actions : List DpAction) → place_at place (after run port steps) ≡ Decided v actions
+    → IsDecision run (record { port = port; flow_limit = 0; journal = steps }) place v actions
+decision_in run port steps in_order keys legal place v actions at =
+    let d = decided_in run port place 0 in_order steps legal keys (ap is_decided at) in
+    let same : Decided v actions ≡ Decided d.0.decision.version d.0.decision.actions = sym at ∙ d.1 in
+    record { decided = d.0; version_is = cc same; actions_are = cc same }

@@ -1,16 +1,34 @@
--- How a board keeps the state that its journal leads to.
-use Rattle.std.specs.Prelude.{◌≡◌, ℕ, ◌+◌, ◌-◌, ◌<◌, ◌≤◌, Bool, true, false, if◌then◌else◌, List, [], length, slice_get, slice_index_or, Some}
+-- What a board's type keeps: its journal is legal, and its fields are those of the state that the journal leads to.
+use Rattle.std.specs.Prelude.{◌≡◌, ℕ, ◌+◌, ◌-◌, ◌^◌, ◌<◌, ◌≤◌, Bool, if◌then◌else◌, List, [], All, length, map, slice_get, slice_index_or, Some}
+use Rattle.std.specs.Vec.{vec_len, vec_capacity}
 use Rattle.spec_actions.specs.declared.action.DpAction.{DpAction}
-use Rattle.spec_case.specs.Run.{Run}
+use Rattle.spec_case.specs.Run.{Run, last_version, frames_of}
 use Rattle.spec_case.specs.Blocks.{AreInOrder, hi, last_block, last_place}
-use Rattle.spec_board.specs.Steps.{Step}
 use Rattle.spec_board.specs.State as states
-use Rattle.spec_board.specs.Journals.{IsLegal, after}
+use Rattle.spec_board.specs.Journals.{IsLegal}
+use Rattle.board_laws.specs.Entries.{HasKeys}
+use Rattle.board_laws.specs.Versions.{HasVersionsInOrder}
+use Rattle.board_laws.specs.Places.{ArePlaces}
 use Rattle.run_case.specs.Places.{HasPort}
-use Rattle.pmd_board.specs.Bare.{IsBare}
+use Rattle.pmd_board.specs.BoardView.{BoardView, state_of}
+use Rattle.pmd_board.specs.StepViews.{steps_view}
 use Rattle.pmd_board.specs.declared.place.Place.{Place}
 use Rattle.pmd_board.specs.declared.place.Place.TheVariants.{Waiting, Pending, Decided}
 use Rattle.pmd_board.specs.declared.place.BlockBounds.{BlockBounds}
+use Rattle.pmd_board.specs.declared.board.Board.TheInside.{Inside}
+
+abbrev pub view_of : {X : Type 0} → Inside X → BoardView
+view_of b = record { port = b.port; flow_limit = 0; journal = steps_view b.journal.items }
+
+-- ---- parts of the state
+
+-- The block and the versions are those of a state.
+pub record AreVersionsOf {X : Type 0} (b : Inside X) (s : states.State) : Type 0 where
+  pub block : s.block ≡ b.block
+  pub newest : s.newest ≡ b.newest
+  pub floor : s.floor ≡ b.floor
+  pub done : s.done ≡ b.done
+  pub is_sweeping : s.is_sweeping ≡ b.sweeping
 
 -- a place, with its actions where it is decided
 abbrev pub place_view : List (List DpAction) → Place → states.Place
@@ -24,47 +42,53 @@ NamesList count Waiting = Unit {0}
 NamesList count Pending = Unit {0}
 NamesList count (Decided v list) = list < count
 
-pub record Fields : Type 0 where
-  pub block : ℕ
-  pub newest : ℕ
-  pub floor : ℕ
-  pub done : ℕ
-  pub is_sweeping : Bool
-  pub next : ℕ
-  pub pending : ℕ
-  pub places : List states.Place
+-- The places are those of a state, and how many are pending.
+pub record ArePlacesOf {X : Type 0} (b : Inside X) (s : states.State) : Type 0 where
+  pub next : s.next ≡ b.next
+  pub pending : states.pending_count s ≡ b.pending
+  pub views : s.places ≡ map (place_view b.lists.items) b.places.items
 
--- The fields are those of a state.
-pub record AreOf (f : Fields) (s : states.State) : Type 0 where
-  pub block : s.block ≡ f.block
-  pub newest : s.newest ≡ f.newest
-  pub floor : s.floor ≡ f.floor
-  pub done : s.done ≡ f.done
-  pub is_sweeping : s.is_sweeping ≡ f.is_sweeping
-  pub next : s.next ≡ f.next
-  pub pending : states.pending_count s ≡ f.pending
-  pub places : s.places ≡ f.places
-
-abbrev pub is_pending : Place → Bool
-is_pending Waiting = false
-is_pending Pending = true
-is_pending (Decided v list) = false
+-- ---- what the fields keep besides
 
 -- The bounds of each block are there.
 pub record AreBounds (run : Run) (port : ℕ) (blocks : List BlockBounds) : Type 0 where
   pub each : (block : ℕ) → block ≤ last_block run → slice_get blocks block ≡ Some (record { hi = hi run block; last_place = last_place run port block })
   pub count : length blocks ≡ last_block run + 1
 
--- The journal is legal on a board of this port that may have no entries, and the fields are those of the state that it
--- leads to.
-pub record Keeps (run : Run) (port : ℕ) (journal : List Step) (f : Fields) : Type 0 where
-  pub has_port : HasPort run.ports port
-  pub in_order : AreInOrder run.syncs (length run.edits)
-  pub legal : IsLegal run port 0 journal
-  pub bare : IsBare run port (after run port journal)
-  pub fields : AreOf f (after run port journal)
-
 -- the steps for which a board has room at any time: a look of each frame that is left, an opening of each block that
 -- is left, and the end of a sweep that runs
 abbrev pub steps_left : ℕ → ℕ → ℕ → ℕ → Bool → ℕ
 steps_left frames next last block is_sweeping = (frames + 1 - next) + (last - block) + (if is_sweeping then 1 else 0)
+
+-- Places and blocks have numbers of 32 bits, and the journal has room for these steps.
+pub record HasRoom {X : Type 0} (run : Run) (b : Inside X) : Type 0 where
+  pub few_places : vec_len b.places + 1 < 2 ^ 32
+  pub few_blocks : vec_len b.blocks < 2 ^ 32
+  pub places : length b.places.items ≡ vec_len b.places
+  pub lists : length b.lists.items ≡ vec_len b.lists
+  pub steps : vec_len b.journal + steps_left (vec_len b.places) b.next (last_block run) b.block b.sweeping ≤ vec_capacity b.journal
+
+-- What the laws of boards say of the state that a legal journal leads to, where there may be no entries; at hand for
+-- every call.
+pub record IsLawful (run : Run) (port : ℕ) (s : states.State) : Type 0 where
+  pub versions : HasVersionsInOrder run s
+  pub places : ArePlaces run port s
+  pub next_within : s.next ≤ length (frames_of run port) + 1
+  pub no_entries : s.entries ≡ []
+  pub none_listed : s.listed ≡ []
+
+-- ---- all of it
+
+-- The board is of a port of the run, its journal is legal, and the frames that it looked up have keys within the widths
+-- of the fields; its fields are those of the state that the journal leads to, part by part.
+pub record IsKept {X : Type 0} (run : Run) (b : Inside X) : Type 0 where
+  pub has_port : HasPort run.ports b.port
+  pub in_order : AreInOrder run.syncs (last_version run)
+  pub legal : IsLegal run b.port 0 (steps_view b.journal.items)
+  pub has_keys : HasKeys run b.port (state_of run (view_of b)).next
+  pub lawful : IsLawful run b.port (state_of run (view_of b))
+  pub versions : AreVersionsOf b (state_of run (view_of b))
+  pub places : ArePlacesOf b (state_of run (view_of b))
+  pub named : All (NamesList (length b.lists.items)) b.places.items
+  pub bounds : AreBounds run b.port b.blocks.items
+  pub room : HasRoom run b

@@ -1,4 +1,3 @@
 pub mod StepViews
-pub mod Shown
-pub mod Bare
+pub mod BoardView
 pub mod Fields

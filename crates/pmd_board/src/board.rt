@@ -1,7 +1,7 @@
-ghost use Rattle.std.specs.Prelude.{ℕ, ◌≡◌, ◌⊎◌, ◌<◌, ◌≤◌, ◌+◌, ◌^◌, [], IsTrue, IfOk, IfErr, IfSome, IfNone, Some, None, true, false, map, length};
+ghost use Rattle.std.specs.Prelude.{ℕ, ◌≡◌, ◌⊎◌, ◌<◌, ◌≤◌, ◌+◌, ◌^◌, [], IfOk, IfErr, IfSome, IfNone, Some, None, true, false};
 ghost use Rattle.ovs_fields.specs.Packed.{numbers};
-ghost use Rattle.spec_case.specs.Run.{frames_of};
-ghost use Rattle.spec_case.specs.Blocks.{hi, last_block, last_place};
+ghost use Rattle.spec_case.specs.Run.{last_version};
+ghost use Rattle.spec_case.specs.Blocks.{AreInOrder, hi, last_block, last_place};
 ghost use Rattle.spec_board.specs.declared.looked.Looked.TheVariants.{Miss};
 ghost use Rattle.spec_board.specs.declared.faults.SettleFault.TheVariants as settle_faults;
 ghost use Rattle.spec_board.specs.declared.faults.BeginFault.TheVariants as begin_faults;
@@ -11,17 +11,18 @@ ghost use Rattle.spec_board.specs.Results.{translated};
 ghost use Rattle.spec_board.specs.Journals.{IsLegal};
 ghost use Rattle.spec_board.specs.Decisions.{IsDecided};
 ghost use Rattle.spec_board.specs.Refusals.{is_next_block, open_fault, look_fault, settle_fault, begin_fault, end_fault};
-ghost use Rattle.run_case.specs.Places.{HasPort, HasPlace};
-ghost use Rattle.pmd_board.specs.Shown.{Appends, IsDecision, state_of};
-ghost use Rattle.pmd_board.specs.Bare.{IsBare};
+ghost use Rattle.run_case.specs.Places.{HasPort};
+ghost use Rattle.board_laws.specs.Entries.{HasKeys};
+ghost use Rattle.board_laws.specs.Versions.{HasVersionsInOrder};
+ghost use Rattle.board_laws.specs.Places.{ArePlaces};
+ghost use Rattle.pmd_board.specs.BoardView.{Appends, IsDecision, state_of};
 ghost use Rattle.pmd_board.specs.Fields.{AreBounds, steps_left as left};
 ghost use Rattle.pmd_board.specs.StepViews.{settled_view, steps_view};
 
-use crate::action_list::ActionList;
 use crate::place::{BlockBounds, Place};
 use crate::step::{Settled, Step};
+use dp_actions::{ActionList, DpAction};
 use run_case::{Case, Keyed, RunData};
-use spec_actions::DpAction;
 use spec_board::{BeginFault, EndFault, LookFault, Looked, OpenFault, SettleFault};
 use std::alloc::{AllocError, Global};
 use std::marker::{Model, PhantomData};
@@ -47,28 +48,15 @@ pub struct Board<C: Case> {
 }
 
 impl<C: Case> Model for Board<C> {
-    ghost use Rattle.std.specs.Prelude.{◌≡◌, ◌+◌, ◌-◌, ◌<◌, ◌≤◌, ◌^◌, All, map, length as count, vec_len, vec_capacity};
-    ghost use Rattle.spec_case.specs.Run.{frames_of};
-    ghost use Rattle.spec_case.specs.Blocks.{last_block};
-    ghost use Rattle.pmd_board.specs.Shown.{Shown};
+    ghost use Rattle.pmd_board.specs.BoardView.{BoardView};
 
-    ghost Value = { Shown };
+    ghost Value = { BoardView };
 
-    ghost use Rattle.pmd_board.specs.StepViews.{steps_view};
-    ghost use Rattle.pmd_board.specs.Fields.{Keeps, AreBounds, NamesList, place_view, steps_left};
+    ghost use Rattle.pmd_board.specs.Fields.{view_of, IsKept};
 
-    ghost view = { λ b. record { port = b.port; flow_limit = 0; journal = steps_view b.journal.items } };
+    ghost view = { view_of };
 
-    ghost invariant = { λ b.
-        Keeps C.run b.port (steps_view b.journal.items) (record { block = b.block; newest = b.newest; floor = b.floor; done = b.done; is_sweeping = b.sweeping; next = b.next; pending = b.pending; places = map (place_view b.lists.items) b.places.items })
-        × AreBounds C.run b.port b.blocks.items
-        × All (NamesList (count b.lists.items)) b.places.items
-        × (vec_len b.places + 1 < 2 ^ 32)
-        × (vec_len b.blocks < 2 ^ 32)
-        × (b.next ≤ vec_len b.places + 1)
-        × (count b.places.items ≡ vec_len b.places)
-        × (count b.lists.items ≡ vec_len b.lists)
-        × (vec_len b.journal + steps_left (vec_len b.places) b.next (last_block C.run) b.block b.sweeping ≤ vec_capacity b.journal) };
+    ghost invariant = { IsKept C.run };
 }
 
 // For how many steps a board needs room at any time: a look of each frame that is left, an opening of each block that
@@ -144,7 +132,6 @@ impl<C: Case> Board<C> {
     pub fn flow_limit(&self) -> u32
         ensures same { result ≡ self.now.flow_limit }
         ensures none { result ≡ 0 }
-        ensures bare { IsBare C.run self.now.port (state_of C.run self.now) }
     {
         let _ = &self.port;
         0
@@ -152,21 +139,24 @@ impl<C: Case> Board<C> {
 
     /// The block that it is in, from 0.
     pub fn block(&self) -> u32
-        ensures { result ≡ (state_of C.run self.now).block }
+        ensures same { result ≡ (state_of C.run self.now).block }
+        ensures versions { HasVersionsInOrder C.run (state_of C.run self.now) }
     {
         self.block
     }
 
     /// The version at which the last sweep began.
     pub fn floor(&self) -> u32
-        ensures { result ≡ (state_of C.run self.now).floor }
+        ensures same { result ≡ (state_of C.run self.now).floor }
+        ensures versions { HasVersionsInOrder C.run (state_of C.run self.now) }
     {
         self.floor
     }
 
     /// The version at which the last sweep began that was ended.
     pub fn done(&self) -> u32
-        ensures { result ≡ (state_of C.run self.now).done }
+        ensures same { result ≡ (state_of C.run self.now).done }
+        ensures versions { HasVersionsInOrder C.run (state_of C.run self.now) }
     {
         self.done
     }
@@ -174,7 +164,7 @@ impl<C: Case> Board<C> {
     /// The place of the frame that is to be looked up next, from 1; one beyond the trace where all were.
     pub fn next(&self) -> u32
         ensures same { result ≡ (state_of C.run self.now).next }
-        ensures from_one { 1 ≤ result }
+        ensures places { ArePlaces C.run self.now.port (state_of C.run self.now) }
     {
         self.next
     }
@@ -203,6 +193,8 @@ impl<C: Case> Board<C> {
     pub fn journal(&self) -> &[Step]
         ensures same { steps_view result.now ≡ self.now.journal }
         ensures legal { IsLegal C.run self.now.port self.now.flow_limit self.now.journal }
+        ensures keys { HasKeys C.run self.now.port (state_of C.run self.now).next }
+        ensures in_order { AreInOrder C.run.syncs (last_version C.run) }
         ensures told { (place : ℕ) → states.is_decided (states.place_at place (state_of C.run self.now)) ≡ true → IsDecided C.run self.now.port self.now.journal place }
     {
         self.journal.as_slice()
@@ -439,9 +431,10 @@ impl<C: Case> Board<C> {
         Ok(())
     }
 
-    /// Begins a sweep at a version. It takes memory for the sweep.
+    /// Begins a sweep at a version. With no entries it has none to put. It takes memory for the sweep.
     pub fn begin(&mut self, version: u32) -> Result<(), BeginFault>
         ensures begun { IfOk result (λ _. Appends C.run self.old (steps.Begin version) self.new) }
+        ensures none_listed { IfOk result (λ _. (state_of C.run self.new).listed ≡ []) }
         ensures refused { IfErr result (λ f. (f ≡ begin_faults.OutOfMemory) ⊎ (begin_fault C.run (state_of C.run self.old) version ≡ Some f)) }
         ensures unchanged { IfErr result (λ _. self.new ≡ self.old) }
     {
@@ -457,6 +450,7 @@ impl<C: Case> Board<C> {
     fn start(&mut self, version: u32) -> Result<(), AllocError>
         requires { begin_fault C.run (state_of C.run self.old) version ≡ None }
         ensures begun { IfOk result (λ _. Appends C.run self.old (steps.Begin version) self.new) }
+        ensures none_listed { IfOk result (λ _. (state_of C.run self.new).listed ≡ []) }
         ensures unchanged { IfErr result (λ _. self.new ≡ self.old) }
     {
         let room = steps_left(
@@ -474,7 +468,7 @@ impl<C: Case> Board<C> {
         Ok(())
     }
 
-    /// Ends the sweep that runs, once no entry is listed; there is none.
+    /// Ends the sweep that runs, once no entry is listed.
     pub fn end(&mut self) -> Result<(), EndFault>
         ensures ended { IfOk result (λ _. Appends C.run self.old steps.End self.new) }
         ensures refused { IfErr result (λ f. (end_fault (state_of C.run self.old) ≡ Some f) × (self.new ≡ self.old)) }

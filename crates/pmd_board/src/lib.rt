@@ -12,22 +12,24 @@
 //!
 //! # What is promised
 //!
-//! A board is seen as its port, its limit and its journal, and the journal says all: `spec_board` defines the state
-//! that it leads to.
+//! A board is seen as its port, its limit and its journal (`specs/BoardView`), and the journal says all: `spec_board`
+//! defines the state that it leads to.
 //!
 //! - Each call appends exactly its step, which is legal there, or refuses and leaves the board. A refusal comes exactly
-//!   where `spec_board` has it, as the first of its causes and with the numbers that it carries. Want of memory alone is
+//!   where `spec_board` has it, as the first of its causes and with the numbers that it carries. Out of memory alone is
 //!   free, and only `new`, `settle` and `begin` take any.
-//! - A journal is legal whatever calls were made, and every frame that is decided was decided by exactly one of its
-//!   steps, with the actions of a plain priority scan of one version of the tables. That version is at least that of
-//!   the last sweep completed before, at most the newest that a step had carried then, and within the frame's block.
+//! - A journal is legal whatever calls were made, and so the laws of boards hold of it (`board_laws`). Those that callers
+//!   need are clauses: `decision` and `journal` tell that every frame that is decided was decided by exactly one step,
+//!   with the actions of a plain priority scan of a version in its window; `block`, `floor` and `done` that the versions
+//!   stand in order, and `next` how the places stand. The clauses `legal`, `keys` and `in_order` of `journal` are what
+//!   any other law asks for.
 //!
 //! # How
 //!
-//! The type keeps that the journal is legal and that the fields are those of the state that it leads to, component by
-//! component (`specs/Fields`). A step changes some fields and pushes itself onto the journal; that the one fits the
-//! other is one lemma a step (`proofs/Steps`). What follows for every legal journal, as the windows, is proved of the
-//! definitions alone (`proofs/Bare`, `proofs/Once`).
+//! The type keeps that the journal is legal, and that the fields are those of the state that it leads to, part by part
+//! (`specs/Fields`): the versions, the places, and what they need besides. A cache is to be a field and a part more. A
+//! step changes some fields and pushes itself onto the journal, and the proof of a step says for each part that it still
+//! fits. What the laws say of the state is a part too, which follows from the legal journal, whatever the step.
 //!
 //! A decided place names its actions by their place in one list of lists, so that many frames can share them. Room for
 //! all looks and openings, and for the end of a sweep that runs, is kept at any time, so these take no memory.
@@ -38,13 +40,13 @@
 //! cache, no megaflows and no totals yet; the definitions have them.
 #![tactic(auto)]
 
-mod action_list;
 mod board;
 mod place;
 mod step;
+mod threads;
 
-pub use action_list::ActionList;
 pub use board::Board;
+pub use dp_actions::ActionList;
 pub use spec_board::{
     BeginFault, EndFault, LookFault, Looked, OpenFault, PutDone, PutFault, SettleFault,
 };

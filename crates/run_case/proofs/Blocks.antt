@@ -6,10 +6,10 @@ use Rattle.std.proofs.lemmas.Bool.{lt-ltb, le-ltb, cases_lt, cond-true, cond-fal
 use Rattle.std.proofs.lemmas.List.{length-drop}
 use Rattle.std.proofs.lemmas.List.Sums.{prefix_len-le-length, count_by-le-length, sum_by-cons}
 use Rattle.spec_pcap.specs.Pcap.{Frame}
-use Rattle.spec_case.specs.declared.sync_point.SyncPoint.{SyncPoint}
-use Rattle.spec_case.specs.Run.{Run, frames_of}
+use Rattle.spec_tables.specs.declared.sync_point.SyncPoint.{SyncPoint}
+use Rattle.spec_case.specs.Run.{Run, last_version, frames_of}
 use Rattle.run_case.specs.Places.{IsInBlock}
-use Rattle.spec_case.specs.Blocks.{last_block, frames_before, ends_behind, block_ends, last_place, block_of, hi, lo, AreInOrder}
+use Rattle.spec_case.specs.Blocks.{last_block, frames_before, ends_after, block_ends, last_place, block_of, hi, lo, AreInOrder}
 
 -- ---- numbers that don't fall
 
@@ -68,28 +68,28 @@ below-gt place low (x ∷ xs) (suc j) rises within order =
 
 -- ---- the ends of blocks
 
-length-ends_behind : (places : ℕ) (syncs : List SyncPoint) (frames : List Frame) → length (ends_behind places syncs frames) ≡ length syncs + 1
-unfolding ends_behind
-length-ends_behind places [] frames = refl
-length-ends_behind places (s ∷ syncs) frames =
+length-ends_after : (places : ℕ) (syncs : List SyncPoint) (frames : List Frame) → length (ends_after places syncs frames) ≡ length syncs + 1
+unfolding ends_after
+length-ends_after places [] frames = refl
+length-ends_after places (s ∷ syncs) frames =
     let n = frames_before s.time frames in
-    omega (arith, length-ends_behind (places + n) syncs (drop n frames))
+    omega (arith, length-ends_after (places + n) syncs (drop n frames))
 
-ends_behind-rises : (places : ℕ) (syncs : List SyncPoint) (frames : List Frame) → RisesFrom places (ends_behind places syncs frames)
-unfolding ends_behind
-ends_behind-rises places [] frames = (omega arith, tt)
-ends_behind-rises places (s ∷ syncs) frames =
+ends_after-rises : (places : ℕ) (syncs : List SyncPoint) (frames : List Frame) → RisesFrom places (ends_after places syncs frames)
+unfolding ends_after
+ends_after-rises places [] frames = (omega arith, tt)
+ends_after-rises places (s ∷ syncs) frames =
     let n = frames_before s.time frames in
-    (omega arith, ends_behind-rises (places + n) syncs (drop n frames))
+    (omega arith, ends_after-rises (places + n) syncs (drop n frames))
 
-ends_behind-last : (places : ℕ) (syncs : List SyncPoint) (frames : List Frame)
-    → get_or (ends_behind places syncs frames) (length syncs) 0 ≡ places + length frames
-unfolding ends_behind
-ends_behind-last places [] frames = refl
-ends_behind-last places (s ∷ syncs) frames =
+ends_after-last : (places : ℕ) (syncs : List SyncPoint) (frames : List Frame)
+    → get_or (ends_after places syncs frames) (length syncs) 0 ≡ places + length frames
+unfolding ends_after
+ends_after-last places [] frames = refl
+ends_after-last places (s ∷ syncs) frames =
     let n = frames_before s.time frames in
     let some : n ≤ length frames = prefix_len-le-length (λ (f : Frame). nat_lt f.time s.time) frames in
-    omega (arith, ends_behind-last (places + n) syncs (drop n frames), length-drop n frames)
+    omega (arith, ends_after-last (places + n) syncs (drop n frames), length-drop n frames)
 
 module _ (run : Run) (port : ℕ) where
   abbrev ends : List ℕ
@@ -99,17 +99,17 @@ module _ (run : Run) (port : ℕ) where
   frames = length (frames_of run port)
 
   rises : RisesFrom 0 ends
-  rises = ends_behind-rises 0 run.syncs (frames_of run port)
+  rises = ends_after-rises 0 run.syncs (frames_of run port)
 
   pub length-block_ends : length (block_ends run port) ≡ last_block run + 1
-  length-block_ends = length-ends_behind 0 run.syncs (frames_of run port)
+  length-block_ends = length-ends_after 0 run.syncs (frames_of run port)
 
   inside : (block : ℕ) → block ≤ last_block run → block < length ends
   inside block here = omega (arith, length-block_ends)
 
   -- where the last block ends, all frames do
   pub last_place-last : last_place run port (last_block run) ≡ length (frames_of run port)
-  last_place-last = omega (arith, ends_behind-last 0 run.syncs (frames_of run port))
+  last_place-last = omega (arith, ends_after-last 0 run.syncs (frames_of run port))
 
   -- ends don't fall
   pub last_place-le : (i j : ℕ) → i ≤ j → j ≤ last_block run → last_place run port i ≤ last_place run port j
@@ -132,12 +132,12 @@ module _ (run : Run) (port : ℕ) where
   place-le-last_place block place here order =
       elim (cases_lt (last_place run port block) place) [ inl less ↦ absurd (omega (arith, block_of-gt block place here less)) | inr more ↦ more ]
 
-  -- a frame is in a block that there is, and a place behind the frames is behind the last block
+  -- a frame is in a block that there is, and a place after the frames is after the last block
   pub block_of-le-last_block : (place : ℕ) → place ≤ length (frames_of run port) → block_of run port place ≤ last_block run
   block_of-le-last_block place there = block_of-le (last_block run) place (omega arith) (omega (arith, last_place-last))
 
-  pub block_of-behind : (place : ℕ) → length (frames_of run port) < place → block_of run port place ≡ last_block run + 1
-  block_of-behind place behind =
+  pub block_of-after : (place : ℕ) → length (frames_of run port) < place → block_of run port place ≡ last_block run + 1
+  block_of-after place after =
       let more : last_block run < block_of run port place = block_of-gt (last_block run) place (omega arith) (omega (arith, last_place-last)) in
       let most : block_of run port place ≤ length ends = count_by-le-length (λ end. nat_lt end place) ends in
       omega (arith, length-block_ends)
@@ -146,12 +146,12 @@ module _ (run : Run) (port : ℕ) where
   pub block_of-from_in : (block place : ℕ) → block ≤ last_block run → IsInBlock run port block place → block_of run port place ≡ block
   block_of-from_in zero place here is = omega (arith, block_of-le zero place here is.within)
   block_of-from_in (suc block) place here is =
-      omega (arith, block_of-le (suc block) place here is.within, block_of-gt block place (omega arith) is.behind)
+      omega (arith, block_of-le (suc block) place here is.within, block_of-gt block place (omega arith) is.after)
 
   pub in_block_of : (block place : ℕ) → block ≤ last_block run → 1 ≤ place → block_of run port place ≡ block → IsInBlock run port block place
-  in_block_of zero place here first is = record { behind = omega arith; within = place-le-last_place zero place here (omega arith) }
+  in_block_of zero place here first is = record { after = omega arith; within = place-le-last_place zero place here (omega arith) }
   in_block_of (suc block) place here first is = record {
-    behind = elim (cases_lt (last_place run port block) place) [
+    after = elim (cases_lt (last_place run port block) place) [
       | inl less ↦ less
       | inr more ↦ absurd (omega (arith, block_of-le block place (omega arith) more))
     ];
@@ -164,9 +164,9 @@ module _ (run : Run) (port : ℕ) where
 -- ---- the edits of blocks
 
 -- a block has no fewer edits than those before it
-pub lo-le-hi : (run : Run) (block : ℕ) → AreInOrder run.syncs (length run.edits) → lo run block ≤ hi run block
+pub lo-le-hi : (run : Run) (block : ℕ) → AreInOrder run.syncs (last_version run) → lo run block ≤ hi run block
 lo-le-hi run zero in_order = omega arith
 lo-le-hi run (suc block) in_order = let next : block + 1 ≡ suc block = omega arith in rw next at ((in_order block).0)
 
-pub hi-le-edits : (run : Run) (block : ℕ) → AreInOrder run.syncs (length run.edits) → hi run block ≤ length run.edits
-hi-le-edits run block in_order = (in_order block).1
+pub hi-le-last : (run : Run) (block : ℕ) → AreInOrder run.syncs (last_version run) → hi run block ≤ last_version run
+hi-le-last run block in_order = (in_order block).1

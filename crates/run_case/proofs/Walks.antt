@@ -5,8 +5,8 @@ use Rattle.std.proofs.lemmas.Bool.{lt-ltb, le-ltb}
 use Rattle.std.proofs.lemmas.List.{length-drop, drop-drop}
 use Rattle.std.proofs.lemmas.List.Sums.{prefix_len-drop_all, prefix_len-drop_no, prefix_len-drop_yes}
 use Rattle.spec_pcap.specs.Pcap.{Frame, frame_number}
-use Rattle.spec_case.specs.declared.sync_point.SyncPoint.{SyncPoint}
-use Rattle.spec_case.specs.Blocks.{frames_before, ends_behind}
+use Rattle.spec_tables.specs.declared.sync_point.SyncPoint.{SyncPoint}
+use Rattle.spec_case.specs.Blocks.{frames_before, ends_after}
 
 module _ (time : ℕ) (frames : List Frame) (place : ℕ) where
   abbrev none : Frame
@@ -28,22 +28,22 @@ module _ (time : ℕ) (frames : List Frame) (place : ℕ) where
       prefix_len-drop_no is_before frames place none within (le-ltb _ _ (rw back at late))
 
   pub frames_before-end : length frames ≤ place → frames_before time (drop place frames) ≡ 0
-  frames_before-end behind = prefix_len-drop_all is_before frames place behind
+  frames_before-end after = prefix_len-drop_all is_before frames place after
 
--- one more end behind those that were found
-pub ends_behind-step : (found : List ℕ) (place next : ℕ) (s : SyncPoint) (syncs : List SyncPoint) (frames : List Frame)
+-- one more end after those that were found
+pub ends_after-step : (found : List ℕ) (place next : ℕ) (s : SyncPoint) (syncs : List SyncPoint) (frames : List Frame)
     → next ≡ place + frames_before s.time (drop place frames)
-    → (found ++ next ∷ []) ++ ends_behind next syncs (drop next frames) ≡ found ++ ends_behind place (s ∷ syncs) (drop place frames)
-unfolding ends_behind
-ends_behind-step found place next s syncs frames is =
+    → (found ++ next ∷ []) ++ ends_after next syncs (drop next frames) ≡ found ++ ends_after place (s ∷ syncs) (drop place frames)
+unfolding ends_after
+ends_after-step found place next s syncs frames is =
     let n = frames_before s.time (drop place frames) in
     let dropped : drop n (drop place frames) ≡ drop (place + n) frames = drop-drop n place frames in
-    rw (append_assoc found (next ∷ []) (ends_behind next syncs (drop next frames)), is, dropped) refl
+    rw (append_assoc found (next ∷ []) (ends_after next syncs (drop next frames)), is, dropped) refl
 
 -- the last block has all that is left
-pub ends_behind-last : (found : List ℕ) (place : ℕ) (frames : List Frame) → place ≤ length frames
-    → found ++ length frames ∷ [] ≡ found ++ ends_behind place [] (drop place frames)
-unfolding ends_behind
-ends_behind-last found place frames within =
+pub ends_after-last : (found : List ℕ) (place : ℕ) (frames : List Frame) → place ≤ length frames
+    → found ++ length frames ∷ [] ≡ found ++ ends_after place [] (drop place frames)
+unfolding ends_after
+ends_after-last found place frames within =
     let all : length frames ≡ place + length (drop place frames) = omega (arith, length-drop place frames) in
     ap (λ (n : ℕ). found ++ n ∷ []) all

@@ -4,7 +4,7 @@ ghost use Rattle.spec_case.specs.Blocks.{frames_before};
 ghost use Rattle.run_case.specs.Places.{IsCounted, AreCounted, ends_of};
 
 use pcap_io::Trace;
-use spec_case::SyncPoint;
+use spec_tables::SyncPoint;
 use std::alloc::{AllocError, Global};
 use std::marker::Model;
 
@@ -28,15 +28,15 @@ impl BlockEnds {
     }
 }
 
-// The last place of the block that begins behind a place and ends at a time.
-fn end_of_block(trace: &Trace, behind: u32, time: u64) -> u32
+// The last place of the block that begins after a place and ends at a time.
+fn end_of_block(trace: &Trace, after: u32, time: u64) -> u32
     requires counted { IsCounted trace.now }
-    requires within { behind ≤ length trace.now.frames }
-    ensures end { result ≡ behind + frames_before time (drop behind trace.now.frames) }
+    requires within { after ≤ length trace.now.frames }
+    ensures end { result ≡ after + frames_before time (drop after trace.now.frames) }
     ensures within { result ≤ length trace.now.frames }
 {
     let count = trace.len() as u32;
-    let mut place = behind;
+    let mut place = after;
     while place < count && trace.time(place + 1) < time {
         place += 1;
     }

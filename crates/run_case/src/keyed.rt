@@ -1,4 +1,5 @@
 ghost use Rattle.std.specs.Prelude.{◌≡◌, Ok, length as count};
+ghost use Rattle.spec_keys.specs.Keys.{IsKey};
 ghost use Rattle.ovs_fields.specs.Packed.{numbers};
 ghost use Rattle.spec_frames.specs.Key.{key_of};
 ghost use Rattle.spec_case.specs.Run.{frame_at};
@@ -12,7 +13,8 @@ use std::marker::PhantomData;
 
 /// A frame of the run, and what its bytes and its trace say of it.
 ///
-/// Its type keeps that it is a frame of the run, with the key, length, time and block of that frame.
+/// Its type keeps that it is a frame of the run, with the key, length, time and block of that frame, and that the key is
+/// within the widths of the fields.
 pub struct Keyed<C: Case> {
     /// The ingress port.
     pub port: u16,
@@ -29,6 +31,7 @@ pub struct Keyed<C: Case> {
     pub ghost has_port: { HasPort C.run.ports port },
     pub ghost has_place: { HasPlace C.run port place },
     pub ghost key_is: { numbers key ≡ key_of port (frame_at C.run port place).bytes },
+    pub ghost has_key: { IsKey (key_of port (frame_at C.run port place).bytes) },
     pub ghost length_is: { length ≡ count (frame_at C.run port place).bytes },
     pub ghost time_is: { time ≡ (frame_at C.run port place).time },
     pub ghost block_is: { block ≡ block_of C.run port place },

@@ -17,7 +17,7 @@
 //! - A `Keyed` is a frame of the run: its type keeps that the frame is there, and that key, length, time and block are
 //!   that frame's.
 //! - The laws of blocks are lemmas (proofs/Blocks.antt): ends don't fall, the last block ends with the trace, and a
-//!   place is in a block exactly where it stands behind the end of the one before and not behind its own.
+//!   place is in a block exactly where it stands after the end of the one before and not after its own.
 //! - Reading takes no memory and can't fail. Only `RunData::new` takes some, 4 bytes for each block of each port, and
 //!   then no run is made.
 //!
@@ -42,6 +42,7 @@ mod keyed;
 mod ports;
 mod ran;
 mod run_data;
+mod threads;
 
 pub use case::Case;
 pub use keyed::Keyed;

@@ -1,6 +1,6 @@
 ghost use Rattle.std.specs.Prelude.{◌≡◌, ◌+◌, ◌-◌, ◌/◌, ◌^◌, ◌<◌, ◌≤◌, ◌==◌, Some, length, map, position, slice_get};
 ghost use Rattle.spec_pcap.specs.Pcap.{second, snap_length};
-ghost use Rattle.spec_case.specs.Run.{frame_at, frames_of, is_nanos};
+ghost use Rattle.spec_case.specs.Run.{last_version, frame_at, frames_of, is_nanos};
 ghost use Rattle.spec_case.specs.Blocks.{AreInOrder, block_ends, last_block, last_place, lo, hi};
 ghost use Rattle.run_case.specs.Places.{HasPort, HasPlace, AreCounted, ends_of};
 
@@ -11,7 +11,7 @@ use crate::ports::Ports;
 use frame_keys::key_of;
 use pcap_io::Trace;
 use rule_tables::Edit;
-use spec_case::SyncPoint;
+use spec_tables::SyncPoint;
 use std::alloc::{AllocError, Global};
 use std::marker::PhantomData;
 
@@ -33,7 +33,7 @@ pub struct RunData<C: Case> {
     ghost traces_are: { traces.items ≡ C.run.traces },
     ghost ends_are: { ends.items ≡ map (ends_of C.run.syncs) C.run.traces },
     ghost one_each: { length C.run.traces ≡ length C.run.ports },
-    ghost in_order: { AreInOrder C.run.syncs (length C.run.edits) },
+    ghost in_order: { AreInOrder C.run.syncs (last_version C.run) },
     ghost few_edits: { length C.run.edits < 2 ^ 32 },
     ghost few_syncs: { length C.run.syncs + 1 < 2 ^ 32 },
     ghost counted: { AreCounted C.run.traces },
@@ -54,7 +54,7 @@ impl<C: Case> RunData<C> {
         requires syncs { syncs.items ≡ C.run.syncs }
         requires traces { traces.items ≡ C.run.traces }
         requires one_each { length C.run.traces ≡ length C.run.ports }
-        requires in_order { AreInOrder C.run.syncs (length C.run.edits) }
+        requires in_order { AreInOrder C.run.syncs (last_version C.run) }
         requires few_edits { length C.run.edits < 2 ^ 32 }
         requires few_syncs { length C.run.syncs + 1 < 2 ^ 32 }
         requires counted { AreCounted C.run.traces }
@@ -87,7 +87,7 @@ impl<C: Case> RunData<C> {
     pub fn last_block(&self) -> u32
         ensures block { result ≡ last_block C.run }
         ensures bound { result + 1 < 2 ^ 32 }
-        ensures in_order { AreInOrder C.run.syncs (length C.run.edits) }
+        ensures in_order { AreInOrder C.run.syncs (last_version C.run) }
     {
         self.syncs.len() as u32
     }
@@ -106,13 +106,20 @@ impl<C: Case> RunData<C> {
         requires { block ≤ last_block C.run }
         ensures number { result ≡ hi C.run block }
         ensures order { lo C.run block ≤ result }
-        ensures bound { result ≤ length C.run.edits }
+        ensures bound { result ≤ last_version C.run }
     {
         if block < self.last_block() {
             self.syncs[block as usize].after
         } else {
-            self.edit_count()
+            self.last_version()
         }
+    }
+
+    /// The last version of the tables.
+    pub fn last_version(&self) -> u32
+        ensures { result ≡ last_version C.run }
+    {
+        self.edits.len() as u32
     }
 
     pub fn edit_count(&self) -> u32

@@ -1,5 +1,5 @@
 use Rattle.std.proofs.Common.{◌≡◌, ◌≤◌, ◌+◌, ◌++◌, drop, length, vec_len, vec_capacity}
-use Rattle.spec_case.specs.Blocks.{ends_behind}
+use Rattle.spec_case.specs.Blocks.{ends_after}
 use Rattle.run_case.specs.Places.{ends_of}
 use Rattle.run_case.proofs.block_ends.block_ends.Given as goal
 
@@ -8,5 +8,5 @@ invariant-loop-sync l = record {
   within : l.place ≤ length l.trace.frames;
   len : vec_len l.ends ≡ l.sync-index;
   room : length l.syncs + 1 ≤ vec_capacity l.ends;
-  so_far : l.ends.items ++ ends_behind l.place (drop l.sync-index l.syncs) (drop l.place l.trace.frames) ≡ ends_of l.syncs l.trace;
+  so_far : l.ends.items ++ ends_after l.place (drop l.sync-index l.syncs) (drop l.place l.trace.frames) ≡ ends_of l.syncs l.trace;
 }

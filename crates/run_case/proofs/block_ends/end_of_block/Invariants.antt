@@ -5,7 +5,7 @@ use Rattle.run_case.proofs.block_ends.end_of_block.Given as goal
 abbrev pub invariant-loop-place : goal.invariant-loop-place
 invariant-loop-place l = record {
   within : l.place ≤ length l.trace.frames;
-  so_far : l.behind + frames_before l.time (drop l.behind l.trace.frames) ≡ l.place + frames_before l.time (drop l.place l.trace.frames);
+  so_far : l.after + frames_before l.time (drop l.after l.trace.frames) ≡ l.place + frames_before l.time (drop l.place l.trace.frames);
 }
 
 abbrev pub decreases-loop-place : goal.decreases-loop-place

@@ -2,23 +2,23 @@ use Rattle.std.proofs.Common.{◌≡◌, ℕ, zero, suc, ◌+◌, ◌<◌, List,
 use Rattle.std.specs.List.{IsDistinct}
 use Rattle.std.proofs.lemmas.List.{length-map}
 use Rattle.spec_pcap.specs.Pcap.{Capture}
-use Rattle.spec_case.specs.declared.sync_point.SyncPoint.{SyncPoint}
+use Rattle.spec_tables.specs.declared.sync_point.SyncPoint.{SyncPoint}
 use Rattle.spec_case.specs.Blocks.{edits_through, AreInOrder}
 use Rattle.run_case.specs.Places.{IsCounted, AreCounted}
 use Rattle.run_case.proofs.tests.blocks_are.Goals as goal
 
--- sync points behind so many edits, at these times
-abbrev syncs_at : List ℕ → ℕ → List SyncPoint
-syncs_at times after = map (λ (time : ℕ). let s : SyncPoint = record { time = time; after = after } in s) times
+-- sync points at these times, before which no edits stand
+abbrev syncs_at : List ℕ → List SyncPoint
+syncs_at times = map (λ (time : ℕ). let s : SyncPoint = record { time = time; after = 0 } in s) times
 
-edits_through-syncs_at : (times : List ℕ) (after block : ℕ) → edits_through (syncs_at times after) after block ≡ after
-edits_through-syncs_at [] after block = refl
-edits_through-syncs_at (t ∷ ts) after zero = refl
-edits_through-syncs_at (t ∷ ts) after (suc block) = edits_through-syncs_at ts after block
+edits_through-syncs_at : (times : List ℕ) (block : ℕ) → edits_through (syncs_at times) 0 block ≡ 0
+edits_through-syncs_at [] block = refl
+edits_through-syncs_at (t ∷ ts) zero = refl
+edits_through-syncs_at (t ∷ ts) (suc block) = edits_through-syncs_at ts block
 
-in_order-syncs_at : (times : List ℕ) (after : ℕ) → AreInOrder (syncs_at times after) after
-in_order-syncs_at times after block =
-    rw (edits_through-syncs_at times after block, edits_through-syncs_at times after (block + 1)) (omega arith, omega arith)
+in_order-syncs_at : (times : List ℕ) → AreInOrder (syncs_at times) 0
+in_order-syncs_at times block =
+    rw (edits_through-syncs_at times block, edits_through-syncs_at times (block + 1)) (omega arith, omega arith)
 
 both_counted : (a b : Capture) → IsCounted a → IsCounted b → AreCounted (a ∷ b ∷ [])
 both_counted a b is_a is_b zero d within = is_a
@@ -34,7 +34,6 @@ pub in_run-requires : goal.in_run-requires
 in_run-requires g c =
     let ports : c.new-ports.result ≡ 7 ∷ 2 ∷ [] =
     rw (c.new-ports.ensures, c.in_ok-push-2.ensures.items, c.in_ok-push.ensures.items, c.new-list.ensures.items) refl in
-    let one : length c.push-3.new.self.items ≡ 1 = rw (c.in_ok-push-3.ensures.items, c.new-edits.ensures.items) refl in
     let traces = rw (c.push_reserved.ensures.items, c.in_ok-traces.ensures.items, c.empty.ensures) at c.push_reserved-2.ensures.items in
     let few : length c.in_ok-syncs.syncs.items < 100 = omega (arith, ap length c.in_ok-syncs.ensures, length-map {A = ℕ} {B = SyncPoint}, c.requires) in
     record {
@@ -45,8 +44,7 @@ in_run-requires g c =
       full = rw ports refl;
       empty = rw ports refl;
       one_each = rw (traces, ports) refl;
-      in_order = rw (c.in_ok-syncs.ensures, one) (in_order-syncs_at c.args.times.now 1);
-      one = one;
+      in_order = rw c.in_ok-syncs.ensures (in_order-syncs_at c.args.times.now);
       few = few;
-      counted = rw traces (both_counted _ _ c.in_ok-trace_of.ensures (omega arith));
+      counted = rw traces (both_counted _ _ c.in_ok-full_trace.ensures (omega arith));
     }

@@ -1,32 +1,32 @@
-use Rattle.std.proofs.Common.{arith, None, ◌≡◌, map, sym, subst}
+use Rattle.std.proofs.Common.{arith, None, ◌≡◌, refl, sym, subst}
 use Rattle.spec_case.specs.Run.{Run}
-use Rattle.spec_board.specs.State as states
+use Rattle.spec_board.specs.State.{State}
 use Rattle.spec_board.specs.Refusals.{open_fault}
-use Rattle.spec_board.specs.Journals.{after}
+use Rattle.board_laws.proofs.Refusals.{MayOpen, may_open}
 use Rattle.pmd_board.specs.declared.step.Step.TheVariants as rust
-use Rattle.pmd_board.specs.StepViews.{steps_view}
-use Rattle.pmd_board.specs.Shown.{Shown, state_of}
-use Rattle.pmd_board.specs.Fields.{Fields, place_view}
-use Rattle.pmd_board.proofs.Facts.{may_open, MayOpen}
-use Rattle.pmd_board.proofs.Steps.{keeps_pushed, open_fields}
+use Rattle.pmd_board.specs.BoardView.{BoardView, state_of}
+use Rattle.pmd_board.specs.Fields.{view_of}
+use Rattle.pmd_board.proofs.Steps.{pushed}
 use Rattle.pmd_board.proofs.board.Board.open.Goals as goal
 
 pub invariant_of-self : goal.invariant_of-self
 invariant_of-self g c =
     let b = c.self.inside in
     let run : Run = g.C.Case.run in
-    let inv = c.self.invariant in
-    let f : Fields = record { block = b.block; newest = b.newest; floor = b.floor; done = b.done; is_sweeping = b.sweeping; next = b.next; pending = b.pending; places = map (place_view b.lists.items) b.places.items } in
-    let s : states.State = after run b.port (steps_view b.journal.items) in
-    let may : open_fault run b.port s c.args.block ≡ None = subst (λ (x : Shown). open_fault run x.port (state_of run x) c.args.block ≡ None) (sym c.self.view_is) c.requires in
-    let m : MayOpen run b.port s c.args.block = may_open run b.port s c.args.block may in (
-      keeps_pushed run b.port b.journal.items c.push_reserved.new.self.items (rust.Open c.args.block) f _ c.push_reserved.ensures.items inv.0 may (open_fields run b.port c.args.block f s inv.0.fields),
-      inv.1,
-      inv.2,
-      inv.3,
-      inv.4,
-      inv.5,
-      inv.6,
-      inv.7,
-      (let room = inv.8 in omega (arith, c.push_reserved.ensures.len, c.push_reserved.ensures.capacity, m.next, m.there, inv.0.fields.block)),
-    )
+    let k = c.self.invariant in
+    let s : State = state_of run (view_of b) in
+    let may : open_fault run b.port s c.args.block ≡ None =
+    subst (λ (x : BoardView). open_fault run x.port (state_of run x) c.args.block ≡ None) (sym c.self.view_is) c.requires in
+    let m : MayOpen run b.port s c.args.block = may_open run b.port s c.args.block may in
+    let push = c.push_reserved.ensures in
+    pushed run b _ (rust.Open c.args.block) k refl refl push.items may k.has_keys
+    (record { block = refl; newest = k.versions.newest; floor = k.versions.floor; done = k.versions.done; is_sweeping = k.versions.is_sweeping })
+    (record { next = k.places.next; pending = k.places.pending; views = k.places.views })
+    k.named
+    (record {
+      few_places = k.room.few_places;
+      few_blocks = k.room.few_blocks;
+      places = k.room.places;
+      lists = k.room.lists;
+      steps = omega (arith, push.len, push.capacity, k.room.steps, m.next, m.there, k.versions.block);
+    })

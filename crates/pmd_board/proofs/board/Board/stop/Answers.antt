@@ -1,33 +1,35 @@
-use Rattle.std.proofs.Common.{arith, None, vec_capacity, vec_len, ◌≡◌, ◌+◌, ◌≤◌, true, map, sym, ◌∙◌, subst}
+use Rattle.std.proofs.Common.{arith, None, vec_capacity, vec_len, ◌≡◌, ◌+◌, ◌≤◌, Bool, true, refl, sym, ◌∙◌, subst}
 use Rattle.spec_case.specs.Run.{Run}
 use Rattle.spec_case.specs.Blocks.{last_block}
-use Rattle.spec_board.specs.State as states
+use Rattle.spec_board.specs.State.{State}
 use Rattle.spec_board.specs.Refusals.{end_fault}
-use Rattle.spec_board.specs.Journals.{after}
+use Rattle.board_laws.proofs.Refusals.{may_end}
 use Rattle.pmd_board.specs.declared.step.Step.TheVariants as rust
-use Rattle.pmd_board.specs.StepViews.{steps_view}
-use Rattle.pmd_board.specs.Shown.{Shown, state_of}
-use Rattle.pmd_board.specs.Fields.{Fields, place_view, steps_left}
-use Rattle.pmd_board.proofs.Facts.{may_end}
-use Rattle.pmd_board.proofs.Steps.{keeps_pushed, end_fields}
+use Rattle.pmd_board.specs.BoardView.{BoardView, state_of}
+use Rattle.pmd_board.specs.Fields.{view_of, steps_left}
+use Rattle.pmd_board.proofs.Steps.{pushed}
 use Rattle.pmd_board.proofs.board.Board.stop.Goals as goal
 
 pub invariant_of-self : goal.invariant_of-self
 invariant_of-self g c =
     let b = c.self.inside in
     let run : Run = g.C.Case.run in
-    let inv = c.self.invariant in
-    let f : Fields = record { block = b.block; newest = b.newest; floor = b.floor; done = b.done; is_sweeping = b.sweeping; next = b.next; pending = b.pending; places = map (place_view b.lists.items) b.places.items } in
-    let s : states.State = after run b.port (steps_view b.journal.items) in
-    let may : end_fault s ≡ None = subst (λ (x : Shown). end_fault (state_of run x) ≡ None) (sym c.self.view_is) c.requires in
-    let sweeps : b.sweeping ≡ true = sym inv.0.fields.is_sweeping ∙ (may_end s may).0 in (
-      keeps_pushed run b.port b.journal.items c.push_reserved.new.self.items rust.End f _ c.push_reserved.ensures.items inv.0 may (end_fields run b.port f s inv.0.fields),
-      inv.1,
-      inv.2,
-      inv.3,
-      inv.4,
-      inv.5,
-      inv.6,
-      inv.7,
-      (let room = subst (λ t. vec_len b.journal + steps_left (vec_len b.places) b.next (last_block run) b.block t ≤ vec_capacity b.journal) sweeps inv.8 in omega (arith, c.push_reserved.ensures.len, c.push_reserved.ensures.capacity, room)),
-    )
+    let k = c.self.invariant in
+    let s : State = state_of run (view_of b) in
+    let may : end_fault s ≡ None = subst (λ (x : BoardView). end_fault (state_of run x) ≡ None) (sym c.self.view_is) c.requires in
+    let sweeps : b.sweeping ≡ true = sym k.versions.is_sweeping ∙ (may_end s may).0 in
+    let push = c.push_reserved.ensures in
+    let Room = λ (t : Bool).
+    vec_len b.journal + steps_left (vec_len b.places) b.next (last_block run) b.block t ≤ vec_capacity b.journal in
+    let room : Room true = subst Room sweeps k.room.steps in
+    pushed run b _ rust.End k refl refl push.items may k.has_keys
+    (record { block = k.versions.block; newest = k.versions.newest; floor = k.versions.floor; done = k.versions.floor; is_sweeping = refl })
+    (record { next = k.places.next; pending = k.places.pending; views = k.places.views })
+    k.named
+    (record {
+      few_places = k.room.few_places;
+      few_blocks = k.room.few_blocks;
+      places = k.room.places;
+      lists = k.room.lists;
+      steps = omega (arith, push.len, push.capacity, room);
+    })

@@ -1,7 +1,7 @@
 use Rattle.std.proofs.Common.{◌<◌, [], false, length, ap, sym, ◌∙◌, arith}
 use Rattle.std.proofs.lemmas.List.{get_or-map}
 use Rattle.spec_pcap.specs.Pcap.{Capture}
-use Rattle.spec_case.specs.Blocks.{ends_behind}
+use Rattle.spec_case.specs.Blocks.{ends_after}
 use Rattle.run_case.specs.Places.{ends_of}
 use Rattle.run_case.proofs.PlacesOfPorts.{frames_in-position}
 use Rattle.run_case.proofs.run_data.RunData.block_ends.Goals as goal
@@ -16,4 +16,4 @@ returns g c =
     let within : place < length run.traces = omega (arith, c.place_of.ensures.within, run_data.one_each) in
     let mapped = get_or-map (ends_of run.syncs) run.traces place none c.index.result.now within in
     let frames = frames_in-position c.args.port run.ports run.traces place none run_data.one_each c.place_of.ensures.place in
-    c.as_slice.ensures ∙ (at ∙ (mapped ∙ ap (ends_behind 0 run.syncs) (sym frames)))
+    c.as_slice.ensures ∙ (at ∙ (mapped ∙ ap (ends_after 0 run.syncs) (sym frames)))
