@@ -9,7 +9,8 @@ use Rattle.spec_tables.specs.Rules.{Rule, rules_in, is_matched, better, is_beate
 use Rattle.spec_tables.specs.Edits.{Edit, rule_of, with_actions, modified, without, is_named_by, is_reached_by, edited, after_edit, version}
 use Rattle.spec_tables.specs.Live.{rule_numbered, is_live}
 use Rattle.spec_xlate.specs.Translation.{action_limit}
-use Rattle.step_runner.specs.Plain.{is_output, is_plain_edit}
+use Rattle.spec_tables.specs.Outputs.{is_output}
+use Rattle.step_runner.specs.Outputs.{emits_outputs_only}
 use Rattle.step_runner.proofs.Outputs.{IsPlain}
 
 -- ---- numbers rise
@@ -131,7 +132,7 @@ plain_filter p (r ∷ rules) h = let parts = and_parts (is_plain_rule r) (list_a
     by_test true first others = and_from (is_plain_rule r) (list_all is_plain_rule (filter p rules)) first others
     by_test false first others = others
 
-plain_modified : (picked : Rule → Bool) (e : Edit) (rules : List Rule) → is_plain_edit e ≡ true → list_all is_plain_rule rules ≡ true → list_all is_plain_rule (modified picked e rules) ≡ true
+plain_modified : (picked : Rule → Bool) (e : Edit) (rules : List Rule) → emits_outputs_only e ≡ true → list_all is_plain_rule rules ≡ true → list_all is_plain_rule (modified picked e rules) ≡ true
 plain_modified picked e [] plain h = refl
 plain_modified picked e (r ∷ rules) plain h = let parts = and_parts (is_plain_rule r) (list_all is_plain_rule rules) h in by_test (picked r) parts.0 (plain_modified picked e rules plain parts.1)
   where
@@ -143,23 +144,23 @@ plain_push : (rules : List Rule) (r : Rule) → list_all is_plain_rule rules ≡
 plain_push [] r h last = and_from (is_plain_rule r) true last refl
 plain_push (x ∷ rules) r h last = let parts = and_parts (is_plain_rule x) (list_all is_plain_rule rules) h in and_from (is_plain_rule x) (list_all is_plain_rule (rules ++ r ∷ [])) parts.0 (plain_push rules r parts.1 last)
 
-plain_edited : (word : EditWord) (n : ℕ) (e : Edit) (rules : List Rule) → is_plain_edit e ≡ true → list_all is_plain_rule rules ≡ true → list_all is_plain_rule (edited word n e rules) ≡ true
+plain_edited : (word : EditWord) (n : ℕ) (e : Edit) (rules : List Rule) → emits_outputs_only e ≡ true → list_all is_plain_rule rules ≡ true → list_all is_plain_rule (edited word n e rules) ≡ true
 plain_edited Add n e rules plain h = plain_push (without (is_named_by e) rules) (rule_of n e) (plain_filter (λ r. not (is_named_by e r)) rules h) plain
 plain_edited Modify n e rules plain h = plain_modified (is_reached_by e) e rules plain h
 plain_edited ModifyStrict n e rules plain h = plain_modified (is_named_by e) e rules plain h
 plain_edited Delete n e rules plain h = plain_filter (λ r. not (is_reached_by e r)) rules h
 plain_edited DeleteStrict n e rules plain h = plain_filter (λ r. not (is_named_by e r)) rules h
 
-plain_at : (edits : List Edit) (n : ℕ) (e : Edit) → list_all is_plain_edit edits ≡ true → slice_get edits n ≡ Some e → is_plain_edit e ≡ true
+plain_at : (edits : List Edit) (n : ℕ) (e : Edit) → list_all emits_outputs_only edits ≡ true → slice_get edits n ≡ Some e → emits_outputs_only e ≡ true
 plain_at [] n e all is = absurd (cc is)
-plain_at (x ∷ edits) zero e all is = let same : x ≡ e = cc is in subst (λ y. is_plain_edit y ≡ true) same (and_parts (is_plain_edit x) (list_all is_plain_edit edits) all).0
-plain_at (x ∷ edits) (suc n) e all is = plain_at edits n e (and_parts (is_plain_edit x) (list_all is_plain_edit edits) all).1 is
+plain_at (x ∷ edits) zero e all is = let same : x ≡ e = cc is in subst (λ y. emits_outputs_only y ≡ true) same (and_parts (emits_outputs_only x) (list_all emits_outputs_only edits) all).0
+plain_at (x ∷ edits) (suc n) e all is = plain_at edits n e (and_parts (emits_outputs_only x) (list_all emits_outputs_only edits) all).1 is
 
-plain_after : (n : ℕ) (e : Option Edit) (rules : List Rule) → ((x : Edit) → e ≡ Some x → is_plain_edit x ≡ true) → list_all is_plain_rule rules ≡ true → list_all is_plain_rule (after_edit n e rules) ≡ true
+plain_after : (n : ℕ) (e : Option Edit) (rules : List Rule) → ((x : Edit) → e ≡ Some x → emits_outputs_only x ≡ true) → list_all is_plain_rule rules ≡ true → list_all is_plain_rule (after_edit n e rules) ≡ true
 plain_after n None rules plain h = h
 plain_after n (Some e) rules plain h = plain_edited e.word n e rules (plain e refl) h
 
-plain_version : (edits : List Edit) (v : ℕ) → list_all is_plain_edit edits ≡ true → list_all is_plain_rule (version edits v) ≡ true
+plain_version : (edits : List Edit) (v : ℕ) → list_all emits_outputs_only edits ≡ true → list_all is_plain_rule (version edits v) ≡ true
 unfolding version
 plain_version edits zero all = refl
 plain_version edits (suc v) all = plain_after (suc v) (slice_get edits v) (version edits v) (λ e. plain_at edits v e all) (plain_version edits v all)
@@ -170,7 +171,7 @@ plain_among (x ∷ rules) r all (inl e) = subst (λ y. is_plain_rule y ≡ true)
 plain_among (x ∷ rules) r all (inr i) = plain_among rules r (and_parts (is_plain_rule x) (list_all is_plain_rule rules) all).1 i
 
 -- the winner's actions are outputs, and few
-pub winner_plain : (edits : List Edit) (v table : ℕ) (key : List ℕ) (r : Rule) → list_all is_plain_edit edits ≡ true → winner (rules_in table (version edits v)) key ≡ Some r → IsPlain r
+pub winner_plain : (edits : List Edit) (v table : ℕ) (key : List ℕ) (r : Rule) → list_all emits_outputs_only edits ≡ true → winner (rules_in table (version edits v)) key ≡ Some r → IsPlain r
 winner_plain edits v table key r all h =
     let among = in_filter (λ x. x.table == table) r (version edits v) (in_winner (rules_in table (version edits v)) key r h) in
     let parts = and_parts (list_all is_output r.actions) (nat_le (length r.actions) action_limit) (plain_among (version edits v) r (plain_version edits v all) among) in

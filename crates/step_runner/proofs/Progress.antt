@@ -11,12 +11,11 @@ use Rattle.spec_board.specs.Results.{key_at, translated}
 use Rattle.spec_board.specs.Refusals.{open_fault, look_fault, settle_fault, begin_fault, end_fault}
 use Rattle.spec_board.specs.Effects.{effect}
 use Rattle.spec_board.specs.Journals.{IsFinished}
-use Rattle.pmd_board.specs.Bare.{IsBare}
 use Rattle.run_case.specs.Places.{place_before}
 use Rattle.run_case.proofs.Blocks.{last_place-le}
-use Rattle.pmd_board.proofs.Facts.{at_there, at_written, at_others, lo_next}
-use Rattle.pmd_board.proofs.Steps.{pending_written, decided_written}
-use Rattle.step_runner.specs.Progress.{IsAt, IsSwept}
+use Rattle.board_laws.proofs.Refusals.{lo_next}
+use Rattle.board_laws.proofs.PlaceLaws.{at_there, at_written, at_others, pending_written, decided_written}
+use Rattle.step_runner.specs.Progress.{planned, IsAt, IsSwept}
 
 module _ (run : Run) (port : ℕ) where
   -- ---- sweeps
@@ -28,7 +27,7 @@ module _ (run : Run) (port : ℕ) where
   may_end s sweeps none = rw (sweeps, none) refl
 
   -- a sweep of the last version of the block
-  pub swept_at : (s : State) (block place : ℕ) → IsAt s block place → s.floor ≤ hi run block → IsSwept run (effect run port (effect run port s (steps.Begin (hi run block))) steps.End) block place
+  pub swept_at : (s : State) (block place : ℕ) → IsAt run port s block place → s.floor ≤ hi run block → IsSwept run port (effect run port (effect run port s (steps.Begin (hi run block))) steps.End) block place
   swept_at s block place is_at below = record {
     is_at = record {
       in_block = is_at.in_block;
@@ -61,9 +60,9 @@ module _ (run : Run) (port : ℕ) where
     decided : Place
     decided = Decided v (translated run v (key_at run port place)).actions
 
-    pub decided_at : (block : ℕ) → IsSwept run s block place → IsSwept run filled block (place + 1)
+    pub decided_at : (block : ℕ) → Decided v (translated run v (key_at run port place)).actions ≡ planned run port place → IsSwept run port s block place → IsSwept run port filled block (place + 1)
     unfolding decided
-    decided_at block swept = record {
+    decided_at block as_planned swept = record {
       is_at = record {
         in_block = swept.is_at.in_block;
         is_next = ap (λ n. n + 1) swept.is_at.is_next;
@@ -77,13 +76,13 @@ module _ (run : Run) (port : ℕ) where
         others : (before : ℕ) → (before ≡ place → ⊥) → place_at before filled ≡ place_at before s
         others before n = at_others missed.places place before decided first n ∙ at_others s.places place before Pending first n
 
-        by_cases : (before : ℕ) → 1 ≤ before → before < place + 1 → (before ≡ place) ⊎ (before ≡ place → ⊥) → is_decided (place_at before filled) ≡ true
-        by_cases before from upto (inl e) = ap (λ i. is_decided (place_at i filled)) e ∙ ap is_decided (at_written missed.places place decided first (omega (arith, last, length-set s.places (place - 1) Pending)))
-        by_cases before from upto (inr n) = ap is_decided (others before n) ∙ swept.is_at.decided before from (omega (arith, upto, n))
+        by_cases : (before : ℕ) → 1 ≤ before → before < place + 1 → (before ≡ place) ⊎ (before ≡ place → ⊥) → place_at before filled ≡ planned run port before
+        by_cases before from upto (inl e) = ap (λ i. place_at i filled) e ∙ at_written missed.places place decided first (omega (arith, last, length-set s.places (place - 1) Pending)) ∙ as_planned ∙ ap (planned run port) (sym e)
+        by_cases before from upto (inr n) = others before n ∙ swept.is_at.decided before from (omega (arith, upto, n))
 
   -- ---- the next block
 
-  pub may_open : (s : State) (block : ℕ) → IsSwept run s block (last_place run port block + 1) → block < last_block run → open_fault run port s (block + 1) ≡ None
+  pub may_open : (s : State) (block : ℕ) → IsSwept run port s block (last_place run port block + 1) → block < last_block run → open_fault run port s (block + 1) ≡ None
   may_open s block swept there =
       rw (
         swept.is_at.in_block,
@@ -97,7 +96,7 @@ module _ (run : Run) (port : ℕ) where
         le-ltb (hi run block) (hi run block) (omega arith),
       ) refl
 
-  pub opened_at : (s : State) (block place : ℕ) → IsSwept run s block place → IsAt (effect run port s (steps.Open (block + 1))) (block + 1) place
+  pub opened_at : (s : State) (block place : ℕ) → IsSwept run port s block place → IsAt run port (effect run port s (steps.Open (block + 1))) (block + 1) place
   opened_at s block place swept = record {
     in_block = refl;
     is_next = swept.is_at.is_next;
@@ -113,15 +112,23 @@ place_before-le run port (suc block) there = last_place-le run port block (suc b
 
 -- ---- the end
 
+is_decided-planned : (run : Run) (port place : ℕ) → is_decided (planned run port place) ≡ true
+unfolding planned
+is_decided-planned run port place = refl
+
+pub as_planned : (run : Run) (port place block v : ℕ) → block_of run port place ≡ block → v ≡ hi run block → Decided v (translated run v (key_at run port place)).actions ≡ planned run port place
+unfolding planned
+as_planned run port place block v in_block is = ap (λ w. Decided w (translated run w (key_at run port place)).actions) (is ∙ ap (hi run) (sym in_block))
+
 all_from : (places : List Place) → ((i : ℕ) → i < length places → is_decided (slice_index_or places i Waiting) ≡ true) → list_all is_decided places ≡ true
 all_from [] each = refl
 all_from (p ∷ places) each = and_from (is_decided p) (list_all is_decided places) (each 0 (omega arith)) (all_from places (λ i within. each (suc i) (omega (arith, within))))
 
 -- a board that finished the last block is finished
-pub finished_from : (run : Run) (port : ℕ) (s : State) → IsBare run port s → IsSwept run s (last_block run) (length (frames_of run port) + 1) → IsFinished run s
-finished_from run port s bare swept = record {
+pub finished_from : (run : Run) (port : ℕ) (s : State) → length s.places ≡ length (frames_of run port) → IsSwept run port s (last_block run) (length (frames_of run port) + 1) → IsFinished run s
+finished_from run port s all swept = record {
   in_last_block = swept.is_at.in_block;
-  all_decided = all_from s.places (λ i within. ap is_decided (sym (at_there s.places (i + 1) (omega arith) ∙ ap (λ j. slice_index_or s.places j Waiting) (omega arith))) ∙ swept.is_at.decided (i + 1) (omega arith) (let all = bare.all_places in omega (arith, within, all)));
+  all_decided = all_from s.places (λ i within. ap is_decided (sym (at_there s.places (i + 1) (omega arith) ∙ ap (λ j. slice_index_or s.places j Waiting) (omega arith))) ∙ ap is_decided (swept.is_at.decided (i + 1) (omega arith) (omega (arith, within, all))) ∙ is_decided-planned run port (i + 1));
   no_sweep = swept.is_at.no_sweep;
   swept = swept.swept;
 }

@@ -1,3 +1,3 @@
-pub mod Plain
 pub mod Outputs
 pub mod Progress
+pub mod Scheduled

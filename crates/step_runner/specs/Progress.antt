@@ -1,24 +1,42 @@
 -- How far a board is.
-use Rattle.std.specs.Prelude.{◌≡◌, ℕ, ◌≤◌, ◌<◌, true, false}
-use Rattle.spec_case.specs.Run.{Run}
-use Rattle.spec_case.specs.Blocks.{hi}
-use Rattle.pmd_board.specs.Shown.{Shown}
-use Rattle.spec_board.specs.State.{State, place_at, is_decided, pending_count}
+use Rattle.std.specs.Prelude.{◌≡◌, ℕ, ◌≤◌, ◌<◌, false, length}
+use Rattle.spec_case.specs.Run.{Run, frames_of}
+use Rattle.spec_case.specs.Blocks.{hi, block_of}
+use Rattle.pmd_board.specs.BoardView.{BoardView, state_of}
+use Rattle.spec_board.specs.Results.{key_at, translated}
+use Rattle.spec_board.specs.State.{State, Place, Decided, place_at, pending_count}
+use Rattle.spec_board.specs.Decisions.{IsDecided}
 
--- It is in a block, at rest, and this place is next: the frames before it are decided.
-pub record IsAt (s : State) (block place : ℕ) : Type 0 where
+-- the frame of a place, decided under the last version of its block
+unfoldable pub planned : Run → ℕ → ℕ → Place
+planned run port place =
+    let v = hi run (block_of run port place) in
+    Decided v (translated run v (key_at run port place)).actions
+
+-- Each frame of a board is decided under the last version of its block.
+abbrev pub ArePlanned : Run → BoardView → Type 0
+ArePlanned run b = (place : ℕ) → 1 ≤ place → place ≤ length (frames_of run b.port) → place_at place (state_of run b) ≡ planned run b.port place
+
+-- Each frame of a board is decided by one of the steps of its journal, under the last version of its block.
+abbrev pub AreDecided : Run → BoardView → Type 0
+AreDecided run b =
+    (place : ℕ) → 1 ≤ place → place ≤ length (frames_of run b.port)
+    → (d : IsDecided run b.port b.journal place) × (d.decision.version ≡ hi run (block_of run b.port place))
+
+-- It is in a block, at rest, and this place is next: each frame before it is decided under the last version of its block.
+pub record IsAt (run : Run) (port : ℕ) (s : State) (block place : ℕ) : Type 0 where
   pub in_block : s.block ≡ block
   pub is_next : s.next ≡ place
   pub no_sweep : s.is_sweeping ≡ false
   pub none_pending : pending_count s ≡ 0
-  pub decided : (before : ℕ) → 1 ≤ before → before < place → is_decided (place_at before s) ≡ true
+  pub decided : (before : ℕ) → 1 ≤ before → before < place → place_at before s ≡ planned run port before
 
 -- It is so far, and a sweep of the last version of its block was completed.
-pub record IsSwept (run : Run) (s : State) (block place : ℕ) : Type 0 where
-  pub is_at : IsAt s block place
+pub record IsSwept (run : Run) (port : ℕ) (s : State) (block place : ℕ) : Type 0 where
+  pub is_at : IsAt run port s block place
   pub swept : s.done ≡ hi run block
 
 -- It is the board of the same port, with the same limit.
-pub record IsSameBoard (before after : Shown) : Type 0 where
+pub record IsSameBoard (before after : BoardView) : Type 0 where
   pub port : after.port ≡ before.port
   pub limit : after.flow_limit ≡ before.flow_limit

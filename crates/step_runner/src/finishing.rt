@@ -1,12 +1,15 @@
-ghost use Rattle.std.specs.Prelude.{◌≡◌, ◌+◌, ◌<◌, ◌≤◌, [], All, IsTrue, OnOk, IfOk, map, length};
+ghost use Rattle.std.specs.Prelude.{◌≡◌, ◌+◌, ◌<◌, ◌≤◌, [], All, IsTrue, OnOk, IfOk, map, length, if◌then◌else◌};
 ghost use Rattle.spec_case.specs.Run.{frames_of};
 ghost use Rattle.std.specs.List.{list_all};
 ghost use Rattle.spec_case.specs.Blocks.{hi, last_block, last_place};
-ghost use Rattle.spec_board.specs.Journals.{IsFinished};
+ghost use Rattle.spec_board.specs.Journals.{IsLegal, IsFinished};
+ghost use Rattle.spec_board.specs.Schedules as schedules;
 ghost use Rattle.run_case.specs.Places.{HasPlace, IsInBlock, place_before};
-ghost use Rattle.pmd_board.specs.Shown.{state_of};
-ghost use Rattle.step_runner.specs.Plain.{is_plain_edit};
-ghost use Rattle.step_runner.specs.Progress.{IsAt, IsSwept, IsSameBoard};
+ghost use Rattle.pmd_board.specs.BoardView.{state_of};
+ghost use Rattle.rule_tables.specs.History.{history_of};
+ghost use Rattle.step_runner.specs.Outputs.{emits_outputs_only};
+ghost use Rattle.step_runner.specs.Progress.{ArePlanned, AreDecided, IsAt, IsSwept, IsSameBoard};
+ghost use Rattle.step_runner.specs.Scheduled.{under_way, schedule_of, finished_in, IsDue};
 
 use crate::steps;
 use crate::translation::translate;
@@ -16,21 +19,15 @@ use run_case::{Case, RunData};
 use std::alloc::{AllocError, Global};
 
 // Makes a sweep of the last version of a board's block, where none was completed.
-fn sweep<C: Case>(
-    run: &RunData<C>,
-    board: &mut Board<C>,
-    block: u32,
-    place: u32,
-) -> Result<(), AllocError>
-    requires { IsAt (state_of C.run board.old) block place }
+fn sweep<C: Case>(board: &mut Board<C>, block: u32, version: u32) -> Result<(), AllocError>
+    requires at { IsAt C.run board.old.port (state_of C.run board.old) block (state_of C.run board.old).next }
+    requires version { version ≡ hi C.run block }
     ensures port { OnOk result (IsSameBoard board.old board.new) }
-    ensures swept { OnOk result (IsSwept C.run (state_of C.run board.new) block place) }
+    ensures swept { OnOk result (IsSwept C.run board.old.port (state_of C.run board.new) block (state_of C.run board.old).next) }
+    ensures made { OnOk result (under_way C.run board.new ≡ schedules.with_sweep_made C.run version (under_way C.run board.old)) }
 {
-    let _ = place;
-    let _ = board.flow_limit();
-    let hi = run.hi(block);
-    if board.done() < hi {
-        steps::begin(board, hi)?;
+    if board.done() < version {
+        steps::begin(board, version)?;
         steps::end(board);
     }
     Ok(())
@@ -43,83 +40,148 @@ fn decide_next<C: Case>(
     rules: &VersionedRules,
     board: &mut Board<C>,
     block: u32,
+    version: u32,
     place: u32,
 ) -> Result<(), AllocError>
-    requires rules { rules.now ≡ C.run.edits }
-    requires plain { IsTrue (list_all is_plain_edit C.run.edits) }
-    requires swept { IsSwept C.run (state_of C.run board.old) block place }
+    requires rules { rules.now ≡ history_of C.run.edits }
+    requires plain { IsTrue (list_all emits_outputs_only C.run.edits) }
+    requires limit { board.old.flow_limit ≡ C.run.flow_limit }
+    requires version { version ≡ hi C.run block }
+    requires swept { IsSwept C.run board.old.port (state_of C.run board.old) block place }
     requires place { HasPlace C.run board.old.port place }
     requires in_block { IsInBlock C.run board.old.port block place }
     ensures port { OnOk result (IsSameBoard board.old board.new) }
-    ensures decided { OnOk result (IsSwept C.run (state_of C.run board.new) block (place + 1)) }
+    ensures decided { OnOk result (IsSwept C.run board.old.port (state_of C.run board.new) block (place + 1)) }
+    ensures scheduled { OnOk result (under_way C.run board.new ≡ schedules.decide_next C.run version (under_way C.run board.old) place) }
 {
-    let _ = board.flow_limit();
+    prove!(board.next() == place);
+    prove!(board.done() == version);
     let at = run.keyed(board.port(), place);
-    let version = run.hi(block);
+    let _ = run.hi(block);
     let actions = translate(alloc, run, rules, version, &at.key)?;
     steps::look(board, &at);
-    match steps::settle(board, &at, version, actions) {
-        Ok(()) => Ok(()),
-        Err(error) => Err(error),
-    }
+    steps::settle(board, &at, version, actions)?;
+    Ok(())
 }
 
-// Finishes the block that a board is in.
-fn finish_block<C: Case>(
+// Decides the frames that are left of the block that a board is in.
+fn decide_all<C: Case>(
     alloc: Global,
     run: &RunData<C>,
     rules: &VersionedRules,
     board: &mut Board<C>,
     block: u32,
+    version: u32,
 ) -> Result<(), AllocError>
-    requires rules { rules.now ≡ C.run.edits }
-    requires plain { IsTrue (list_all is_plain_edit C.run.edits) }
+    requires rules { rules.now ≡ history_of C.run.edits }
+    requires plain { IsTrue (list_all emits_outputs_only C.run.edits) }
+    requires limit { board.old.flow_limit ≡ C.run.flow_limit }
+    requires version { version ≡ hi C.run block }
     requires there { block ≤ last_block C.run }
-    requires at { IsAt (state_of C.run board.old) block (place_before C.run board.old.port block + 1) }
+    requires at { IsSwept C.run board.old.port (state_of C.run board.old) block (place_before C.run board.old.port block + 1) }
     ensures port { OnOk result (IsSameBoard board.old board.new) }
-    ensures finished { OnOk result (IsSwept C.run (state_of C.run board.new) block (last_place C.run board.new.port block + 1)) }
+    ensures finished { OnOk result (IsSwept C.run board.old.port (state_of C.run board.new) block (last_place C.run board.old.port block + 1)) }
+    ensures scheduled { OnOk result (under_way C.run board.new ≡ schedules.with_all_decided C.run version (under_way C.run board.old)) }
 {
     let next = board.next();
-    sweep(run, board, block, next)?;
     let _ = run.frames(board.port());
     let end = run.last_place(board.port(), block);
     'places: for place in next..end + 1 {
-        decide_next(alloc, run, rules, board, block, place)?;
+        decide_next(alloc, run, rules, board, block, version, place)?;
     }
     Ok(())
 }
 
-// Opens the next block of a board that finished its block.
+// Opens the next block of a board that finished its block, if there is one.
 fn open_next<C: Case>(run: &RunData<C>, board: &mut Board<C>, block: u32)
-    requires swept { IsSwept C.run (state_of C.run board.old) block (last_place C.run board.old.port block + 1) }
-    requires there { block < last_block C.run }
+    requires limit { board.old.flow_limit ≡ C.run.flow_limit }
+    requires swept { IsSwept C.run board.old.port (state_of C.run board.old) block (last_place C.run board.old.port block + 1) }
+    requires there { block ≤ last_block C.run }
     ensures port { IsSameBoard board.old board.new }
-    ensures opened { IsAt (state_of C.run board.new) (block + 1) (last_place C.run board.new.port block + 1) }
+    ensures due { IsDue C.run (block + 1) board.new }
+    ensures scheduled { under_way C.run board.new ≡ schedules.with_next_opened C.run (under_way C.run board.old) }
 {
-    let _ = run.last_block();
-    steps::open_block(board, block + 1);
+    let last = run.last_block();
+    let _ = board.journal();
+    if block < last {
+        steps::open_block(board, block + 1);
+    }
 }
 
-// Carries a new board to its end, block by block.
+// Finishes the block that a board is in, and opens the next.
 fn finish_board<C: Case>(
     alloc: Global,
     run: &RunData<C>,
     rules: &VersionedRules,
     board: &mut Board<C>,
+    block: u32,
+    version: u32,
 ) -> Result<(), AllocError>
-    requires rules { rules.now ≡ C.run.edits }
-    requires plain { IsTrue (list_all is_plain_edit C.run.edits) }
-    requires new { board.old.journal ≡ [] }
+    requires rules { rules.now ≡ history_of C.run.edits }
+    requires plain { IsTrue (list_all emits_outputs_only C.run.edits) }
+    requires version { version ≡ hi C.run block }
+    requires there { block ≤ last_block C.run }
+    requires due { IsDue C.run block board.old }
     ensures port { OnOk result (IsSameBoard board.old board.new) }
-    ensures finished { OnOk result (IsSwept C.run (state_of C.run board.new) (last_block C.run) (length (frames_of C.run board.new.port) + 1)) }
+    ensures due { OnOk result (IsDue C.run (block + 1) board.new) }
+    ensures scheduled { OnOk result (under_way C.run board.new ≡ finished_in C.run block version (under_way C.run board.old)) }
 {
-    finish_block(alloc, run, rules, board, 0)?;
-    let last = run.last_block();
-    'openings: for block in 0..last {
-        open_next(run, board, block);
-        finish_block(alloc, run, rules, board, block + 1)?;
+    sweep(board, block, version)?;
+    decide_all(alloc, run, rules, board, block, version)?;
+    open_next(run, board, block);
+    Ok(())
+}
+
+// A new board of each port.
+fn new_boards<C: Case>(alloc: Global, run: &RunData<C>) -> Result<Vec<Board<C>>, AllocError>
+    requires limit { C.run.flow_limit ≡ 0 }
+    ensures some { IfOk result (λ boards. 1 ≤ length boards.items) }
+    ensures ports { IfOk result (λ boards. map (λ b. b.port) boards.items ≡ C.run.ports) }
+    ensures due { IfOk result (λ boards. All (IsDue C.run 0) boards.items) }
+    ensures scheduled { IfOk result (λ boards. schedule_of C.run 0 boards.items ≡ schedules.new_schedule C.run) }
+{
+    let _ = run.ports().len();
+    let mut boards = Vec::new(alloc);
+    'ports: for port in run.ports().as_slice() {
+        let board = Board::new(alloc, run, *port)?;
+        boards.push(board)?;
+    }
+    Ok(boards)
+}
+
+// Each board that is in a block finishes it.
+fn finish_block<C: Case>(
+    alloc: Global,
+    run: &RunData<C>,
+    rules: &VersionedRules,
+    boards: &mut Vec<Board<C>>,
+    block: u32,
+    version: u32,
+) -> Result<(), AllocError>
+    requires rules { rules.now ≡ history_of C.run.edits }
+    requires plain { IsTrue (list_all emits_outputs_only C.run.edits) }
+    requires version { version ≡ hi C.run block }
+    requires there { block ≤ last_block C.run }
+    requires due { All (IsDue C.run block) boards.old.items }
+    ensures due { OnOk result (All (IsDue C.run (block + 1)) boards.new.items) }
+    ensures ports { OnOk result (map (λ b. b.port) boards.new.items ≡ map (λ b. b.port) boards.old.items) }
+    ensures scheduled { OnOk result (map (under_way C.run) boards.new.items ≡ map (λ b. finished_in C.run block version (under_way C.run b)) boards.old.items) }
+{
+    'boards: for board in boards.iter_mut() {
+        finish_board(alloc, run, rules, board, block, version)?;
     }
     Ok(())
+}
+
+// The least block that a board is in.
+fn least_block<C: Case>(run: &RunData<C>, boards: &[Board<C>]) -> u32
+    ensures { result ≡ schedules.least_block (last_block C.run) (map (under_way C.run) boards.now) }
+{
+    let mut least = run.last_block();
+    'boards: for board in boards {
+        least = least.min(board.block());
+    }
+    least
 }
 
 /// The boards of a run that no steps are given of, carried from new ones to the end, in the order of the words.
@@ -133,18 +195,25 @@ pub fn finish<C: Case>(
     run: &RunData<C>,
     rules: &VersionedRules,
 ) -> Result<Vec<Board<C>>, AllocError>
-    requires rules { rules.now ≡ C.run.edits }
-    requires plain { IsTrue (list_all is_plain_edit C.run.edits) }
+    requires rules { rules.now ≡ history_of C.run.edits }
+    requires plain { IsTrue (list_all emits_outputs_only C.run.edits) }
+    requires limit { C.run.flow_limit ≡ 0 }
+    requires steps { C.run.steps ≡ [] }
     ensures ports { IfOk result (λ boards. map (λ b. b.port) boards.items ≡ C.run.ports) }
     ensures limit { IfOk result (λ boards. All (λ b. b.flow_limit ≡ 0) boards.items) }
     ensures finished { IfOk result (λ boards. All (λ b. IsFinished C.run (state_of C.run b)) boards.items) }
+    ensures planned { IfOk result (λ boards. All (ArePlanned C.run) boards.items) }
+    ensures legal { IfOk result (λ boards. All (λ b. IsLegal C.run b.port b.flow_limit b.journal) boards.items) }
+    ensures decided { IfOk result (λ boards. All (AreDecided C.run) boards.items) }
+    ensures scheduled { IfOk result (λ boards. map (under_way C.run) boards.items ≡ (schedules.scheduled C.run).boards) }
 {
-    let mut boards = Vec::new(alloc);
-    'ports: for port in run.ports().as_slice() {
-        let mut board = Board::new(alloc, run, *port)?;
-        finish_board(alloc, run, rules, &mut board)?;
-        let _ = board.flow_limit();
-        boards.push(board)?;
+    let mut boards = new_boards(alloc, run)?;
+    let mut newest: u32 = 0;
+    let last = run.last_block();
+    'rounds: for round in 0..last + 1 {
+        let block = least_block(run, &boards);
+        newest = newest.max(run.hi(block));
+        finish_block(alloc, run, rules, &mut boards, block, newest)?;
     }
     Ok(boards)
 }

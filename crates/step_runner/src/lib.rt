@@ -7,13 +7,15 @@
 //!
 //! # What is promised
 //!
-//! `finish` gives one board for each port, in the order of the words, and each is finished as `spec_board` defines it:
-//! the last block is open, every frame is decided, no sweep runs, and a sweep of the last version was completed. That
-//! their journals are legal, and that each frame is decided once and within its window, is what the boards' type keeps.
+//! `finish` gives the boards of the run's schedule, as `spec_board` defines it: step by step its journals, in the order
+//! of the words. So each is finished: the last block is open, every frame is decided, no sweep runs, and a sweep of the
+//! last version was completed; and each frame was decided under the last version of its block. Their journals are
+//! legal, and each frame is decided once and within its window: that is what the boards' type keeps.
 //!
 //! # How
 //!
-//! In each block a board makes a sweep of the block's last version, where none was completed, and then looks up each
+//! All boards go through a block before one goes through the next: the least block of all boards is finished in turn. In
+//! each block a board makes a sweep of the block's last version, where none was completed, and then looks up each
 //! frame of the block and settles it at once under that version. The translation is a plain scan for the winning rule of
 //! table 0, whose actions are outputs (`translation`); the rules answer for every version, so none has to be published.
 //! No call of a board can be refused here, which is proved call by call (`steps`).

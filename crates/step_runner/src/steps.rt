@@ -1,11 +1,11 @@
 //! One step of a board that may have no entries, where nothing refuses it.
-ghost use Rattle.std.specs.Prelude.{◌≡◌, None, OnOk, OnErr};
+ghost use Rattle.std.specs.Prelude.{◌≡◌, [], None, OnOk, OnErr};
 ghost use Rattle.ovs_fields.specs.Packed.{numbers};
 ghost use Rattle.spec_board.specs.declared.looked.Looked.TheVariants.{Miss};
 ghost use Rattle.spec_board.specs.Steps as steps;
 ghost use Rattle.spec_board.specs.Results.{translated};
 ghost use Rattle.spec_board.specs.Refusals.{open_fault, look_fault, settle_fault, begin_fault, end_fault};
-ghost use Rattle.pmd_board.specs.Shown.{Appends, state_of};
+ghost use Rattle.pmd_board.specs.BoardView.{Appends, state_of};
 
 use pmd_board::{ActionList, BeginFault, Board, SettleFault};
 use run_case::{Case, Keyed};
@@ -52,7 +52,8 @@ pub fn settle<C: Case>(
 
 pub fn begin<C: Case>(board: &mut Board<C>, version: u32) -> Result<(), AllocError>
     requires { begin_fault C.run (state_of C.run board.old) version ≡ None }
-    ensures { OnOk result (Appends C.run board.old (steps.Begin version) board.new) }
+    ensures begun { OnOk result (Appends C.run board.old (steps.Begin version) board.new) }
+    ensures none_listed { OnOk result ((state_of C.run board.new).listed ≡ []) }
 {
     match board.begin(version) {
         Ok(()) => Ok(()),

@@ -1,10 +1,11 @@
+ghost use Rattle.spec_case.specs.Run.{last_version};
 ghost use Rattle.std.specs.Prelude.{◌≡◌, ◌≤◌, ◌==◌, IsTrue, IfOk, length, ◌++◌, ◌∷◌, [], OnOk};
 ghost use Rattle.std.specs.List.{list_all, list_any};
 ghost use Rattle.ovs_fields.specs.Packed.{numbers};
 ghost use Rattle.spec_keys.specs.declared.field_id.FieldId.TheVariants as field;
 ghost use Rattle.spec_board.specs.Results.{translated, switch_at};
-ghost use Rattle.step_runner.specs.Plain.{is_plain_edit};
-ghost use Rattle.step_runner.specs.Outputs.{made, made_output};
+ghost use Rattle.rule_tables.specs.History.{history_of};
+ghost use Rattle.step_runner.specs.Outputs.{output_of, outputs_of, emits_outputs_only};
 ghost use Rattle.spec_xlate.specs.Translation.{in_port_of, is_other_port, switch_of};
 
 use ovs_fields::{FieldId, Key};
@@ -36,7 +37,7 @@ fn is_other(ports: &Ports, key: &Key, port: u16) -> bool
 }
 
 fn output_of(ports: &Ports, key: &Key, action: &OfAction) -> Option<DpAction>
-    ensures { result ≡ made_output ports.now (numbers key.now) action.now }
+    ensures { result ≡ output_of ports.now (numbers key.now) action.now }
 {
     match action {
         OfAction::Output(port) => {
@@ -51,13 +52,13 @@ fn output_of(ports: &Ports, key: &Key, action: &OfAction) -> Option<DpAction>
 }
 
 // The datapath actions of outputs: to ports of the switch, and never where the packet came in.
-fn outputs(
+fn outputs_of(
     alloc: Global,
     ports: &Ports,
     key: &Key,
     actions: &[OfAction],
 ) -> Result<Vec<DpAction>, AllocError>
-    ensures { IfOk result (λ v. v.items ≡ made ports.now (numbers key.now) actions.now) }
+    ensures { IfOk result (λ v. v.items ≡ outputs_of ports.now (numbers key.now) actions.now) }
 {
     actions
         .iter()
@@ -73,15 +74,15 @@ pub fn translate<C: Case>(
     version: u32,
     key: &Key,
 ) -> Result<ActionList, AllocError>
-    requires rules { rules.now ≡ C.run.edits }
-    requires plain { IsTrue (list_all is_plain_edit C.run.edits) }
-    requires version { version ≤ length C.run.edits }
+    requires rules { rules.now ≡ history_of C.run.edits }
+    requires plain { IsTrue (list_all emits_outputs_only C.run.edits) }
+    requires version { version ≤ last_version C.run }
     ensures { IfOk result (λ a. a ≡ (translated C.run version (numbers key.now)).actions) }
 {
     match rules.scan(version, 0, key) {
         None => Ok(ActionList::new(Vec::new(alloc))),
         Some(number) => {
-            let actions = outputs(alloc, run.ports(), key, rules.actions(version, number))?;
+            let actions = outputs_of(alloc, run.ports(), key, rules.actions(version, number))?;
             Ok(ActionList::new(actions))
         }
     }

@@ -1,28 +1,92 @@
-use Rattle.std.proofs.Common.{◌≡◌, ℕ, ◌+◌, ◌<◌, List, [], ◌∷◌, ◌++◌, map, take, get_or, length, All, sym, ap, ◌∙◌, subst}
-use Rattle.std.proofs.lemmas.List.{map_push, take_more}
-use Rattle.std.proofs.lemmas.List.Elements.{All-append, All-cons, All-nil}
+use Rattle.std.proofs.Common.{◌<◌, arith, ◌≡◌, ◌+◌, suc, map, max, length, All, sym, ap, ◌∙◌, subst}
+use Rattle.std.proofs.lemmas.List.{length-map}
+use Rattle.std.specs.Fn.{iterate}
 use Rattle.spec_case.specs.Run.{Run}
-use Rattle.spec_board.specs.Journals.{IsFinished}
-use Rattle.pmd_board.specs.Shown.{Shown, state_of}
-use Rattle.step_runner.proofs.Progress.{finished_from}
+use Rattle.spec_case.specs.Blocks.{hi, last_block}
+use Rattle.spec_board.specs.Schedules as schedules
+use Rattle.step_runner.specs.Scheduled.{under_way, schedule_of, IsDue}
+use Rattle.step_runner.proofs.Scheduled.{turn, round_made, iterate_more, all_made}
 use Rattle.step_runner.proofs.finishing.finish.Goals as goal
 
-pub ports-preserved : goal.ports-preserved
-ports-preserved g c =
+pub hi-requires : goal.hi-requires
+hi-requires g c =
     let run : Run = g.C.Case.run in
-    let boards : List Shown = c.ports.boards.items in
-    let board : Shown = c.finish_board.new.board in
-    let grown : c.push.new.self.items ≡ boards ++ board ∷ [] = c.in_ok-push.ensures.items in
-    let Is0 : Shown → Type 0 = λ (b : Shown). b.flow_limit ≡ 0 in
-    let IsEnd : Shown → Type 0 = λ (b : Shown). IsFinished run (state_of run b) in
-    let limit : board.flow_limit ≡ 0 = c.in_ok-finish_board.ensures.port.limit ∙ ap (λ (b : Shown). b.flow_limit) c.in_ok-board.ensures in
-    let Port : Shown → ℕ = λ (b : Shown). b.port in
-    let list : c.as_slice-port-items.result.now ≡ run.ports = c.as_slice-port-items.ensures.list ∙ c.ports-2.ensures in
-    let within : c.ports.port-index < length run.ports = subst (λ (xs : List ℕ). c.ports.port-index < length xs) list c.ports-test.true in
-    let more : take (c.ports.port-index + 1) run.ports ≡ take c.ports.port-index run.ports ++ get_or run.ports c.ports.port-index 0 ∷ [] = take_more run.ports c.ports.port-index 0 within in
-    let port : get_or run.ports c.ports.port-index 0 ≡ board.port = ap (λ (xs : List ℕ). get_or xs c.ports.port-index 0) (sym list) ∙ sym (c.in_ok-finish_board.ensures.port.port ∙ ap (λ (b : Shown). b.port) c.in_ok-board.ensures) in
-    let end : IsFinished run (state_of run board) = finished_from run board.port (state_of run board) c.flow_limit.ensures.bare c.in_ok-finish_board.ensures.finished in (
-      ap (map Port) grown ∙ map_push Port boards board ∙ ap (λ ps. ps ++ board.port ∷ []) c.ports.invariant.0 ∙ sym (more ∙ ap (λ p. take c.ports.port-index run.ports ++ p ∷ []) port),
-      subst (All Is0) (sym grown) (All-append Is0 boards (board ∷ []) c.ports.invariant.1 (All-cons Is0 board [] limit (All-nil Is0))),
-      subst (All IsEnd) (sym grown) (All-append IsEnd boards (board ∷ []) c.ports.invariant.2 (All-cons IsEnd board [] end (All-nil IsEnd))),
-    )
+    let within = c.rounds-test.true in
+    let last = c.last_block-last.ensures.block in
+    let is = turn run c.rounds.round c.least_block-block.result c.last_block-last.result c.rounds.boards.items c.deref.result.now within last c.least_block-block.ensures c.deref.ensures.value c.rounds.invariant.some c.rounds.invariant.due in
+    omega (arith, is, within, last)
+
+pub finish_block-requires-clause-there : goal.finish_block-requires-clause-there
+finish_block-requires-clause-there g c =
+    let run : Run = g.C.Case.run in
+    let within = c.rounds-test.true in
+    let last = c.last_block-last.ensures.block in
+    let is = turn run c.rounds.round c.least_block-block.result c.last_block-last.result c.rounds.boards.items c.deref.result.now within last c.least_block-block.ensures c.deref.ensures.value c.rounds.invariant.some c.rounds.invariant.due in
+    omega (arith, is, within, last)
+
+pub finish_block-requires-clause-version : goal.finish_block-requires-clause-version
+finish_block-requires-clause-version g c =
+    let run : Run = g.C.Case.run in
+    let within = c.rounds-test.true in
+    let last = c.last_block-last.ensures.block in
+    let is = turn run c.rounds.round c.least_block-block.result c.last_block-last.result c.rounds.boards.items c.deref.result.now within last c.least_block-block.ensures c.deref.ensures.value c.rounds.invariant.some c.rounds.invariant.due in
+    let newest = c.rounds.invariant.newest in
+    let at = ap (hi run) is in
+    let hi_is = c.hi.ensures.number in
+    let v = c.max-newest.ensures in
+    omega (arith, v, hi_is, at, newest)
+
+pub finish_block-requires-clause-due : goal.finish_block-requires-clause-due
+finish_block-requires-clause-due g c =
+    let run : Run = g.C.Case.run in
+    let within = c.rounds-test.true in
+    let last = c.last_block-last.ensures.block in
+    let is = turn run c.rounds.round c.least_block-block.result c.last_block-last.result c.rounds.boards.items c.deref.result.now within last c.least_block-block.ensures c.deref.ensures.value c.rounds.invariant.some c.rounds.invariant.due in
+    subst (λ k. All (IsDue run k) c.rounds.boards.items) (sym is) c.rounds.invariant.due
+
+pub rounds-preserved : goal.rounds-preserved
+rounds-preserved g c =
+    let run : Run = g.C.Case.run in
+    let within = c.rounds-test.true in
+    let last = c.last_block-last.ensures.block in
+    let is = turn run c.rounds.round c.least_block-block.result c.last_block-last.result c.rounds.boards.items c.deref.result.now within last c.least_block-block.ensures c.deref.ensures.value c.rounds.invariant.some c.rounds.invariant.due in
+    let round = c.rounds.round in
+    let block = c.least_block-block.result in
+    let old = c.rounds.boards.items in
+    let new = c.finish_block.new.boards.items in
+    let newest = c.rounds.invariant.newest in
+    let at = ap (hi run) is in
+    let hi_is = c.hi.ensures.number in
+    let v = c.max-newest.ensures in
+    let next = (c.last_block-last.ensures.in_order round).0 in
+    let made = c.in_ok-finish_block.ensures.scheduled in
+    let count : length new ≡ length old = sym (length-map new (under_way run)) ∙ ap length made ∙ length-map old _ in
+    let some = c.rounds.invariant.some in
+    let more : round + 1 ≡ suc round = omega arith in
+    let least = c.least_block-block.ensures ∙ ap (λ bs. schedules.least_block (last_block run) (map (under_way run) bs)) c.deref.ensures.value in record {
+      due = subst (λ k. All (IsDue run (k + 1)) new) is c.in_ok-finish_block.ensures.due;
+      some = omega (arith, count, some);
+      ports = c.in_ok-finish_block.ensures.ports ∙ c.rounds.invariant.ports;
+      newest = omega (arith, v, hi_is, at, newest, next);
+      scheduled = round_made run c.rounds.newest block c.max-newest.result old new least (v ∙ ap (max c.rounds.newest) hi_is) made
+          ∙ ap (schedules.finish_block run) c.rounds.invariant.scheduled
+          ∙ sym (ap (λ n. iterate (schedules.finish_block run) n (schedules.new_schedule run)) more ∙ iterate_more (schedules.finish_block run) round (schedules.new_schedule run));
+    }
+
+pub returns-clause-scheduled : goal.returns-clause-scheduled
+returns-clause-scheduled g c =
+    let run : Run = g.C.Case.run in
+    let stop = c.rounds-test.false in
+    let upto = c.rounds.auto.round-end in
+    let last = c.last_block-last.ensures.block in
+    let end : c.rounds.round ≡ last_block run + 1 = omega (arith, stop, upto, last) in
+    all_made run (schedule_of run c.rounds.newest c.rounds.boards.items) c.requires.steps (c.rounds.invariant.scheduled ∙ ap (λ n. iterate (schedules.finish_block run) n (schedules.new_schedule run)) end)
+
+pub returns-clause-decided : goal.returns-clause-decided
+returns-clause-decided g c k d within =
+    let run : Run = g.C.Case.run in
+    let stop = c.rounds-test.false in
+    let upto = c.rounds.auto.round-end in
+    let last = c.last_block-last.ensures.block in
+    let past : last_block run < c.rounds.round = omega (arith, stop, upto, last) in
+    (c.rounds.invariant.due k d within).decided past

@@ -1,10 +1,16 @@
-use Rattle.std.proofs.Common.{◌≡◌, map, take, All}
-use Rattle.spec_board.specs.Journals.{IsFinished}
-use Rattle.pmd_board.specs.Shown.{Shown, state_of}
+use Rattle.std.proofs.Common.{◌≡◌, ◌≤◌, length, map, All}
+use Rattle.std.specs.Fn.{iterate}
+use Rattle.spec_case.specs.Blocks.{hi}
+use Rattle.spec_board.specs.Schedules as schedules
+use Rattle.pmd_board.specs.BoardView.{BoardView}
+use Rattle.step_runner.specs.Scheduled.{schedule_of, IsDue}
 use Rattle.step_runner.proofs.finishing.finish.Given as goal
 
-abbrev pub invariant-ports : goal.invariant-ports
-invariant-ports g l =
-    (map (λ (b : Shown). b.port) l.boards.items ≡ take l.port-index g.C.Case.run.ports)
-    × All (λ (b : Shown). b.flow_limit ≡ 0) l.boards.items
-    × All (λ (b : Shown). IsFinished g.C.Case.run (state_of g.C.Case.run b)) l.boards.items
+abbrev pub invariant-rounds : goal.invariant-rounds
+invariant-rounds g l = record {
+  due : All (IsDue g.C.Case.run l.round) l.boards.items;
+  some : 1 ≤ length l.boards.items;
+  ports : map (λ (b : BoardView). b.port) l.boards.items ≡ g.C.Case.run.ports;
+  newest : l.newest ≤ hi g.C.Case.run l.round;
+  scheduled : schedule_of g.C.Case.run l.newest l.boards.items ≡ iterate (schedules.finish_block g.C.Case.run) l.round (schedules.new_schedule g.C.Case.run);
+}

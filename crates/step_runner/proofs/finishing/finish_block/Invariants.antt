@@ -1,6 +1,11 @@
-use Rattle.pmd_board.specs.Shown.{state_of}
-use Rattle.step_runner.specs.Progress.{IsSwept, IsSameBoard}
+use Rattle.std.proofs.Common.{◌≡◌, ℕ, ◌<◌, ◌≤◌, length, slice_index_or}
+use Rattle.pmd_board.specs.BoardView.{BoardView}
+use Rattle.step_runner.specs.Scheduled.{TookTurn}
 use Rattle.step_runner.proofs.finishing.finish_block.Given as goal
 
-abbrev pub invariant-places : goal.invariant-places
-invariant-places g l = IsSwept g.C.Case.run (state_of g.C.Case.run l.board) l.block l.place × IsSameBoard l.initial.board l.board
+abbrev pub invariant-boards : goal.invariant-boards
+invariant-boards g l = record {
+  count : length l.board-items ≡ length l.initial.board-items;
+  others : (k : ℕ) (d : BoardView) → l.board-index ≤ k → slice_index_or l.board-items k d ≡ slice_index_or l.initial.board-items k d;
+  done : (k : ℕ) (d : BoardView) → k < l.board-index → TookTurn g.C.Case.run l.block l.version (slice_index_or l.initial.board-items k d) (slice_index_or l.board-items k d);
+}

@@ -1,22 +1,19 @@
-use Rattle.std.proofs.Common.{arith, ◌≡◌, ◌+◌, sym, subst}
+use Rattle.std.proofs.Common.{sym, ap, ◌∙◌}
+use Rattle.std.proofs.lemmas.Bool.{cond-true, eq-eqb}
 use Rattle.spec_case.specs.Run.{Run}
-use Rattle.spec_case.specs.Blocks.{last_block, last_place}
-use Rattle.run_case.proofs.Blocks.{last_place-last}
-use Rattle.pmd_board.specs.Shown.{state_of}
-use Rattle.step_runner.specs.Progress.{IsAt, IsSwept}
-use Rattle.step_runner.proofs.Progress.{place_before-next}
+use Rattle.spec_board.specs.Schedules as schedules
+use Rattle.pmd_board.specs.BoardView.{BoardView, state_of}
+use Rattle.step_runner.specs.Scheduled.{under_way}
+use Rattle.step_runner.proofs.Scheduled.{at_rest}
 use Rattle.step_runner.proofs.finishing.finish_board.Goals as goal
 
-pub finish_block-requires-in-openings-clause-at : goal.finish_block-requires-in-openings-clause-at
-finish_block-requires-in-openings-clause-at g c =
+pub returns-clause-scheduled : goal.returns-clause-scheduled
+returns-clause-scheduled g c =
     let run : Run = g.C.Case.run in
-    let board = c.open_next.new.board in
-    subst (λ i. IsAt (state_of run board) (c.openings.block + 1) (i + 1)) (sym (place_before-next run board.port c.openings.block)) c.open_next.ensures.opened
-
-pub returns-clause-finished : goal.returns-clause-finished
-returns-clause-finished g c =
-    let run : Run = g.C.Case.run in
-    let board = c.openings.board in
-    let end : c.openings.block ≡ last_block run = (let stop = c.openings-test.false in omega (arith, stop, c.openings.auto.block-end, c.last_block-last.ensures.block)) in
-    let swept : IsSwept run (state_of run board) (last_block run) (last_place run board.port (last_block run) + 1) = subst (λ block. IsSwept run (state_of run board) block (last_place run board.port block + 1)) end c.openings.invariant.0 in
-    subst (λ i. IsSwept run (state_of run board) (last_block run) (i + 1)) (last_place-last run board.port) swept
+    let b : BoardView = c.args.board.now in
+    let v = c.args.version in
+    let at = c.requires.due.at c.requires.there in
+    c.open_next.ensures.scheduled
+    ∙ ap (schedules.with_next_opened run) (c.in_ok-decide_all.ensures.scheduled ∙ ap (schedules.with_all_decided run v) c.in_ok-sweep.ensures.made)
+    ∙ sym (at_rest run v (under_way run b) at.no_sweep at.none_pending)
+    ∙ sym (cond-true _ _ _ (eq-eqb (state_of run b).block c.args.block at.in_block))

@@ -1,0 +1,14 @@
+use Rattle.std.proofs.Common.{◌≡◌, ◌-◌}
+use Rattle.std.specs.List.{fold, range_with_len}
+use Rattle.spec_board.specs.Schedules as schedules
+use Rattle.pmd_board.specs.BoardView.{state_of}
+use Rattle.step_runner.specs.Progress.{IsSwept, IsSameBoard}
+use Rattle.step_runner.specs.Scheduled.{under_way}
+use Rattle.step_runner.proofs.finishing.decide_all.Given as goal
+
+abbrev pub invariant-places : goal.invariant-places
+invariant-places g l = record {
+  swept : IsSwept g.C.Case.run l.initial.board.port (state_of g.C.Case.run l.board) l.block l.place;
+  same : IsSameBoard l.initial.board l.board;
+  scheduled : under_way g.C.Case.run l.board ≡ fold (schedules.decide_next g.C.Case.run l.version) (under_way g.C.Case.run l.initial.board) (range_with_len l.next (l.place - l.next));
+}

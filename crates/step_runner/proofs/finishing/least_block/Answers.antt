@@ -1,0 +1,25 @@
+use Rattle.std.proofs.Common.{List, [], ◌∷◌, ◌++◌, map, min, take, sym, ap, ◌∙◌}
+use Rattle.std.proofs.lemmas.List.{map_push, take_more}
+use Rattle.spec_case.specs.Run.{Run}
+use Rattle.spec_case.specs.Blocks.{last_block}
+use Rattle.spec_board.specs.Schedules as schedules
+use Rattle.pmd_board.specs.BoardView.{BoardView}
+use Rattle.step_runner.specs.Scheduled.{under_way}
+use Rattle.step_runner.proofs.Scheduled.{least_none, least_more}
+use Rattle.step_runner.proofs.finishing.least_block.Goals as goal
+
+pub boards-init : goal.boards-init
+boards-init g c = c.last_block-least.ensures.block ∙ least_none (last_block g.C.Case.run)
+
+pub boards-preserved : goal.boards-preserved
+boards-preserved g c =
+    let run : Run = g.C.Case.run in
+    let boards : List BoardView = c.args.boards.now in
+    let i = c.boards.board-index in
+    let b : BoardView = c.board-item.result in
+    let front = map (under_way run) (take i boards) in
+    let more = ap (map (under_way run)) (take_more boards i b c.boards-test.true ∙ ap (λ x. take i boards ++ x ∷ []) (sym c.board-item.is)) ∙ map_push (under_way run) (take i boards) b in
+    c.min-least.ensures
+    ∙ ap (λ n. min n c.block.result) c.boards.invariant
+    ∙ ap (min (schedules.least_block (last_block run) front)) c.block.ensures.same
+    ∙ sym (ap (schedules.least_block (last_block run)) more ∙ least_more (last_block run) front (under_way run b))
