@@ -1,16 +1,18 @@
 -- Worked rows: words and small files, the verdict on them, what is opened, and the files that come out.
-use Rattle.std.specs.Prelude.{◌≡◌, ℕ, false, nat_eq, if◌then◌else◌, List, [], ◌∷◌, ◌++◌, map, take, replicate, Option, Some, None, Result, Ok, Err, codes, refl}
+use Rattle.std.specs.Prelude.{◌≡◌, ℕ, zero, suc, true, false, nat_eq, if◌then◌else◌, List, [], ◌∷◌, ◌++◌, take, replicate, slice_get, slice_index, Option, Some, None, Result, Ok, Err, codes, refl}
+use Rattle.std.proofs.Common.{ap, inl, inr, arith}
 use Rattle.std.specs.Cmp.Lexicographic.{pointwise}
 use Rattle.std.specs.Fmt.{digits}
 use Rattle.spec_base.specs.Bytes.{big_endian_at, little_endian_at}
 use Rattle.spec_keys.specs.Keys.{none, masked, same, joined, only_at}
-use Rattle.spec_pcap.specs.declared.fault.PcapFault.TheVariants.{ShortHeader, Magic, Version, LinkType, ShortRecord, TooLong, Fraction, TooManyFrames}
+use Rattle.spec_pcap.specs.declared.fault.PcapFault.TheVariants.{ShortHeader, Magic, Version, LinkType, ShortRecord, TooLong, Fraction}
 use Rattle.spec_pcap.specs.Pcap.{Frame, format_of, record_fault, capture_of, frames_from, header, record_header, file_of}
 use Rattle.spec_tables.specs.Rules.{winner}
 use Rattle.spec_tables.specs.Edits.{version}
-use Rattle.spec_text.specs.Numbers.{digits_upto, decimal_upto, number_upto, octet, octet_before_colon, mac}
-use Rattle.spec_text.specs.Words.{port_number, port_word, new_port, port_words, command_of}
-use Rattle.spec_text.specs.Script.{flow_port, with_priority, with_in_port, with_dl_dst, with_item, output_of, outputs_of, actions_of, flow_of, edit_of, with_line, with_lines, script_of, with_edit, with_sync, sync_time, time_of, seconds_with_fraction, seconds_of, fraction_of}
+use Rattle.spec_numbers.specs.Numbers.{digits_upto, decimal_upto, number_upto, octet, octet_before_colon, mac}
+use Rattle.spec_words.specs.Words.{port_number, port_word, new_port, port_words, command_of}
+use Rattle.spec_flow_text.specs.FlowText.{flow_port, with_priority, with_in_port, with_dl_dst, with_item, output_of, outputs_of, actions_of, flow_of, edit_of}
+use Rattle.spec_script.specs.Script.{with_line, with_lines, script_of, with_edit, with_sync, sync_time, time_of, seconds_with_fraction, seconds_of, fraction_of}
 use Rattle.spec_frames.specs.Ethernet.{is_tagged, tci_of, carried, carried_by}
 use Rattle.spec_frames.specs.Network.{network_at}
 use Rattle.spec_frames.specs.Key.{with_network, key_of}
@@ -20,14 +22,16 @@ use Rattle.spec_xlate.specs.Commit.{commit, commit_fields, commit_field}
 use Rattle.spec_xlate.specs.Tags.{commit_tags, outer_tags}
 use Rattle.spec_xlate.specs.Translation.{emit, emit_all, committed, output, act, run, look, last_state, pipe}
 use Rattle.spec_exec.specs.Sent.{sent}
-use Rattle.spec_case.specs.Blocks.{ends_behind}
+use Rattle.spec_case.specs.Blocks.{ends_after}
 use Rattle.spec_board.specs.Decisions.{decisions_from}
-use Rattle.spec_board.specs.Schedules.{Board, scheduled, finish, finish_board, least_block, with_given_steps}
-use Rattle.spec_board.specs.Texts.{Journal}
+use Rattle.spec_board.specs.Schedules.{finish, finish_board, least_block, with_given_steps}
 use Rattle.spec_run.specs.declared.quantity.Quantity.TheVariants.{TraceBytes, Frames}
-use Rattle.spec_run.specs.Verdict.{Files, Refusal, NotBuilt, Missing, Trace, Limit, TraceFile, Accepted, command_in, script_in, file_in, traces_behind, verdict, traces_opened, files_opened}
-use Rattle.spec_run.specs.Outputs.{File, files_of}
-use Rattle.spec_run.specs.Statuses.{read_fault_text, trace_text, limit_text, text_of}
+use Rattle.spec_run.specs.Verdict.{Files, Refusal, NotBuilt, Missing, Trace, Limit, TraceFile, Accepted, command_in, script_in, file_in, traces_after, verdict, traces_opened, files_opened}
+use Rattle.spec_base.specs.Files.{File, IsPrefixOf}
+use Rattle.spec_run.specs.Journals.{scheduled_journals}
+use Rattle.spec_run.specs.Outputs.{files_of}
+use Rattle.spec_run.specs.CutShort.{IsCutShort}
+use Rattle.spec_run.specs.Statuses.{read_fault_text, trace_text, limit_text, Prints}
 
 abbrev words : List (List ℕ)
 words = codes "e" ∷ codes "o" ∷ codes "1=a" ∷ codes "2=" ∷ []
@@ -43,16 +47,13 @@ trace = file_of false (frame ∷ [])
 abbrev files : Option (List ℕ) → Option (List ℕ) → Files
 files e a name = if pointwise nat_eq name (codes "e") then e else (if pointwise nat_eq name (codes "a") then a else None)
 
-abbrev journal : Board → Journal
-journal b = record { port = b.port; steps = b.steps }
-
 -- what becomes of a run with such files
 unfoldable outcome : List (List ℕ) → Option (List ℕ) → Option (List ℕ) → Result (List File) Refusal
-unfolding command_in script_in file_in traces_behind verdict capture_of format_of record_fault frames_from little_endian_at digits_upto decimal_upto number_upto octet octet_before_colon mac port_number port_word new_port port_words command_of flow_port with_priority with_in_port with_dl_dst with_item output_of outputs_of actions_of flow_of edit_of with_line with_lines script_of with_edit with_sync sync_time time_of seconds_with_fraction seconds_of fraction_of files_of version winner none masked same joined big_endian_at key_of is_tagged tci_of carried carried_by network_at with_network frames_in arrivals_at arrivals_in put_in_order in_order sent pipe last_state look run act output committed emit emit_all commit commit_fields commit_field commit_tags outer_tags header record_header only_at digits finish finish_board least_block with_given_steps decisions_from ends_behind
+unfolding command_in script_in file_in traces_after verdict capture_of format_of record_fault frames_from little_endian_at digits_upto decimal_upto number_upto octet octet_before_colon mac port_number port_word new_port port_words command_of flow_port with_priority with_in_port with_dl_dst with_item output_of outputs_of actions_of flow_of edit_of with_line with_lines script_of with_edit with_sync sync_time time_of seconds_with_fraction seconds_of fraction_of version winner none masked same joined big_endian_at key_of is_tagged tci_of carried carried_by network_at with_network frames_in arrivals_at arrivals_in put_in_order in_order sent pipe last_state look run act output committed emit emit_all commit commit_fields commit_field commit_tags outer_tags header record_header only_at digits finish finish_board least_block with_given_steps decisions_from ends_after
 outcome words e a = files_in (verdict words (files e a))
   where
     files_in : Result Accepted Refusal → Result (List File) Refusal
-    files_in (Ok accepted) = Ok (files_of accepted (map journal (scheduled accepted.run).boards))
+    files_in (Ok accepted) = Ok (files_of accepted.command.out accepted.run (scheduled_journals accepted.run))
     files_in (Err refusal) = Err refusal
 
 -- the files of the two ports
@@ -141,14 +142,14 @@ bytes_above_the_limit_come_before_frames = (refl, refl)
 -- ---- what is opened
 
 unfoldable opened : Option (List ℕ) → Option (List ℕ) → List (List ℕ)
-unfolding files_opened traces_opened command_in script_in file_in traces_behind verdict capture_of format_of record_fault frames_from little_endian_at digits_upto decimal_upto number_upto octet octet_before_colon mac port_number port_word new_port port_words command_of flow_port with_priority with_in_port with_dl_dst with_item output_of outputs_of actions_of flow_of edit_of with_line with_lines script_of with_edit with_sync sync_time time_of seconds_with_fraction seconds_of fraction_of
+unfolding files_opened traces_opened command_in script_in file_in traces_after verdict capture_of format_of record_fault frames_from little_endian_at digits_upto decimal_upto number_upto octet octet_before_colon mac port_number port_word new_port port_words command_of flow_port with_priority with_in_port with_dl_dst with_item output_of outputs_of actions_of flow_of edit_of with_line with_lines script_of with_edit with_sync sync_time time_of seconds_with_fraction seconds_of fraction_of
 opened e a = files_opened words (files e a)
 
-nothing_is_opened_behind_a_refusal :
+nothing_is_opened_after_a_refusal :
     (opened None (Some trace) ≡ codes "e" ∷ []) × ((opened (Some (codes "actions")) (Some trace) ≡ codes "e" ∷ [])
     × (opened (Some []) None ≡ codes "e" ∷ codes "a" ∷ []))
 unfolding opened
-nothing_is_opened_behind_a_refusal = (refl, (refl, refl))
+nothing_is_opened_after_a_refusal = (refl, (refl, refl))
 
 -- ---- what is printed
 
@@ -170,3 +171,35 @@ the_texts_of_limits :
     (limit_text TraceBytes ≡ codes "limit: trace-bytes 268435456\n") × (limit_text Frames ≡ codes "limit: frames 131072\n")
 unfolding digits
 the_texts_of_limits = (refl, refl)
+
+-- ---- what is cut short
+
+abbrev a_and_b : List File
+a_and_b = (codes "a", codes "xy") ∷ (codes "b", codes "z") ∷ []
+
+the_files_before_the_cut_one_are_whole : IsCutShort a_and_b (codes "b", codes "z") [] ((codes "a", codes "xy") ∷ (codes "b", []) ∷ [])
+the_files_before_the_cut_one_are_whole = record { whole = 1; next = refl; prefix = inr (0, refl) }
+
+no_file_stands_after_the_cut_one : IsCutShort a_and_b (codes "a", codes "xy") [] ((codes "a", codes "x") ∷ (codes "b", codes "z") ∷ []) → ⊥
+no_file_stands_after_the_cut_one cut = at cut.whole cut.next cut.prefix
+  where
+    first_letter : Option File → ℕ
+    first_letter None = 0
+    first_letter (Some file) = slice_index file.0 0
+
+    at : (whole : ℕ) → slice_get a_and_b whole ≡ Some (codes "a", codes "xy") → IsPrefixOf (take whole a_and_b) (codes "a", codes "xy") ((codes "a", codes "x") ∷ (codes "b", codes "z") ∷ []) → ⊥
+    at zero is (inl e) = cc e
+    at zero is (inr e) = cc (e.1)
+    at (suc zero) is prefix = let other : 98 ≡ 97 = ap first_letter is in omega (arith, other)
+    at (suc (suc n)) is prefix = cc is
+
+-- ---- what was printed
+
+a_text_may_be_cut_where_the_sink_failed : Prints false 0 1 [] (codes "a") (codes "ab")
+a_text_may_be_cut_where_the_sink_failed = record { prefix = (1, refl); whole = λ _ stood. absurd (stood (omega arith)) }
+
+a_text_may_be_cut_where_the_sink_needs_memory : Prints true 0 0 [] (codes "a") (codes "ab")
+a_text_may_be_cut_where_the_sink_needs_memory = record { prefix = (1, refl); whole = λ enough _. absurd (enough refl) }
+
+a_text_is_whole_otherwise : Prints false 0 0 [] (codes "a") (codes "ab") → ⊥
+a_text_is_whole_otherwise printed = cc (printed.whole (λ t. cc t) (λ rose. omega (arith, rose)))

@@ -2,4 +2,5 @@ pub mod Limits
 pub mod Verdict
 pub mod Journals
 pub mod Outputs
+pub mod CutShort
 pub mod Statuses

@@ -1,9 +1,11 @@
 -- The exit statuses, and the texts that are printed with them.
-use Rattle.std.specs.Prelude.{◌≡◌, ℕ, Bool, ◌||◌, ◌==◌, List, [], ◌∷◌, ◌++◌, take, Err, codes}
+use Rattle.std.specs.Prelude.{◌≡◌, ℕ, Bool, ◌||◌, ◌==◌, IsTrue, List, ◌∷◌, ◌++◌, take, Err, codes}
 use Rattle.std.specs.Fmt.{decimal}
+use Rattle.spec_base.specs.Counts.{Rose}
 use Rattle.spec_pcap.specs.declared.fault.PcapFault.{PcapFault}
 use Rattle.spec_pcap.specs.declared.fault.PcapFault.TheVariants.{ShortHeader, Magic, Version, LinkType, ShortRecord, TooLong, Fraction, TooManyFrames, OutOfMemory}
-use Rattle.spec_text.specs.Characters.{line_feed, dot}
+use Rattle.spec_numbers.specs.Characters.{dot}
+use Rattle.spec_board.specs.Texts.{line_of}
 use Rattle.spec_run.specs.declared.quantity.Quantity.{Quantity}
 use Rattle.spec_run.specs.Limits.{limit_of, quantity_name}
 use Rattle.spec_run.specs.Verdict.{Files, Refusal, NotBuilt, Missing, Trace, Limit, verdict}
@@ -27,17 +29,13 @@ write_fault_status = 6
 abbrev pub limit_status : ℕ
 limit_status = 7
 
--- memory is wanting
+-- out of memory
 abbrev pub out_of_memory_status : ℕ
 out_of_memory_status = 8
 
 -- an input has a form that isn't built
 abbrev pub not_built_status : ℕ
 not_built_status = 9
-
--- a text and its line feed
-abbrev pub line_of : List ℕ → List ℕ
-line_of text = text ++ line_feed ∷ []
 
 abbrev pub read_fault_text : List ℕ → List ℕ
 read_fault_text name = line_of (codes "read fault: " ++ name)
@@ -95,13 +93,14 @@ pub record IsRefused (words : List (List ℕ)) (files : Files) (status : ℕ) : 
   pub is_verdict : verdict words files ≡ Err refusal
   pub is_status : status_of refusal ≡ status
 
--- Behind what was printed before, a front of a text was printed: all of it, or less where the sink failed or memory was
--- wanting.
-abbrev pub PrintsFront : List ℕ → List ℕ → List ℕ → Type 0
-PrintsFront before now text = (n : ℕ) × (now ≡ before ++ take n text)
+-- After what was printed before, this text was printed: a prefix of it, and all of it where the sink needs no memory and
+-- its count of faults didn't rise.
+pub record Prints (needs_memory : Bool) (faults_before faults_now : ℕ) (before now text : List ℕ) : Type 0 where
+  pub prefix : (n : ℕ) × (now ≡ before ++ take n text)
+  pub whole : ¬ IsTrue needs_memory → ¬ Rose faults_before faults_now → now ≡ before ++ text
 
--- The verdict is a refusal, and a front of the text that tells it was printed.
-pub record PrintsRefusal (words : List (List ℕ)) (files : Files) (before now : List ℕ) : Type 0 where
+-- The verdict is a refusal, and the text that tells it was printed.
+pub record PrintsRefusal (words : List (List ℕ)) (files : Files) (needs_memory : Bool) (faults_before faults_now : ℕ) (before now : List ℕ) : Type 0 where
   pub refusal : Refusal
   pub is_verdict : verdict words files ≡ Err refusal
-  pub printed : PrintsFront before now (text_of refusal)
+  pub printed : Prints needs_memory faults_before faults_now before now (text_of refusal)

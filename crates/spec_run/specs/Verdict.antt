@@ -1,13 +1,13 @@
 -- What becomes of a run before anything is written. The words come first, then the file of edits, then the traces in the
 -- order of the words; the first input that is refused decides.
-use Rattle.std.specs.Prelude.{ℕ, ◌-◌, nat_lt, false, if◌then◌else◌, List, [], ◌∷◌, ◌++◌, length, map, Option, None, Result, Ok, Err, codes}
+use Rattle.std.specs.Prelude.{ℕ, ◌-◌, nat_lt, false, if◌then◌else◌, List, [], ◌∷◌, ◌++◌, length, map, Option, Result, Ok, Err, codes}
 use Rattle.std.specs.Option.{ok_or}
 use Rattle.spec_pcap.specs.declared.fault.PcapFault.{PcapFault}
 use Rattle.spec_pcap.specs.declared.fault.PcapFault.TheVariants.{TooManyFrames}
 use Rattle.spec_pcap.specs.Pcap.{Capture, capture_of}
 use Rattle.spec_case.specs.Run.{Run}
-use Rattle.spec_text.specs.Words.{PortWord, Command, command_of, has_trace}
-use Rattle.spec_text.specs.Script.{Script, script_of}
+use Rattle.spec_words.specs.Words.{PortWord, Command, command_of, has_trace}
+use Rattle.spec_script.specs.Script.{Script, script_of}
 use Rattle.spec_run.specs.declared.quantity.Quantity.{Quantity}
 use Rattle.spec_run.specs.declared.quantity.Quantity.TheVariants.{TraceBytes, Frames}
 use Rattle.spec_run.specs.Limits.{most_trace_bytes, most_frames}
@@ -83,15 +83,15 @@ file_in files bytes_left frames_left name = bytes_in files name >>= trace_within
 abbrev pub trace_in : Files → ℕ → ℕ → PortWord → Result TraceFile Refusal
 trace_in files bytes_left frames_left w = if has_trace w then file_in files bytes_left frames_left w.file else Ok no_trace
 
--- the traces of ports, behind those of the ports before them. Each takes of the room that those before it left.
-unfoldable pub traces_behind : Files → List Capture → ℕ → ℕ → List PortWord → Result (List Capture) Refusal
-traces_behind files before bytes_left frames_left [] = Ok before
-traces_behind files before bytes_left frames_left (w ∷ ws) =
+-- the traces of ports, after those of the ports before them. Each takes of the room that those before it left.
+unfoldable pub traces_after : Files → List Capture → ℕ → ℕ → List PortWord → Result (List Capture) Refusal
+traces_after files before bytes_left frames_left [] = Ok before
+traces_after files before bytes_left frames_left (w ∷ ws) =
     trace_in files bytes_left frames_left w
-    >>= (λ t. traces_behind files (before ++ t.capture ∷ []) (bytes_left - t.size) (frames_left - length t.capture.frames) ws)
+    >>= (λ t. traces_after files (before ++ t.capture ∷ []) (bytes_left - t.size) (frames_left - length t.capture.frames) ws)
 
 abbrev pub traces_in : Files → List PortWord → Result (List Capture) Refusal
-traces_in files ports = traces_behind files [] most_trace_bytes most_frames ports
+traces_in files ports = traces_after files [] most_trace_bytes most_frames ports
 
 -- ---- the whole
 

@@ -1,11 +1,12 @@
-//! What a whole run of the switch is: the verdict on its words and files, and what it writes.
+//! What a whole run of the switch is: the verdict on its words and files, and what it writes and prints.
 //!
 //! - `Limits`: the quantities that have a limit.
 //! - `Verdict`: the first refusal in the order of reading, or the run that the words and the files give.
-//! - `Journals`: what the journals of a run are to be: legal and complete, and each frame decided once, as a plain scan
-//!   of one version of the tables decides it, within its window.
+//! - `Journals`: the journals of a run: those of its schedule, each of them legal and complete, and each frame decided
+//!   once, as a plain scan of one version of the tables decides it, within its window.
 //! - `Outputs`: the files that a run writes, by name and byte.
-//! - `Statuses`: the exit statuses and the texts that go with them.
+//! - `CutShort`: how far they are written where writing ends early.
+//! - `Statuses`: the exit statuses, the texts that go with them, and when a text is printed whole.
 //!
 //! Whoever reads these, the specification crates below them and the contract of `run_switch` knows what is claimed of
 //! the switch, and needs to read no body.
