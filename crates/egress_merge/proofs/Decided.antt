@@ -1,24 +1,19 @@
 -- The board of a port, and what it decided of a place.
-use Rattle.std.proofs.Common.{◌≡◌, ℕ, suc, ◌+◌, ◌-◌, ◌<◌, ◌≤◌, Bool, true, false, List, [], ◌∷◌, length, length-set, map, get_or, Some, refl, sym, ap, ◌∙◌, arith}
+use Rattle.std.proofs.Common.{◌≡◌, ℕ, suc, ◌+◌, ◌-◌, ◌<◌, ◌≤◌, Bool, true, false, List, [], ◌∷◌, length, map, get_or, Some, refl, sym, ap, ◌∙◌, arith}
 use Rattle.std.specs.Prelude.{◌==◌, nat_lt, position}
 use Rattle.std.specs.List.{find, position_or_len}
 use Rattle.std.proofs.lemmas.Bool.{ltb-true}
-use Rattle.std.proofs.lemmas.List.{length-map, length-replicate}
+use Rattle.std.proofs.lemmas.List.{length-map}
 use Rattle.std.proofs.lemmas.List.Sums.{AllPass-from_list_all}
 use Rattle.spec_case.specs.Run.{Run, frames_of}
-use Rattle.spec_board.specs.declared.looked.Looked.TheVariants.{Exact, Mega, Miss}
-use Rattle.spec_board.specs.declared.put_done.PutDone.TheVariants.{Idle, Removed, Kept, Replaced}
-use Rattle.spec_board.specs.Steps.{Step, Open, Look, Settle, Begin, Put, End, Present, Full, Installed}
-use Rattle.spec_board.specs.State.{State, Waiting, place_at, is_decided}
-use Rattle.spec_board.specs.Effects.{effect}
-use Rattle.spec_board.specs.Journals.{opened}
+use Rattle.spec_board.specs.State.{Waiting, place_at, is_decided}
 use Rattle.spec_board.specs.Texts.{Journal}
-use Rattle.spec_base.specs.Machine as machine
 use Rattle.spec_run.specs.Journals.{steps_of, steps_in}
 use Rattle.run_case.specs.Places.{HasPlace}
-use Rattle.pmd_board.specs.Shown.{Shown, state_of}
-use Rattle.pmd_board.proofs.Facts.{at_there}
-use Rattle.egress_merge.specs.Boards.{journal_view, journals_view, IsAllDecided}
+use Rattle.pmd_board.specs.BoardView.{BoardView, state_of, journal_view, journals_view}
+use Rattle.board_laws.proofs.PlaceLaws.{at_there}
+use Rattle.board_laws.proofs.Places.{all_places}
+use Rattle.egress_merge.specs.Boards.{IsAllDecided}
 
 -- ---- the board of a port
 
@@ -29,10 +24,10 @@ module _ (port : ℕ) where
   abbrev is_of_port : Journal → Bool
   is_of_port j = j.port == port
 
-  abbrev ports_of : List Shown → List ℕ
-  ports_of boards = map (λ (b : Shown). b.port) boards
+  abbrev ports_of : List BoardView → List ℕ
+  ports_of boards = map (λ (b : BoardView). b.port) boards
 
-  at_first : (boards : List Shown) (d : Shown) → position_or_len is_port (ports_of boards) < length boards
+  at_first : (boards : List BoardView) (d : BoardView) → position_or_len is_port (ports_of boards) < length boards
       → find is_of_port (journals_view boards) ≡ Some (journal_view (get_or boards (position_or_len is_port (ports_of boards)) d))
   at_first [] d within = absurd (omega arith)
   at_first (b ∷ boards) d within = by_test (b.port == port) refl within (at_first boards d)
@@ -48,7 +43,7 @@ module _ (port : ℕ) where
           rw (is, next) (others (omega arith))
 
   -- the journal that is found by a port is that of the board at the place of the port
-  pub steps_of-board : (boards : List Shown) (ports : List ℕ) (place : ℕ) (b : Shown) → ports_of boards ≡ ports
+  pub steps_of-board : (boards : List BoardView) (ports : List ℕ) (place : ℕ) (b : BoardView) → ports_of boards ≡ ports
       → position is_port ports ≡ Some place → b ≡ get_or boards place b → steps_of (journals_view boards) port ≡ b.journal
   steps_of-board boards ports place b are is at =
       by_test (nat_lt (position_or_len is_port (ports_of boards)) (length (ports_of boards))) refl (ap (position is_port) are ∙ is)
@@ -57,41 +52,18 @@ module _ (port : ℕ) where
           → position is_port (ports_of boards) ≡ Some place → steps_of (journals_view boards) port ≡ b.journal
       by_test true less e =
           let same : position_or_len is_port (ports_of boards) ≡ place = cc (rw less at e) in
-          let within : position_or_len is_port (ports_of boards) < length boards = omega (arith, ltb-true _ _ less, length-map boards (λ (x : Shown). x.port)) in
-          ap steps_in (at_first boards b within) ∙ ap (λ (q : ℕ). (get_or boards q b).journal) same ∙ ap (λ (x : Shown). x.journal) (sym at)
+          let within : position_or_len is_port (ports_of boards) < length boards = omega (arith, ltb-true _ _ less, length-map boards (λ (x : BoardView). x.port)) in
+          ap steps_in (at_first boards b within) ∙ ap (λ (q : ℕ). (get_or boards q b).journal) same ∙ ap (λ (x : BoardView). x.journal) (sym at)
       by_test false less e = absurd (cc (rw less at e))
 
 -- ---- what it decided
 
--- no step changes how many places there are
-effect_keeps : (run : Run) (port : ℕ) (s : State) (step : Step) → length (effect run port s step).places ≡ length s.places
-effect_keeps run port s (Open block) = refl
-effect_keeps run port s (Look place (Exact n)) = length-set s.places (place - 1) _
-effect_keeps run port s (Look place (Mega n)) = length-set s.places (place - 1) _
-effect_keeps run port s (Look place Miss) = length-set s.places (place - 1) _
-effect_keeps run port s (Settle place v (Present n)) = length-set s.places (place - 1) _
-effect_keeps run port s (Settle place v Full) = length-set s.places (place - 1) _
-effect_keeps run port s (Settle place v (Installed n numbers)) = length-set s.places (place - 1) _
-effect_keeps run port s (Begin v) = refl
-effect_keeps run port s (Put number v Idle) = refl
-effect_keeps run port s (Put number v Removed) = refl
-effect_keeps run port s (Put number v Kept) = refl
-effect_keeps run port s (Put number v Replaced) = refl
-effect_keeps run port s End = refl
-
-steps_keep : (run : Run) (port : ℕ) (steps : List Step) (s : State) → length (machine.after (effect run port) s steps).places ≡ length s.places
-steps_keep run port [] s = refl
-steps_keep run port (step ∷ steps) s = steps_keep run port steps (effect run port s step) ∙ effect_keeps run port s step
-
-places_after : (run : Run) (b : Shown) → length (state_of run b).places ≡ length (frames_of run b.port)
-places_after run b = steps_keep run b.port b.journal (opened run b.port) ∙ length-replicate (length (frames_of run b.port)) Waiting
-
 -- where all frames of a board are decided, that of each place is
-pub decided_at : (run : Run) (b : Shown) (port place : ℕ) → b.port ≡ port → IsAllDecided run b → HasPlace run port place
+pub decided_at : (run : Run) (b : BoardView) (port place : ℕ) → b.port ≡ port → IsAllDecided run b → HasPlace run port place
     → is_decided (place_at place (state_of run b)) ≡ true
 decided_at run b port place same all there =
     let s = state_of run b in
-    let count : length s.places ≡ length (frames_of run port) = places_after run b ∙ ap (λ (p : ℕ). length (frames_of run p)) same in
+    let count : length s.places ≡ length (frames_of run port) = all_places run b.port b.journal ∙ ap (λ (p : ℕ). length (frames_of run p)) same in
     let first : 1 ≤ place = there.0 in
     let last : place ≤ length (frames_of run port) = there.1 in
     ap is_decided (at_there s.places place first)

@@ -29,9 +29,9 @@ tied_with-put_in_order x a [] = refl
 tied_with-put_in_order x a (b ∷ bs) =
     let p = ties comes_before x in
     elim (cases_Bool (comes_before b a)) [
-      | inl behind ↦
-          rw behind (ap (λ l. cond (p b) (b ∷ l) l) (tied_with-put_in_order x a bs)
-          ∙ filter-exchanged p b a bs (ties_with_one comes_before order x b a behind))
+      | inl after ↦
+          rw after (ap (λ l. cond (p b) (b ∷ l) l) (tied_with-put_in_order x a bs)
+          ∙ filter-exchanged p b a bs (ties_with_one comes_before order x b a after))
       | inr here ↦ rw here
     ]
 
@@ -45,8 +45,8 @@ pub All-put_in_order : (P : Arrival → Type 0) (a : Arrival) (bs : List Arrival
 unfolding put_in_order
 All-put_in_order P a [] first rest = All-cons P a [] first rest
 All-put_in_order P a (b ∷ bs) first rest = elim (cases_Bool (comes_before b a)) [
-  | inl behind ↦
-      rw behind (All-cons P b (put_in_order a bs) (All-head P b bs rest) (All-put_in_order P a bs first (All-tail P b bs rest)))
+  | inl after ↦
+      rw after (All-cons P b (put_in_order a bs) (All-head P b bs rest) (All-put_in_order P a bs first (All-tail P b bs rest)))
   | inr here ↦ rw here (All-cons P a (b ∷ bs) first rest)
 ]
 
@@ -57,9 +57,9 @@ Rises-put_in_order a (b ∷ bs) rises =
     let R : Arrival → Arrival → Type 0 = λ x y. comes_before y x ≡ false in
     let above = Rises-head comes_before b bs rises in
     elim (cases_Bool (comes_before b a)) [
-      | inl behind ↦
-          rw behind (AllPairs-cons R b (put_in_order a bs)
-          (All-put_in_order (R b) a bs (order.one_way b a behind) above)
+      | inl after ↦
+          rw after (AllPairs-cons R b (put_in_order a bs)
+          (All-put_in_order (R b) a bs (order.one_way b a after) above)
           (Rises-put_in_order a bs (Rises-tail comes_before b bs rises)))
       | inr here ↦
           let rest = All-weaker (R b) (R a) (λ c level. order.chain c b a level here) bs above in

@@ -2,6 +2,6 @@ pub mod InOrder
 mod Rows
 pub mod StableSorts
 pub mod Places
-pub mod Fronts
+pub mod Prefixes
 pub mod Sends
 pub mod Decided

@@ -49,13 +49,13 @@ none_arrives (p ∷ ps) [] = refl
 none_arrives (p ∷ ps) (port ∷ these) = none_arrives (p ∷ ps) these
 
 -- other ports have other traces than the first
-behind_first : (p : ℕ) (ps : List ℕ) (t : Capture) (ts : List Capture) (these : List ℕ) → AllByRecursion (λ q. nat_eq p q ≡ false) these
+after_first : (p : ℕ) (ps : List ℕ) (t : Capture) (ts : List Capture) (these : List ℕ) → AllByRecursion (λ q. nat_eq p q ≡ false) these
     → arrivals_to (p ∷ ps) (t ∷ ts) these ≡ arrivals_to ps ts these
 unfolding frames_in
-behind_first p ps t ts [] differ = refl
-behind_first p ps t ts (q ∷ these) differ =
+after_first p ps t ts [] differ = refl
+after_first p ps t ts (q ∷ these) differ =
     let here : frames_in (p ∷ ps) (t ∷ ts) q ≡ frames_in ps ts q = rw (differ.0) refl in
-    ap₂ (λ xs ys. xs ++ ys) (ap (arrivals_at q 1) here) (behind_first p ps t ts these differ.1)
+    ap₂ (λ xs ys. xs ++ ys) (ap (arrivals_at q 1) here) (after_first p ps t ts these differ.1)
 
 -- the arrivals of different ports, port by port
 pub arrivals-by_port : (ports : List ℕ) (traces : List Capture) → IsDistinct nat_eq ports → arrivals_in ports traces ≡ arrivals_to ports traces ports
@@ -65,7 +65,7 @@ arrivals-by_port (p ∷ ps) [] distinct = sym (none_arrives (p ∷ ps) (p ∷ ps
 arrivals-by_port (p ∷ ps) (t ∷ ts) distinct =
     let here : frames_in (p ∷ ps) (t ∷ ts) p ≡ t.frames = rw (eq-eqb p p refl) refl in
     ap₂ (λ xs ys. xs ++ ys) (ap (arrivals_at p 1) (sym here))
-    (arrivals-by_port ps ts distinct.1 ∙ sym (behind_first p ps t ts ps distinct.0))
+    (arrivals-by_port ps ts distinct.1 ∙ sym (after_first p ps t ts ps distinct.0))
 
 -- ---- each is a frame of the run
 

@@ -8,7 +8,8 @@ use Rattle.spec_actions.specs.declared.action.DpAction.TheVariants.{Output, PopV
 use Rattle.spec_case.specs.declared.arrival.Arrival.{Arrival}
 use Rattle.spec_case.specs.Run.{Run, frame_at}
 use Rattle.spec_exec.specs.Sent.{Piece, sent}
-use Rattle.egress_merge.specs.Sending.{sends_to, frames_by}
+use Rattle.spec_run.specs.Outputs.{frames_by}
+use Rattle.egress_merge.specs.Sending.{sends_to}
 
 module _ (frame : Frame) (port : ℕ) where
   -- what goes out at the port
@@ -16,7 +17,7 @@ module _ (frame : Frame) (port : ℕ) where
   out_by actions =
       map (λ (p : Piece). record { time = frame.time; bytes = p.bytes }) (filter (λ (p : Piece). p.port == port) (sent actions frame.bytes))
 
-  -- one action and those behind it
+  -- one action and those after it
   copies_more : (test : Bool) (actions : List DpAction) → replicate (cond test 1 0 + count_by (sends_to port) actions) frame
       ≡ cond test (frame ∷ replicate (count_by (sends_to port) actions) frame) (replicate (count_by (sends_to port) actions) frame)
   copies_more true actions = let n = count_by (sends_to port) actions in let e : 1 + n ≡ suc n = omega arith in rw e refl

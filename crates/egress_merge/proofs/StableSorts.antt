@@ -21,7 +21,7 @@ module _ {X : Type 0} (p : X → Bool) where
   ]
 
 module _ {X : Type 0} (lt : X → X → Bool) where
-  -- no element comes before one that stands in front of it
+  -- no element comes before one that stands before it
   abbrev pub Rises : List X → Type 0
   Rises xs = AllPairs (λ x y. lt y x ≡ false) xs
 
@@ -45,7 +45,7 @@ module _ {X : Type 0} (lt : X → X → Bool) (o : IsStrictWeakOrder lt) where
   filter-itself : (x : X) (xs : List X) → filter (ties lt x) (x ∷ xs) ≡ x ∷ filter (ties lt x) xs
   filter-itself x xs = rw irreflexive
 
-  -- y stands in front of those that tie with it in a list that rises from z on
+  -- y stands before those that tie with it in a list that rises from z on
   level_with_first : (y z : X) (ys zs : List X) → Rises lt (z ∷ zs) → filter (ties lt y) (z ∷ zs) ≡ y ∷ ys → lt y z ≡ false
   level_with_first y z ys zs rises found =
       let P : X → Type 0 = λ x. lt x z ≡ false in
@@ -61,6 +61,6 @@ module _ {X : Type 0} (lt : X → X → Bool) (o : IsStrictWeakOrder lt) where
       let at_y = sym (same y) ∙ filter-itself y ys in
       let at_z = same z ∙ filter-itself z zs in
       let fronts = rw (level_with_first y z _ zs right at_y, level_with_first z y _ ys left at_z) at at_y in
-      let front : y ≡ z = cc in
-      let rest : (x : X) → filter (ties lt x) ys ≡ filter (ties lt x) zs = λ x. filter-tail (ties lt x) z ys zs (ap (λ w. filter (ties lt x) (w ∷ ys)) (sym front) ∙ same x) in
-      ap₂ (λ x xs. x ∷ xs) front (same_from_ties ys zs (Rises-tail lt y ys left) (Rises-tail lt z zs right) rest)
+      let prefix : y ≡ z = cc in
+      let rest : (x : X) → filter (ties lt x) ys ≡ filter (ties lt x) zs = λ x. filter-tail (ties lt x) z ys zs (ap (λ w. filter (ties lt x) (w ∷ ys)) (sym prefix) ∙ same x) in
+      ap₂ (λ x xs. x ∷ xs) prefix (same_from_ties ys zs (Rises-tail lt y ys left) (Rises-tail lt z zs right) rest)

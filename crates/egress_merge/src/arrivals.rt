@@ -7,8 +7,8 @@ use run_case::{Case, RunData};
 use spec_case::Arrival;
 use std::alloc::{AllocError, Global};
 
-// Puts arrivals in the order of time, of equal times by ingress port, and then by place. The only error is want of
-// memory, and then they stay as they were.
+// Puts arrivals in the order of time, of equal times by ingress port, and then by place. Out of memory they stay as they
+// were.
 fn sort_arrivals(arrivals: &mut Vec<Arrival>) -> Result<(), AllocError>
     ensures sorted { OnOk result (arrivals.new.items ≡ in_order arrivals.old.items) }
     ensures permutation { IsPermutation arrivals.old.items arrivals.new.items }
@@ -57,57 +57,4 @@ pub fn arrivals_of<C: Case>(alloc: Global, run: &RunData<C>) -> Result<Vec<Arriv
     let mut found = all_arrivals(alloc, run)?;
     sort_arrivals(&mut found)?;
     Ok(found)
-}
-
-#[cfg(test)]
-mod tests {
-    use super::*;
-    use std::test::Fail;
-
-    fn at(time: u64, port: u16, place: u32) -> Arrival {
-        Arrival { time, port, place }
-    }
-
-    #[test]
-    fn time_decides_first_then_port_then_place(rt: HostRuntime) -> Result<(), Fail> {
-        let alloc = rt.alloc();
-        let mut arrivals = Vec::new(alloc);
-        for arrival in [
-            at(7, 3, 2),
-            at(7, 3, 1),
-            at(9, 1, 1),
-            at(7, 2, 5),
-            at(4, 9, 9),
-        ] {
-            arrivals.push(arrival)?;
-        }
-        sort_arrivals(&mut arrivals)?;
-        let expected = [
-            at(4, 9, 9),
-            at(7, 2, 5),
-            at(7, 3, 1),
-            at(7, 3, 2),
-            at(9, 1, 1),
-        ];
-        assert_eq!(rt; arrivals.as_slice(), expected.as_slice());
-        Ok(())
-    }
-
-    #[test]
-    fn long_traces_of_two_ports_are_merged(rt: HostRuntime) -> Result<(), Fail> {
-        let alloc = rt.alloc();
-        let mut arrivals = Vec::new(alloc);
-        for port in 1..=2 {
-            for place in 1..=100 {
-                arrivals.push(at(u64::from(place), port, place))?;
-            }
-        }
-        sort_arrivals(&mut arrivals)?;
-        assert_eq!(rt; arrivals.len(), 200);
-        assert_eq!(rt; arrivals[0], at(1, 1, 1));
-        assert_eq!(rt; arrivals[1], at(1, 2, 1));
-        assert_eq!(rt; arrivals[198], at(100, 1, 100));
-        assert_eq!(rt; arrivals[199], at(100, 2, 100));
-        Ok(())
-    }
 }

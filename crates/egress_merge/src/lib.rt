@@ -13,7 +13,7 @@
 //!   changed.
 //! - `write_port` writes exactly the file that `spec_run` defines for the port, out of the journals of the boards: each
 //!   frame once for each output to the port in the actions that its board decided, with the time at which it came in.
-//!   On a shelf that tells its bytes, a refused call leaves a front of that file behind the files that were there before,
+//!   On a shelf that tells its bytes, a refused call leaves a prefix of that file after the files that were there before,
 //!   or nothing of it.
 //!
 //! # How

@@ -1,16 +1,19 @@
-ghost use Rattle.std.specs.Prelude.{◌≡◌, ℕ, map, take, count_by, All, IsTrue, OnOk, OnErr, Err};
+ghost use Rattle.std.specs.Prelude.{◌≡◌, map, count_by, All, IsTrue, OnOk, OnErr, Err};
 ghost use Rattle.std.specs.List.{flat_map};
 ghost use Rattle.spec_pcap.specs.Pcap.{record_of, file_of};
 ghost use Rattle.spec_case.specs.Run.{is_nanos};
 ghost use Rattle.spec_case.specs.Arrivals.{in_order, arrivals as came_in};
 ghost use Rattle.spec_run.specs.Journals.{steps_of, actions_for};
-ghost use Rattle.spec_run.specs.Outputs.{frames_out};
+ghost use Rattle.spec_run.specs.Outputs.{frames_by, frames_out};
 ghost use Rattle.edge_io.specs.declared.outside.InUse.TheVariants.{Nothing, Created};
-ghost use Rattle.edge_io.specs.Shelf.{HasCause, wrote, kept};
+ghost use Rattle.edge_io.specs.Counts.{HasCause, with_write_fault};
+ghost use Rattle.edge_io.specs.Shelf.{wrote, kept};
 ghost use Rattle.run_case.specs.Places.{HasPort};
-ghost use Rattle.egress_merge.specs.Boards.{journals_view, IsAllDecided, IsArrival};
-ghost use Rattle.egress_merge.specs.Sending.{sends_to, frames_by};
-ghost use Rattle.edge_io.specs.Written.{written, IsFrontOf};
+ghost use Rattle.pmd_board.specs.BoardView.{journals_view};
+ghost use Rattle.egress_merge.specs.Boards.{IsAllDecided, IsArrival};
+ghost use Rattle.egress_merge.specs.Sending.{sends_to};
+ghost use Rattle.edge_io.specs.Written.{written, WrotePrefix};
+ghost use Rattle.spec_base.specs.Files.{IsPrefixOf};
 
 use edge_io::{Failed, Shelf};
 use pcap_io::PcapWriter;
@@ -86,8 +89,8 @@ fn send<C: Case, S: Shelf>(
     ensures ok { let bytes = flat_map (record_of writer.old) (frames_by C.run actions.now port arrival) in
         IsTrue S.tells → OnOk result (S.told shelf.new ≡ wrote (S.told shelf.old) bytes) }
     ensures err { let bytes = flat_map (record_of writer.old) (frames_by C.run actions.now port arrival) in
-        IsTrue S.tells → OnErr result ((n : ℕ) × (S.told shelf.new ≡ wrote (S.told shelf.old) (take n bytes))) }
-    ensures cause { HasCause (S.writing shelf.old) (S.writing shelf.new) (S.reading shelf.old) (S.reading shelf.new) result }
+        IsTrue S.tells → OnErr result (WrotePrefix (S.told shelf.old) (S.told shelf.new) bytes) }
+    ensures cause { HasCause with_write_fault (S.counts shelf.old) (S.counts shelf.new) result }
 {
     let time = run.time(arrival.port, arrival.place);
     let frame = run.frame(arrival.port, arrival.place);
@@ -107,7 +110,7 @@ fn send<C: Case, S: Shelf>(
 /// - `Fault`: the shelf failed in creating, writing or closing the file, and its count of writing rose.
 /// - `OutOfMemory`: there was no memory for the shelf.
 ///
-/// After an error the file has a front of its bytes, or was not created; it may still be in use.
+/// After an error the file has a prefix of its bytes, or was not created; it may still be in use.
 pub fn write_port<C: Case, S: Shelf>(
     shelf: &mut S,
     name: &str,
@@ -124,9 +127,10 @@ pub fn write_port<C: Case, S: Shelf>(
     ensures ok { let bytes = file_of (is_nanos C.run) (frames_out C.run (journals_view boards.now) port) in
         IsTrue S.tells → OnOk result (S.told shelf.new ≡ kept (S.told shelf.old) (name.now, bytes)) }
     ensures err { let bytes = file_of (is_nanos C.run) (frames_out C.run (journals_view boards.now) port) in
-        IsTrue S.tells → OnErr result (IsFrontOf (S.told shelf.old).done (name.now, bytes) (written (S.in_use shelf.new) (S.told shelf.new))) }
+        IsTrue S.tells → OnErr result
+        (IsPrefixOf (S.told shelf.old).done (name.now, bytes) (written (S.in_use shelf.new) (S.told shelf.new))) }
     ensures named { IsTrue S.tells → result ≡ Err Failed.Fault → (S.told shelf.new).last ≡ name.now }
-    ensures cause { HasCause (S.writing shelf.old) (S.writing shelf.new) (S.reading shelf.old) (S.reading shelf.new) result }
+    ensures cause { HasCause with_write_fault (S.counts shelf.old) (S.counts shelf.new) result }
 {
     // The ports differ, so that each arrival is a frame of its port's own trace.
     let ports = run.ports().len() as usize;

@@ -1,4 +1,4 @@
--- Texts are cut again where they were joined: at the spaces between words, and at the line feeds behind lines.
+-- Texts are cut again where they were joined: at the spaces between words, and at the line feeds after lines.
 use Rattle.std.proofs.Common.{◌≡◌, ℕ, ◌<◌, Bool, true, false, List, [], ◌∷◌, ◌++◌, refl, ap, ◌∙◌, append_assoc, arith}
 use Rattle.std.specs.Prelude.{codes, nat_eq, nat_lt, All}
 use Rattle.std.specs.List.{flat_map, list_all, slice_split}
@@ -24,7 +24,7 @@ is_word word = list_all (nat_lt 32) word
 abbrev pub is_line : List ℕ → Bool
 is_line line = list_all (nat_lt 10) line
 
--- a word, and words behind spaces
+-- a word, and words after spaces
 abbrev pub with_spaces : List ℕ → List (List ℕ) → List ℕ
 with_spaces word words = word ++ flat_map (λ next. codes " " ++ next) words
 

@@ -1,5 +1,5 @@
+pub mod Lines
 pub mod Cuts
-pub mod Fronts
 pub mod Reading
 pub mod Rows
 pub mod StepWords

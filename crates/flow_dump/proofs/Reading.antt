@@ -64,47 +64,47 @@ journals_are_lines (j ∷ journals) fit =
 
 -- ---- reading lines, from the last to the first
 
--- the journals behind a place, and the steps there that belong to the journal before it
+-- the journals after a place, and the steps there that belong to the journal before it
 record Read : Type 0 where
   steps : List Step
   journals : List Journal
 
 abbrev read_words : List (List ℕ) → Read → Read
-read_words words behind =
+read_words words after =
     if says words 0 (codes "port")
-    then record { steps = []; journals = record { port = number_at words 1; steps = behind.steps } ∷ behind.journals }
-    else record { steps = read_step words ∷ behind.steps; journals = behind.journals }
+    then record { steps = []; journals = record { port = number_at words 1; steps = after.steps } ∷ after.journals }
+    else record { steps = read_step words ∷ after.steps; journals = after.journals }
 
 abbrev read_line : List ℕ → Read → Read
-read_line line behind = read_words (slice_split is_space line) behind
+read_line line after = read_words (slice_split is_space line) after
 
 abbrev read_lines : List (List ℕ) → Read
 read_lines [] = record { steps = []; journals = [] }
 read_lines (line ∷ lines) = read_line line (read_lines lines)
 
-abbrev behind_port : ℕ → Read → Read
-behind_port port behind = record { steps = []; journals = record { port = port; steps = behind.steps } ∷ behind.journals }
+abbrev after_port : ℕ → Read → Read
+after_port port after = record { steps = []; journals = record { port = port; steps = after.steps } ∷ after.journals }
 
-abbrev behind_step : Step → Read → Read
-behind_step s behind = record { steps = s ∷ behind.steps; journals = behind.journals }
+abbrev after_step : Step → Read → Read
+after_step s after = record { steps = s ∷ after.steps; journals = after.journals }
 
-read_port : (port : ℕ) (behind : Read) → IsPrintable port → read_line (port_line port) behind ≡ behind_port port behind
-read_port port behind fits =
+read_port : (port : ℕ) (after : Read) → IsPrintable port → read_line (port_line port) after ≡ after_port port after
+read_port port after fits =
     let words = split_words (codes "port") (decimal port ∷ []) refl (and_from (is_word (decimal port)) true (number_is_word port fits) refl) in
-    ap (λ (line : List ℕ). read_line line behind) (port_line-is port)
-    ∙ ap (λ (all : List (List ℕ)). read_words all behind) words
-    ∙ ap (λ (n : ℕ). behind_port n behind) (value_is port fits)
+    ap (λ (line : List ℕ). read_line line after) (port_line-is port)
+    ∙ ap (λ (all : List (List ℕ)). read_words all after) words
+    ∙ ap (λ (n : ℕ). after_port n after) (value_is port fits)
 
-read_a_step : (s : Step) (behind : Read) → IsPrintableStep s → read_line (step_text s) behind ≡ behind_step s behind
-read_a_step s behind fits =
+read_a_step : (s : Step) (after : Read) → IsPrintableStep s → read_line (step_text s) after ≡ after_step s after
+read_a_step s after fits =
     let words = split_words (first_word s) (other_words s) (first_is_word s) (others_are_words s fits) in
     let by_word : (test : Bool) → says (first_word s ∷ other_words s) 0 (codes "port") ≡ test → test ≡ false
-    → read_words (first_word s ∷ other_words s) behind ≡ behind_step (read_step (first_word s ∷ other_words s)) behind
+    → read_words (first_word s ∷ other_words s) after ≡ after_step (read_step (first_word s ∷ other_words s)) after
     = λ test is no. rw (is ∙ no) refl in
-    ap (λ (line : List ℕ). read_line line behind) (step_text-is s)
-    ∙ ap (λ (all : List (List ℕ)). read_words all behind) words
+    ap (λ (line : List ℕ). read_line line after) (step_text-is s)
+    ∙ ap (λ (all : List (List ℕ)). read_words all after) words
     ∙ by_word false (not_port s) refl
-    ∙ ap (λ (step : Step). behind_step step behind) (read_step-is s fits)
+    ∙ ap (λ (step : Step). after_step step after) (read_step-is s fits)
 
 read_steps : (steps : List Step) (lines : List (List ℕ)) → All IsPrintableStep steps
     → read_lines (map step_text steps ++ lines) ≡ record { steps = steps ++ (read_lines lines).steps; journals = (read_lines lines).journals }
@@ -119,11 +119,11 @@ read_journals [] fit = refl
 read_journals (j ∷ journals) fit =
     let first = All-head IsPrintableJournal j journals fit in
     let others = read_journals journals (All-tail IsPrintableJournal j journals fit) in
-    let behind : read_lines (map step_text j.steps ++ all_lines journals) ≡ record { steps = j.steps; journals = journals } =
+    let after : read_lines (map step_text j.steps ++ all_lines journals) ≡ record { steps = j.steps; journals = journals } =
     read_steps j.steps (all_lines journals) first.steps
     ∙ ap (λ (rest : Read). let all : Read = record { steps = j.steps ++ rest.steps; journals = rest.journals } in all) others
     ∙ ap (λ (steps : List Step). let all : Read = record { steps = steps; journals = journals } in all) (append-nil j.steps) in
-    ap (read_line (port_line j.port)) behind ∙ read_port j.port _ first.port
+    ap (read_line (port_line j.port)) after ∙ read_port j.port _ first.port
 
 -- ---- reading a text
 

@@ -85,48 +85,48 @@ other_words (Begin v) = decimal v ∷ []
 other_words (Put number v r) = decimal number ∷ decimal v ∷ put_word r ∷ []
 other_words End = []
 
-abbrev behind_spaces : List (List ℕ) → List ℕ
-behind_spaces words = flat_map (λ next. codes " " ++ next) words
+abbrev after_spaces : List (List ℕ) → List ℕ
+after_spaces words = flat_map (λ next. codes " " ++ next) words
 
-numbers_text-is : (numbers : List ℕ) → numbers_text numbers ≡ behind_spaces (map decimal numbers)
+numbers_text-is : (numbers : List ℕ) → numbers_text numbers ≡ after_spaces (map decimal numbers)
 numbers_text-is numbers = sym (flat_map-map (λ next. codes " " ++ next) decimal numbers)
 
-looked_text-is : (r : Looked) → codes " " ++ looked_text r ≡ behind_spaces (looked_words r)
+looked_text-is : (r : Looked) → codes " " ++ looked_text r ≡ after_spaces (looked_words r)
 looked_text-is (Exact n) = simp append-nil
 looked_text-is (Mega n) = simp append-nil
 looked_text-is Miss = refl
 
-settled_text-is : (r : Settled) → codes " " ++ settled_text r ≡ behind_spaces (settled_words r)
+settled_text-is : (r : Settled) → codes " " ++ settled_text r ≡ after_spaces (settled_words r)
 settled_text-is (Present n) = simp append-nil
 settled_text-is Full = refl
 settled_text-is (Installed n []) = refl
 settled_text-is (Installed n (m ∷ numbers)) =
     ap (λ (text : List ℕ). codes " installed " ++ (decimal n ++ (codes " drop" ++ text))) (numbers_text-is (m ∷ numbers))
 
-put_text-is : (r : PutDone) → codes " " ++ put_text r ≡ behind_spaces (put_word r ∷ [])
+put_text-is : (r : PutDone) → codes " " ++ put_text r ≡ after_spaces (put_word r ∷ [])
 put_text-is Idle = refl
 put_text-is Removed = refl
 put_text-is Kept = refl
 put_text-is Replaced = refl
 
-one_behind : (a b : List ℕ) → a ++ b ≡ a ++ (b ++ [])
-one_behind a b = ap (λ (text : List ℕ). a ++ text) (sym (append-nil b))
+one_after : (a b : List ℕ) → a ++ b ≡ a ++ (b ++ [])
+one_after a b = ap (λ (text : List ℕ). a ++ text) (sym (append-nil b))
 
-three_behind : (a b c d : List ℕ) → ((a ++ b) ++ c) ++ d ≡ a ++ (b ++ (c ++ d))
-three_behind a b c d = simp append_assoc
+three_after : (a b c d : List ℕ) → ((a ++ b) ++ c) ++ d ≡ a ++ (b ++ (c ++ d))
+three_after a b c d = simp append_assoc
 
 -- the line is these words, with spaces
 pub step_text-is : (s : Step) → step_text s ≡ with_spaces (first_word s) (other_words s)
-step_text-is (Open block) = one_behind (codes "open") (codes " " ++ decimal block)
+step_text-is (Open block) = one_after (codes "open") (codes " " ++ decimal block)
 step_text-is (Look place r) =
     append_assoc (codes "look") (codes " " ++ decimal place) (codes " " ++ looked_text r)
     ∙ ap (λ (text : List ℕ). codes "look " ++ (decimal place ++ text)) (looked_text-is r)
 step_text-is (Settle place v r) =
-    three_behind (codes "settle") (codes " " ++ decimal place) (codes " " ++ decimal v) (codes " " ++ settled_text r)
+    three_after (codes "settle") (codes " " ++ decimal place) (codes " " ++ decimal v) (codes " " ++ settled_text r)
     ∙ ap (λ (text : List ℕ). codes "settle " ++ (decimal place ++ (codes " " ++ (decimal v ++ text)))) (settled_text-is r)
-step_text-is (Begin v) = one_behind (codes "begin") (codes " " ++ decimal v)
+step_text-is (Begin v) = one_after (codes "begin") (codes " " ++ decimal v)
 step_text-is (Put number v r) =
-    three_behind (codes "put") (codes " " ++ decimal number) (codes " " ++ decimal v) (codes " " ++ put_text r)
+    three_after (codes "put") (codes " " ++ decimal number) (codes " " ++ decimal v) (codes " " ++ put_text r)
     ∙ ap (λ (text : List ℕ). codes "put " ++ (decimal number ++ (codes " " ++ (decimal v ++ text)))) (put_text-is r)
 step_text-is End = refl
 

@@ -1,3 +1,2 @@
-pub mod JournalViews
+pub mod Lines
 pub mod Printable
-pub mod Dumps

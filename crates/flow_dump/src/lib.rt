@@ -8,7 +8,7 @@
 //!
 //! # What is promised
 //!
-//! - After `Ok` the file has exactly the text of the journals, and is closed. After a refusal it has a front of that
+//! - After `Ok` the file has exactly the text of the journals, and is closed. After a refusal it has a prefix of that
 //!   text, or was not created. `Fault` is answered only where the shelf's count of writing rose, and then the last
 //!   name that the shelf was asked for is that of the dump.
 //! - The text determines the journals (`journals_text_is_one_to_one`): whoever reads a dump knows every step with all
@@ -21,7 +21,7 @@
 //! taken, and each line is one write: a shelf gathers small writes itself, if it likes.
 //!
 //! That the text determines the journals is proved by reading it: cut at the line feeds, each line gives words, cut at
-//! the spaces. No number and no word has either in it. The first word of a line tells its kind, and the words behind
+//! the spaces. No number and no word has either in it. The first word of a line tells its kind, and the words after
 //! it, by their places, tell the rest. Reading the text of journals gives them back, so no two have the same text.
 //!
 //! # What is left to others
@@ -30,13 +30,11 @@
 //! shelf does with a file that was written in part: it may still be in use.
 #![tactic(auto)]
 
-mod fault;
 mod journal;
 mod laws;
 mod step_text;
 
-pub use fault::WriteFault;
-pub use journal::{PortJournal, write_journals};
+pub use journal::write_journals;
 pub use laws::journals_text_is_one_to_one;
 
 #[cfg(test)]

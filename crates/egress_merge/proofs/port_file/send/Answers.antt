@@ -1,7 +1,7 @@
 use Rattle.std.proofs.Common.{◌≡◌, arith}
 use Rattle.std.proofs.lemmas.Result.{err_from_is_err_and}
 use Rattle.spec_pcap.specs.Pcap.{record_of}
-use Rattle.egress_merge.proofs.Fronts.{copy_cut}
+use Rattle.egress_merge.proofs.Prefixes.{copy_cut}
 use Rattle.egress_merge.proofs.Sends.{frames_by-copies}
 use Rattle.egress_merge.proofs.port_file.send.Goals as goal
 

@@ -11,6 +11,5 @@ invariant-sends g l = record {
   in_use : g.S.Shelf.in_use l.shelf ≡ Created;
   nanos : l.writer ≡ l.fn.writer;
   told : IsTrue g.S.Shelf.tells → g.S.Shelf.told l.shelf ≡ wrote (g.S.Shelf.told l.fn.shelf) (flat_map (record_of l.fn.writer) (replicate l.copy (frame_at g.C.Case.run l.fn.arrival.port l.fn.arrival.place)));
-  reading : g.S.Shelf.reading l.shelf ≡ g.S.Shelf.reading l.fn.shelf;
-  writing : g.S.Shelf.writing l.shelf ≡ g.S.Shelf.writing l.fn.shelf;
+  counts : g.S.Shelf.counts l.shelf ≡ g.S.Shelf.counts l.fn.shelf;
 }

@@ -4,7 +4,7 @@ use Rattle.edge_io.specs.declared.outside.InUse.TheVariants.{Created}
 use Rattle.spec_pcap.specs.Pcap.{file_of}
 use Rattle.spec_case.specs.Run.{is_nanos}
 use Rattle.spec_run.specs.Outputs.{sent_to}
-use Rattle.egress_merge.specs.Boards.{journals_view}
+use Rattle.pmd_board.specs.BoardView.{journals_view}
 use Rattle.egress_merge.proofs.port_file.write_port.Given as goal
 
 abbrev pub invariant-arrivals : goal.invariant-arrivals
@@ -12,6 +12,5 @@ invariant-arrivals g l = record {
   in_use : g.S.Shelf.in_use l.shelf ≡ Created;
   nanos : l.writer ≡ is_nanos g.C.Case.run;
   told : IsTrue g.S.Shelf.tells → g.S.Shelf.told l.shelf ≡ record (g.S.Shelf.told l.fn.shelf) { current = file_of (is_nanos g.C.Case.run) (flat_map (sent_to g.C.Case.run (journals_view l.boards) l.port) (take l.arrival-index l.arrivals)); last = l.name };
-  reading : g.S.Shelf.reading l.shelf ≡ g.S.Shelf.reading l.fn.shelf;
-  writing : g.S.Shelf.writing l.shelf ≡ g.S.Shelf.writing l.fn.shelf;
+  counts : g.S.Shelf.counts l.shelf ≡ g.S.Shelf.counts l.fn.shelf;
 }
