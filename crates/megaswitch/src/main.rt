@@ -2,7 +2,7 @@
 //!
 //! All that it does is done by `run_switch`, whose contract says what a run reads, what it writes and which status it
 //! ends with, over any files and any standard output that keep to the traits of `edge_io`. This file hands it the
-//! real ones: the words behind the program's name, the files of the system by names from the current folder, and
+//! real ones: the words after the program's name, the files of the system by names from the current folder, and
 //! standard output.
 //!
 //! What is not proved is what the system does. No contract can say what a disk holds or takes; `edge_io` promises
@@ -13,12 +13,9 @@ use edge_io::{OpenGate, RealShelf, StdoutSink, say_all};
 use std::env;
 use std::io::{self, ErrorKind};
 use std::process::ExitCode;
-use switch_app::run_switch;
+use switch_app::{OUT_OF_MEMORY, run_switch};
 
-/// The status where memory is wanting, as `run_switch` has it.
-const OUT_OF_MEMORY: u8 = 8;
-
-/// The words behind the program's name. One that isn't text is an error.
+/// The words after the program's name. One that isn't text is an error.
 fn words_of(rt: &HostRuntime) -> io::Result<Vec<String>> {
     Ok(env::args(rt)?.skip(1).collect(rt.alloc())?)
 }

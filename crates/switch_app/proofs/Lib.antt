@@ -1,8 +1,7 @@
 pub mod Lists
-pub mod PortWords
-pub mod Printing
-pub mod Stages
-pub mod Walk
+pub mod Written
 pub mod Plainness
-pub mod Soundness
+pub mod Journals
 pub mod Leaving
+pub mod Texts
+pub mod Pieces

@@ -1,45 +1,55 @@
 ghost use Rattle.std.specs.Prelude.{◌≡◌};
-ghost use Rattle.switch_app.specs.declared.refusal.Refusal.TheVariants.{OutOfMemory};
+ghost use Rattle.switch_app.specs.declared.refusal.WriteRefusal.TheVariants.{OutOfMemory};
+ghost use Rattle.switch_app.specs.declared.refusal.Refusal.TheVariants.{Reading, Writing};
 
-use pcap_io::PcapFault;
-use spec_run::Quantity;
 use std::alloc::{AllocError, AllocFailed};
+use switch_input::InputRefusal;
 
-/// What is wrong with an input. Names are those of the words.
-#[derive(Clone, Copy, Debug)]
-pub enum InputFault<'a> {
-    /// It has a form that isn't built.
-    NotBuilt { what: &'a str },
-    /// A trace is no capture file that is read.
-    Trace { name: &'a str, fault: PcapFault },
-    /// A quantity is above its limit.
-    Limit(Quantity),
-}
-
-/// Why a run was refused. Names are those of the words.
+/// Why the files of a run were not written.
 #[derive(Debug, Drop)]
-pub enum Refusal<'a> {
-    /// The words or a file are refused.
-    Input(InputFault<'a>),
-    /// The shelf failed in reading a file.
-    ReadFault { name: &'a str },
-    /// The shelf failed in writing a file.
+pub enum WriteRefusal {
+    /// The shelf failed in writing the file of this name.
     WriteFault { name: String },
     OutOfMemory,
 }
 
-impl From<AllocError> for Refusal<'_> {
+impl From<AllocError> for WriteRefusal {
     ghost from_gives = { λ _ e. e ≡ OutOfMemory };
 
     fn from(_: AllocError) -> Self {
-        Refusal::OutOfMemory
+        WriteRefusal::OutOfMemory
     }
 }
 
-impl<T: Drop> From<AllocFailed<T>> for Refusal<'_> {
+impl<T: Drop> From<AllocFailed<T>> for WriteRefusal {
     ghost from_gives = { λ _ e. e ≡ OutOfMemory };
 
     fn from(_: AllocFailed<T>) -> Self {
-        Refusal::OutOfMemory
+        WriteRefusal::OutOfMemory
+    }
+}
+
+/// Why a run was refused.
+#[derive(Debug, Drop)]
+pub enum Refusal<'a> {
+    /// The words and the files were not read.
+    Reading(InputRefusal<'a>),
+    /// They were, and the files of the run were not written.
+    Writing(WriteRefusal),
+}
+
+impl<'a> From<InputRefusal<'a>> for Refusal<'a> {
+    ghost from_gives = { λ r e. e ≡ Reading r };
+
+    fn from(refusal: InputRefusal<'a>) -> Self {
+        Refusal::Reading(refusal)
+    }
+}
+
+impl From<WriteRefusal> for Refusal<'_> {
+    ghost from_gives = { λ r e. e ≡ Writing r };
+
+    fn from(refusal: WriteRefusal) -> Self {
+        Refusal::Writing(refusal)
     }
 }

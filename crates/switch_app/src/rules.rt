@@ -1,5 +1,6 @@
 ghost use Rattle.std.specs.Prelude.{◌≡◌, ◌<◌, ◌^◌, length, All, IfOk};
 ghost use Rattle.spec_tables.specs.declared.edit_word.EditWord.TheVariants.{Add};
+ghost use Rattle.rule_tables.specs.History.{history_of};
 
 use edit_script::Edit;
 use rule_tables::VersionedRules;
@@ -9,7 +10,7 @@ use std::alloc::{AllocError, Global};
 pub fn rules_of(alloc: Global, edits: &[Edit]) -> Result<VersionedRules, AllocError>
     requires adds { All (λ e. e.word ≡ Add) edits.now }
     requires few { length edits.now < 2 ^ 32 }
-    ensures { IfOk result (λ rules. rules ≡ edits.now) }
+    ensures { IfOk result (λ rules. rules ≡ history_of edits.now) }
 {
     let mut rules = VersionedRules::new(alloc);
     'edits: for edit in edits {

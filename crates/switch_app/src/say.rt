@@ -1,100 +1,127 @@
-ghost use Rattle.std.specs.Prelude.{◌≡◌, IsTrue, IfOk, IfErr, string_bytes};
-ghost use Rattle.spec_run.specs.Statuses.{PrintsFront, read_fault_text, write_fault_text, not_built_text, reason, trace_text, limit_text, text_of as refusal_text};
-ghost use Rattle.switch_app.specs.Refused.{input_view, text_of};
+//! The texts of refusals. They are printed piece by piece, so that none takes memory.
+ghost use Rattle.std.specs.Prelude.{◌≡◌, ◌++◌, IsTrue, codes};
+ghost use Rattle.std.specs.Fmt.{decimal};
+ghost use Rattle.spec_run.specs.Statuses.{Prints, trace_text, limit_text, text_of as refusal_text};
+ghost use Rattle.switch_input.specs.Refused.{fault_view};
+ghost use Rattle.switch_app.specs.Pieces.{joined};
+ghost use Rattle.switch_app.specs.Refused.{input_text, write_text, text_of};
 
-use crate::limits::{MOST_FRAMES, MOST_TRACE_BYTES};
-use crate::refusal::{InputFault, Refusal};
+use crate::refusal::{Refusal, WriteRefusal};
 use edge_io::{Sink, say_all};
+use itoa::Buffer;
 use pcap_io::PcapFault;
 use spec_run::Quantity;
-use std::alloc::{AllocError, Global};
+use switch_input::{InputFault, InputRefusal, MOST_FRAMES, MOST_TRACE_BYTES};
 
-fn not_built_line(alloc: Global, what: &str) -> Result<String, AllocError>
-    ensures { IfOk result (λ text. string_bytes text ≡ not_built_text what.now) }
+// Prints texts, one after the other, up to the first at which the sink fails.
+fn say_pieces<K: Sink>(say: &mut K, pieces: &[&str])
+    ensures { IsTrue K.tells → Prints K.needs_memory (K.faults say.old) (K.faults say.new) (K.written say.old)
+        (K.written say.new) (joined pieces.now) }
 {
-    format!(in alloc; "not built: {what}\n")
-}
-
-// What is wrong with a trace.
-fn reason(alloc: Global, fault: PcapFault) -> Result<String, AllocError>
-    ensures { IfOk result (λ text. string_bytes text ≡ reason fault) }
-{
-    match fault {
-        PcapFault::ShortHeader => format!(in alloc; "short header"),
-        PcapFault::Magic => format!(in alloc; "magic"),
-        PcapFault::Version { major, minor } => format!(in alloc; "version {major}.{minor}"),
-        PcapFault::LinkType(n) => format!(in alloc; "link type {n}"),
-        PcapFault::ShortRecord { at } => format!(in alloc; "short record at {at}"),
-        PcapFault::TooLong { at, .. } => format!(in alloc; "too long at {at}"),
-        PcapFault::Fraction { at } => format!(in alloc; "fraction at {at}"),
-        PcapFault::TooManyFrames => format!(in alloc; "too many frames"),
-        PcapFault::OutOfMemory => format!(in alloc; "out of memory"),
+    'pieces: for piece in pieces {
+        match say_all(say, piece.as_bytes()) {
+            Ok(()) => {}
+            Err(_) => return,
+        }
     }
 }
 
-fn trace_line(alloc: Global, name: &str, fault: PcapFault) -> Result<String, AllocError>
-    ensures { IfOk result (λ text. string_bytes text ≡ trace_text name.now fault) }
+// Prints a line that ends with a number.
+fn say_number<K: Sink>(say: &mut K, name: &str, what: &str, number: usize)
+    ensures { IsTrue K.tells
+        → Prints K.needs_memory (K.faults say.old) (K.faults say.new) (K.written say.old) (K.written say.new)
+        (name.now ++ (what.now ++ (decimal number ++ codes "\n"))) }
 {
-    let reason = reason(alloc, fault)?;
-    format!(in alloc; "{name}: {reason}\n")
+    let mut digits = Buffer::new();
+    say_pieces(say, &[name, what, digits.format(number), "\n"]);
 }
 
-fn limit_line(alloc: Global, quantity: Quantity) -> Result<String, AllocError>
-    ensures { IfOk result (λ text. string_bytes text ≡ limit_text quantity) }
+fn say_version<K: Sink>(say: &mut K, name: &str, major: u16, minor: u16)
+    ensures { IsTrue K.tells
+        → Prints K.needs_memory (K.faults say.old) (K.faults say.new) (K.written say.old) (K.written say.new)
+        (trace_text name.now (PcapFault.Version major minor)) }
+{
+    let mut first = Buffer::new();
+    let mut second = Buffer::new();
+    let pieces = [
+        name,
+        ": version ",
+        first.format(major),
+        ".",
+        second.format(minor),
+        "\n",
+    ];
+    say_pieces(say, &pieces);
+}
+
+fn say_trace<K: Sink>(say: &mut K, name: &str, fault: PcapFault)
+    ensures { IsTrue K.tells → Prints K.needs_memory (K.faults say.old) (K.faults say.new) (K.written say.old)
+        (K.written say.new) (trace_text name.now fault) }
+{
+    match fault {
+        PcapFault::ShortHeader => say_pieces(say, &[name, ": short header\n"]),
+        PcapFault::Magic => say_pieces(say, &[name, ": magic\n"]),
+        PcapFault::Version { major, minor } => say_version(say, name, major, minor),
+        PcapFault::LinkType(number) => say_number(say, name, ": link type ", number as usize),
+        PcapFault::ShortRecord { at } => say_number(say, name, ": short record at ", at),
+        PcapFault::TooLong { at, .. } => say_number(say, name, ": too long at ", at),
+        PcapFault::Fraction { at } => say_number(say, name, ": fraction at ", at),
+        PcapFault::TooManyFrames => say_pieces(say, &[name, ": too many frames\n"]),
+        PcapFault::OutOfMemory => say_pieces(say, &[name, ": out of memory\n"]),
+    }
+}
+
+fn say_limit<K: Sink>(say: &mut K, quantity: Quantity)
+    ensures { IsTrue K.tells → Prints K.needs_memory (K.faults say.old) (K.faults say.new) (K.written say.old)
+        (K.written say.new) (limit_text quantity) }
 {
     match quantity {
-        Quantity::TraceBytes => format!(in alloc; "limit: trace-bytes {MOST_TRACE_BYTES}\n"),
-        Quantity::Frames => format!(in alloc; "limit: frames {MOST_FRAMES}\n"),
+        Quantity::TraceBytes => say_number(say, "limit: ", "trace-bytes ", MOST_TRACE_BYTES),
+        Quantity::Frames => say_number(say, "limit: ", "frames ", MOST_FRAMES),
     }
 }
 
-fn read_fault_line(alloc: Global, name: &str) -> Result<String, AllocError>
-    ensures { IfOk result (λ text. string_bytes text ≡ read_fault_text name.now) }
-{
-    format!(in alloc; "read fault: {name}\n")
-}
-
-fn write_fault_line(alloc: Global, name: &str) -> Result<String, AllocError>
-    ensures { IfOk result (λ text. string_bytes text ≡ write_fault_text name.now) }
-{
-    format!(in alloc; "write fault: {name}\n")
-}
-
-fn input_line(alloc: Global, fault: &InputFault<'_>) -> Result<String, AllocError>
-    ensures { IfOk result (λ text. string_bytes text ≡ refusal_text (input_view fault.now)) }
+fn say_fault<K: Sink>(say: &mut K, fault: &InputFault<'_>)
+    ensures { IsTrue K.tells → Prints K.needs_memory (K.faults say.old) (K.faults say.new) (K.written say.old)
+        (K.written say.new) (refusal_text (fault_view fault.now)) }
 {
     match fault {
-        InputFault::NotBuilt { what } => not_built_line(alloc, what),
-        InputFault::Trace { name, fault } => trace_line(alloc, name, *fault),
-        InputFault::Limit(quantity) => limit_line(alloc, *quantity),
+        InputFault::NotBuilt { what } => say_pieces(say, &["not built: ", what, "\n"]),
+        InputFault::Trace { name, fault } => say_trace(say, name, *fault),
+        InputFault::Limit(quantity) => say_limit(say, *quantity),
     }
 }
 
-// Prints a text, or a front of it where the sink fails.
-fn print<K: Sink>(say: &mut K, text: &[u8])
-    ensures { IsTrue K.tells → PrintsFront (K.written say.old) (K.written say.new) text.now }
-{
-    let _ = say_all(say, text);
-}
-
-// Prints a line, if there was memory for it.
-fn print_line<K: Sink>(say: &mut K, line: Result<String, AllocError>)
-    ensures line { IsTrue K.tells → IfOk line (λ text. PrintsFront (K.written say.old) (K.written say.new) (string_bytes text)) }
-    ensures none { IsTrue K.tells → IfErr line (λ _. K.written say.new ≡ K.written say.old) }
-{
-    if let Ok(line) = line {
-        print(say, line.as_bytes());
-    }
-}
-
-/// Prints why a run was refused, or a front of it where the sink fails or memory is wanting.
-pub fn say_refusal<K: Sink>(alloc: Global, say: &mut K, refusal: &Refusal<'_>)
-    ensures { IsTrue K.tells → PrintsFront (K.written say.old) (K.written say.new) (text_of refusal.now) }
+fn say_input_refusal<K: Sink>(say: &mut K, refusal: &InputRefusal<'_>)
+    ensures { IsTrue K.tells → Prints K.needs_memory (K.faults say.old) (K.faults say.new) (K.written say.old)
+        (K.written say.new) (input_text refusal.now) }
 {
     match refusal {
-        Refusal::Input(fault) => print_line(say, input_line(alloc, fault)),
-        Refusal::ReadFault { name } => print_line(say, read_fault_line(alloc, name)),
-        Refusal::WriteFault { name } => print_line(say, write_fault_line(alloc, name.as_str())),
-        Refusal::OutOfMemory => print(say, b"out of memory\n"),
+        InputRefusal::Input(fault) => say_fault(say, fault),
+        InputRefusal::ReadFault { name } => say_pieces(say, &["read fault: ", name, "\n"]),
+        InputRefusal::OutOfMemory => say_pieces(say, &["out of memory\n"]),
+    }
+}
+
+fn say_write_refusal<K: Sink>(say: &mut K, refusal: &WriteRefusal)
+    ensures { IsTrue K.tells → Prints K.needs_memory (K.faults say.old) (K.faults say.new) (K.written say.old)
+        (K.written say.new) (write_text refusal.now) }
+{
+    match refusal {
+        WriteRefusal::WriteFault { name } => {
+            say_pieces(say, &["write fault: ", name.as_str(), "\n"]);
+        }
+        WriteRefusal::OutOfMemory => say_pieces(say, &["out of memory\n"]),
+    }
+}
+
+/// Prints why a run was refused.
+pub fn say_refusal<K: Sink>(say: &mut K, refusal: &Refusal<'_>)
+    ensures { IsTrue K.tells → Prints K.needs_memory (K.faults say.old) (K.faults say.new) (K.written say.old)
+        (K.written say.new) (text_of refusal.now) }
+{
+    match refusal {
+        Refusal::Reading(refusal) => say_input_refusal(say, refusal),
+        Refusal::Writing(refusal) => say_write_refusal(say, refusal),
     }
 }

@@ -1,18 +1,18 @@
-ghost use Rattle.std.specs.Prelude.{◌≡◌, ◌++◌, map, All, IsTrue, OnOk, OnErr, Err, IfOk, IfErr, string_bytes, codes};
+ghost use Rattle.std.specs.Prelude.{◌≡◌, ◌++◌, map, All, IsTrue, OnOk, OnErr, IfOk, IfErr, string_bytes, codes};
+ghost use Rattle.spec_base.specs.Files.{IsPrefixOf};
 ghost use Rattle.spec_case.specs.Arrivals.{in_order, arrivals as came_in};
-ghost use Rattle.spec_run.specs.Outputs.{port_file_name, port_file, journal_file};
+ghost use Rattle.spec_run.specs.Outputs.{port_file_name, port_file, journal_file, files_of};
 ghost use Rattle.edge_io.specs.declared.outside.InUse.TheVariants.{Nothing};
 ghost use Rattle.edge_io.specs.Shelf.{kept};
-ghost use Rattle.flow_dump.specs.JournalViews as dumps;
-ghost use Rattle.egress_merge.specs.Boards.{journals_view, IsAllDecided};
-ghost use Rattle.edge_io.specs.Written.{written, IsFrontOf};
-ghost use Rattle.switch_app.specs.Refused.{RunCause, IsOfWriting, IsCutIn, is_write_fault, name_in};
-ghost use Rattle.switch_app.specs.RunViews.{files_for};
+ghost use Rattle.edge_io.specs.Written.{written};
+ghost use Rattle.pmd_board.specs.BoardView.{journals_view};
+ghost use Rattle.egress_merge.specs.Boards.{IsAllDecided};
+ghost use Rattle.switch_app.specs.Refused.{IfWriteFault, HasCause, IsCutIn};
 
-use crate::refusal::Refusal;
+use crate::refusal::WriteRefusal;
 use edge_io::{Failed, Shelf};
 use egress_merge::write_port;
-use flow_dump::{PortJournal, WriteFault, write_journals};
+use flow_dump::write_journals;
 use pmd_board::Board;
 use run_case::{Case, RunData};
 use spec_case::Arrival;
@@ -31,7 +31,7 @@ fn journal_file_name(alloc: Global, out: &str) -> Result<String, AllocError>
 }
 
 // Writes the file of a port.
-fn write_port_file<'a, C: Case, S: Shelf>(
+fn write_port_file<C: Case, S: Shelf>(
     alloc: Global,
     shelf: &mut S,
     out: &str,
@@ -39,7 +39,7 @@ fn write_port_file<'a, C: Case, S: Shelf>(
     boards: &[Board<C>],
     arrivals: &[Arrival],
     port: u16,
-) -> Result<(), Refusal<'a>>
+) -> Result<(), WriteRefusal>
     requires in_use { S.in_use shelf.old ≡ Nothing }
     requires boards { map (λ b. b.port) boards.now ≡ C.run.ports }
     requires arrivals { arrivals.now ≡ in_order (came_in C.run) }
@@ -48,29 +48,31 @@ fn write_port_file<'a, C: Case, S: Shelf>(
     ensures ok { let file = port_file out.now C.run (journals_view boards.now) port in
         IsTrue S.tells → OnOk result (S.told shelf.new ≡ kept (S.told shelf.old) file) }
     ensures err { let file = port_file out.now C.run (journals_view boards.now) port in
-        IsTrue S.tells → OnErr result (IsFrontOf (S.told shelf.old).done file (written (S.in_use shelf.new) (S.told shelf.new))) }
-    ensures only { IfErr result IsOfWriting }
-    ensures fault { IfErr result (λ r. IsTrue (is_write_fault r) → name_in r ≡ port_file_name out.now port) }
-    ensures named { IsTrue S.tells → IfErr result (λ r. IsTrue (is_write_fault r) → (S.told shelf.new).last ≡ name_in r) }
-    ensures cause { RunCause (S.reading shelf.old) (S.reading shelf.new) (S.writing shelf.old) (S.writing shelf.new) result }
+        IsTrue S.tells → OnErr result (IsPrefixOf (S.told shelf.old).done file
+        (written (S.in_use shelf.new) (S.told shelf.new))) }
+    ensures fault { IfErr result (λ r. IfWriteFault r (λ name. name ≡ port_file_name out.now port)) }
+    ensures named { IsTrue S.tells
+        → IfErr result (λ r. IfWriteFault r (λ name. (S.told shelf.new).last ≡ name)) }
+    ensures counts { OnOk result (S.counts shelf.new ≡ S.counts shelf.old) }
+    ensures cause { IfErr result (HasCause (S.counts shelf.old) (S.counts shelf.new)) }
 {
     let name = port_file_name(alloc, out, port)?;
     match write_port(shelf, name.as_str(), port, run, boards, arrivals) {
         Ok(()) => Ok(()),
-        Err(Failed::Fault) => Err(Refusal::WriteFault { name }),
-        Err(Failed::OutOfMemory) => Err(Refusal::OutOfMemory),
+        Err(Failed::Fault) => Err(WriteRefusal::WriteFault { name }),
+        Err(Failed::OutOfMemory) => Err(WriteRefusal::OutOfMemory),
     }
 }
 
 // Writes the files of all ports, in the order of the words.
-fn write_port_files<'a, C: Case, S: Shelf>(
+fn write_port_files<C: Case, S: Shelf>(
     alloc: Global,
     shelf: &mut S,
     out: &str,
     run: &RunData<C>,
     boards: &[Board<C>],
     arrivals: &[Arrival],
-) -> Result<(), Refusal<'a>>
+) -> Result<(), WriteRefusal>
     requires in_use { S.in_use shelf.old ≡ Nothing }
     requires boards { map (λ b. b.port) boards.now ≡ C.run.ports }
     requires arrivals { arrivals.now ≡ in_order (came_in C.run) }
@@ -79,10 +81,12 @@ fn write_port_files<'a, C: Case, S: Shelf>(
     ensures ok { let files = map (port_file out.now C.run (journals_view boards.now)) C.run.ports in
         IsTrue S.tells → OnOk result ((S.told shelf.new).done ≡ (S.told shelf.old).done ++ files) }
     ensures err { let files = map (port_file out.now C.run (journals_view boards.now)) C.run.ports in
-        IsTrue S.tells → IfErr result (IsCutIn files (S.told shelf.old).done (written (S.in_use shelf.new) (S.told shelf.new))) }
-    ensures only { IfErr result IsOfWriting }
-    ensures named { IsTrue S.tells → IfErr result (λ r. IsTrue (is_write_fault r) → (S.told shelf.new).last ≡ name_in r) }
-    ensures cause { RunCause (S.reading shelf.old) (S.reading shelf.new) (S.writing shelf.old) (S.writing shelf.new) result }
+        IsTrue S.tells → IfErr result (IsCutIn files (S.told shelf.old).done
+        (written (S.in_use shelf.new) (S.told shelf.new))) }
+    ensures named { IsTrue S.tells
+        → IfErr result (λ r. IfWriteFault r (λ name. (S.told shelf.new).last ≡ name)) }
+    ensures counts { OnOk result (S.counts shelf.new ≡ S.counts shelf.old) }
+    ensures cause { IfErr result (HasCause (S.counts shelf.old) (S.counts shelf.new)) }
 {
     let ports = run.ports().as_slice();
     'files: for port in ports {
@@ -92,55 +96,57 @@ fn write_port_files<'a, C: Case, S: Shelf>(
 }
 
 // Writes the file of the journals.
-fn write_journal_file<'a, S: Shelf>(
+fn write_journal_file<C: Case, S: Shelf>(
     alloc: Global,
     shelf: &mut S,
     out: &str,
-    journals: &[PortJournal<'_>],
-) -> Result<(), Refusal<'a>>
+    boards: &[Board<C>],
+) -> Result<(), WriteRefusal>
     requires { S.in_use shelf.old ≡ Nothing }
     ensures in_use { OnOk result (S.in_use shelf.new ≡ Nothing) }
-    ensures ok { let file = journal_file out.now (dumps.journals_view journals.now) in
+    ensures ok { let file = journal_file out.now (journals_view boards.now) in
         IsTrue S.tells → OnOk result (S.told shelf.new ≡ kept (S.told shelf.old) file) }
-    ensures err { let file = journal_file out.now (dumps.journals_view journals.now) in
-        IsTrue S.tells → OnErr result (IsFrontOf (S.told shelf.old).done file (written (S.in_use shelf.new) (S.told shelf.new))) }
-    ensures only { IfErr result IsOfWriting }
-    ensures fault { IfErr result (λ r. IsTrue (is_write_fault r) → name_in r ≡ out.now ++ codes ".journal") }
-    ensures named { IsTrue S.tells → IfErr result (λ r. IsTrue (is_write_fault r) → (S.told shelf.new).last ≡ name_in r) }
-    ensures cause { RunCause (S.reading shelf.old) (S.reading shelf.new) (S.writing shelf.old) (S.writing shelf.new) result }
+    ensures err { let file = journal_file out.now (journals_view boards.now) in
+        IsTrue S.tells → OnErr result (IsPrefixOf (S.told shelf.old).done file
+        (written (S.in_use shelf.new) (S.told shelf.new))) }
+    ensures fault { IfErr result (λ r. IfWriteFault r (λ name. name ≡ out.now ++ codes ".journal")) }
+    ensures named { IsTrue S.tells
+        → IfErr result (λ r. IfWriteFault r (λ name. (S.told shelf.new).last ≡ name)) }
+    ensures counts { OnOk result (S.counts shelf.new ≡ S.counts shelf.old) }
+    ensures cause { IfErr result (HasCause (S.counts shelf.old) (S.counts shelf.new)) }
 {
     let name = journal_file_name(alloc, out)?;
-    match write_journals(alloc, shelf, name.as_str(), journals) {
+    match write_journals(alloc, shelf, name.as_str(), boards) {
         Ok(()) => Ok(()),
-        Err(WriteFault::Fault) => Err(Refusal::WriteFault { name }),
-        Err(WriteFault::OutOfMemory) => Err(Refusal::OutOfMemory),
+        Err(Failed::Fault) => Err(WriteRefusal::WriteFault { name }),
+        Err(Failed::OutOfMemory) => Err(WriteRefusal::OutOfMemory),
     }
 }
 
 /// Writes the files of all ports, in the order of the words, and then the journals of their boards.
-pub fn write_files<'a, C: Case, S: Shelf>(
+pub fn write_files<C: Case, S: Shelf>(
     alloc: Global,
     shelf: &mut S,
     out: &str,
     run: &RunData<C>,
     boards: &[Board<C>],
     arrivals: &[Arrival],
-    journals: &[PortJournal<'_>],
-) -> Result<(), Refusal<'a>>
+) -> Result<(), WriteRefusal>
     requires in_use { S.in_use shelf.old ≡ Nothing }
     requires boards { map (λ b. b.port) boards.now ≡ C.run.ports }
     requires arrivals { arrivals.now ≡ in_order (came_in C.run) }
     requires decided { All (IsAllDecided C.run) boards.now }
-    requires journals { dumps.journals_view journals.now ≡ journals_view boards.now }
     ensures in_use { OnOk result (S.in_use shelf.new ≡ Nothing) }
-    ensures ok { let files = files_for out.now C.run (journals_view boards.now) in
+    ensures ok { let files = files_of out.now C.run (journals_view boards.now) in
         IsTrue S.tells → OnOk result ((S.told shelf.new).done ≡ (S.told shelf.old).done ++ files) }
-    ensures err { let files = files_for out.now C.run (journals_view boards.now) in
-        IsTrue S.tells → IfErr result (IsCutIn files (S.told shelf.old).done (written (S.in_use shelf.new) (S.told shelf.new))) }
-    ensures only { IfErr result IsOfWriting }
-    ensures named { IsTrue S.tells → IfErr result (λ r. IsTrue (is_write_fault r) → (S.told shelf.new).last ≡ name_in r) }
-    ensures cause { RunCause (S.reading shelf.old) (S.reading shelf.new) (S.writing shelf.old) (S.writing shelf.new) result }
+    ensures err { let files = files_of out.now C.run (journals_view boards.now) in
+        IsTrue S.tells → IfErr result (IsCutIn files (S.told shelf.old).done
+        (written (S.in_use shelf.new) (S.told shelf.new))) }
+    ensures named { IsTrue S.tells
+        → IfErr result (λ r. IfWriteFault r (λ name. (S.told shelf.new).last ≡ name)) }
+    ensures counts { OnOk result (S.counts shelf.new ≡ S.counts shelf.old) }
+    ensures cause { IfErr result (HasCause (S.counts shelf.old) (S.counts shelf.new)) }
 {
     write_port_files(alloc, shelf, out, run, boards, arrivals)?;
-    write_journal_file(alloc, shelf, out, journals)
+    write_journal_file(alloc, shelf, out, boards)
 }

@@ -1,10 +1,11 @@
 ghost use Rattle.std.specs.Prelude.{◌≡◌, false};
 ghost use Rattle.edge_io.specs.declared.outside.InUse.TheVariants.{Nothing};
+ghost use Rattle.edge_io.specs.Counts.{no_faults};
 ghost use Rattle.edge_io.specs.Real.{untold};
 
 use edge_io::{Failed, InUse, Shelf};
 
-/// Bytes, and how many times they stand behind one another.
+/// Bytes, and how many times they stand after one another.
 #[derive(Drop)]
 pub struct Piece {
     pub bytes: Vec<u8>,
@@ -56,7 +57,7 @@ impl MadeShelf {
         }
     }
 
-    // What is left of the opened file, or a front of it.
+    // What is left of the opened file, or a prefix of it.
     fn rest(&self) -> &[u8] {
         match self.file {
             Some(place) if place < self.files.len() => {
@@ -74,9 +75,7 @@ impl Shelf for MadeShelf {
 
     ghost in_use = { λ s. s.in_use };
 
-    ghost reading = { λ _. 0 };
-
-    ghost writing = { λ _. 0 };
+    ghost counts = { λ _. no_faults };
 
     fn open_file(&mut self, name: &str) -> Result<(), Failed> {
         self.file = self

@@ -2,8 +2,8 @@ use Rattle.std.proofs.Common.{ap, ◌∙◌}
 use Rattle.std.proofs.lemmas.Result.{err_from_is_err_and}
 use Rattle.edge_io.specs.Shelf.{Told}
 use Rattle.spec_run.specs.Outputs.{port_file}
-use Rattle.egress_merge.specs.Boards.{journals_view}
-use Rattle.switch_app.proofs.Walk.{files_more, cut_in_at}
+use Rattle.pmd_board.specs.BoardView.{journals_view}
+use Rattle.switch_app.proofs.Written.{files_more, cut_in_at}
 use Rattle.switch_app.proofs.writing.write_port_files.Goals as goal
 
 pub returns-in_err-write_port_file-clause-err : goal.returns-in_err-write_port_file-clause-err
@@ -17,6 +17,5 @@ pub files-preserved : goal.files-preserved
 files-preserved g c = record {
   in_use = c.in_ok-write_port_file.ensures.in_use;
   done = λ t. files_more (port_file c.args.out.now g.C.Case.run (journals_view c.args.boards.now)) c.as_slice-ports.result.now c.files.port-index _ _ _ c.files-test.true (c.files.invariant.done t) (ap (λ (w : Told). w.done) (c.in_ok-write_port_file.ensures.ok t));
-  reading = c.in_ok-write_port_file.ensures.cause.ok_reading ∙ c.files.invariant.reading;
-  writing = c.in_ok-write_port_file.ensures.cause.ok_writing ∙ c.files.invariant.writing;
+  counts = c.in_ok-write_port_file.ensures.counts ∙ c.files.invariant.counts;
 }

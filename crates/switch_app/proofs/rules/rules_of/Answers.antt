@@ -1,0 +1,25 @@
+use Rattle.std.proofs.Common.{◌≡◌, ◌+◌, ◌<◌, ◌≤◌, ◌^◌, length, take, get_or, [], ◌∷◌, ◌++◌, suc, sym, ap, ◌∙◌, arith}
+use Rattle.std.proofs.lemmas.List.{length-take-le}
+use Rattle.std.proofs.Math.Seq.{take-suc}
+use Rattle.rule_tables.specs.History.{newest, edited_by, history_of}
+use Rattle.rule_tables.proofs.Histories.{newest-history, history-push, history-none}
+use Rattle.switch_app.proofs.rules.rules_of.Goals as goal
+
+pub edits-init : goal.edits-init
+edits-init c = c.new-rules.ensures ∙ history-none
+
+pub apply-requires-clause-room : goal.apply-requires-clause-room
+apply-requires-clause-room c =
+    let so_far = take c.edits.edit-index c.args.edits.now in
+    let last : newest c.edits.rules ≡ length so_far = ap newest c.edits.invariant ∙ newest-history so_far in
+    let count : length so_far ≡ c.edits.edit-index = length-take-le c.edits.edit-index c.args.edits.now (omega (arith, c.edits-test.true)) in
+    omega (arith, c.edits-test.true, c.requires.few)
+
+pub edits-preserved : goal.edits-preserved
+edits-preserved c =
+    let so_far = take c.edits.edit-index c.args.edits.now in
+    let next : c.edits.edit-index + 1 ≡ suc c.edits.edit-index = omega arith in
+    let more : take (c.edits.edit-index + 1) c.args.edits.now ≡ so_far ++ c.edit-item.result ∷ [] =
+    ap (λ n. take n c.args.edits.now) next ∙ take-suc c.args.edits.now c.edits.edit-index c.edit-item.result c.edits-test.true
+    ∙ ap (λ e. so_far ++ e ∷ []) (sym c.edit-item.is) in
+    c.in_ok-apply.ensures.edited ∙ ap (edited_by c.edit-item.result) c.edits.invariant ∙ sym (history-push so_far c.edit-item.result) ∙ sym (ap history_of more)

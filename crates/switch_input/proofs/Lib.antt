@@ -1,0 +1,5 @@
+pub mod Lists
+pub mod PortWords
+pub mod Stages
+pub mod Walk
+pub mod Verdicts

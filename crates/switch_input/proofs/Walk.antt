@@ -1,0 +1,68 @@
+-- The traces of the ports, one after the other, as a loop reads them.
+use Rattle.std.proofs.Common.{◌≡◌, ℕ, ◌+◌, ◌-◌, ◌≤◌, ◌<◌, List, [], ◌∷◌, ◌++◌, length, get_or, drop, refl, sym, ap, ◌∙◌}
+use Rattle.std.specs.Prelude.{Result, Ok, Err, Contains}
+use Rattle.std.proofs.lemmas.List.{drop_more, drop_all}
+use Rattle.std.proofs.lemmas.List.Elements.{Contains-append_left, Contains-append_right}
+use Rattle.spec_pcap.specs.Pcap.{Capture}
+use Rattle.spec_run.specs.Verdict.{Files, Refusal, TraceFile, trace_in, trace_names, traces_after, traces_opened}
+use Rattle.edge_io.specs.Shelf.{Told}
+use Rattle.edge_io.specs.ReadAll.{OnlyRead}
+use Rattle.switch_input.specs.declared.words.PortWord.{PortWord}
+use Rattle.switch_input.specs.declared.refusal.InputRefusal.{InputRefusal}
+use Rattle.switch_input.specs.declared.refusal.InputRefusal.TheVariants.{Input, ReadFault, OutOfMemory}
+use Rattle.switch_input.specs.Refused.{IfReadFault, Explains}
+use Rattle.switch_input.specs.WordViews.{port_view, ports_view}
+
+here : (ports : List PortWord) (i : ℕ) (d : PortWord) → i < length ports → ports_view (drop i ports) ≡ port_view (get_or ports i d) ∷ ports_view (drop (i + 1) ports)
+here ports i d lt = ap ports_view (drop_more ports i d lt)
+
+module _ (files : Files) (bytes_left frames_left : ℕ) (ports : List PortWord) (i : ℕ) where
+  pub next_trace : (before : List Capture) (d : PortWord) (t : TraceFile) (all : Result (List Capture) Refusal) → i < length ports
+      → trace_in files bytes_left frames_left (port_view (get_or ports i d)) ≡ Ok t → traces_after files before bytes_left frames_left (ports_view (drop i ports)) ≡ all
+      → traces_after files (before ++ t.capture ∷ []) (bytes_left - t.size) (frames_left - length t.capture.frames) (ports_view (drop (i + 1) ports)) ≡ all
+  unfolding traces_after
+  next_trace before d t all lt read so_far =
+      let step : traces_after files before bytes_left frames_left (ports_view (drop i ports)) ≡ traces_after files (before ++ t.capture ∷ []) (bytes_left - t.size) (frames_left - length t.capture.frames) (ports_view (drop (i + 1) ports)) =
+      rw (here ports i d lt, read) refl in
+      sym step ∙ so_far
+
+  pub no_next_trace : (before : List Capture) (d : PortWord) (e : Refusal) (all : Result (List Capture) Refusal) → i < length ports
+      → trace_in files bytes_left frames_left (port_view (get_or ports i d)) ≡ Err e → traces_after files before bytes_left frames_left (ports_view (drop i ports)) ≡ all → all ≡ Err e
+  unfolding traces_after
+  no_next_trace before d e all lt refused so_far =
+      let step : traces_after files before bytes_left frames_left (ports_view (drop i ports)) ≡ Err e = rw (here ports i d lt, refused) refl in
+      sym so_far ∙ step
+
+  pub all_traces : (before : List Capture) (all : Result (List Capture) Refusal) → length ports ≤ i
+      → traces_after files before bytes_left frames_left (ports_view (drop i ports)) ≡ all → all ≡ Ok before
+  unfolding traces_after
+  all_traces before all le so_far =
+      let step : traces_after files before bytes_left frames_left (ports_view (drop i ports)) ≡ Ok before = rw (drop_all i ports le) refl in
+      sym so_far ∙ step
+
+  -- the name of this port's trace is one of those that are opened
+  pub opened_here : (d : PortWord) (all : List (List ℕ)) (r : InputRefusal) → i < length ports → IfReadFault r (Contains (trace_names (port_view (get_or ports i d))))
+      → ((name : List ℕ) → Contains (traces_opened files bytes_left frames_left (ports_view (drop i ports))) name → Contains all name) → IfReadFault r (Contains all)
+  unfolding traces_opened
+  opened_here d all (Input fault) lt named so_far = tt
+  opened_here d all (ReadFault name) lt named so_far = so_far name.now (rw (here ports i d lt) (Contains-append_left (trace_names (port_view (get_or ports i d))) _ name.now named))
+  opened_here d all OutOfMemory lt named so_far = tt
+
+  pub opened_later : (d : PortWord) (t : TraceFile) (name : List ℕ) → i < length ports → trace_in files bytes_left frames_left (port_view (get_or ports i d)) ≡ Ok t
+      → Contains (traces_opened files (bytes_left - t.size) (frames_left - length t.capture.frames) (ports_view (drop (i + 1) ports))) name
+      → Contains (traces_opened files bytes_left frames_left (ports_view (drop i ports))) name
+  unfolding traces_opened
+  opened_later d t name lt read later = rw (here ports i d lt, read) (Contains-append_right (trace_names (port_view (get_or ports i d))) _ name later)
+
+  -- a refusal of a trace is the refusal of all
+  pub explained : (before : List Capture) (d : PortWord) (all : Result (List Capture) Refusal) (r : InputRefusal) → i < length ports
+      → Explains (trace_in files bytes_left frames_left (port_view (get_or ports i d))) r → traces_after files before bytes_left frames_left (ports_view (drop i ports)) ≡ all
+      → Explains all r
+  explained before d all (Input fault) lt why so_far = no_next_trace before d _ all lt why so_far
+  explained before d all (ReadFault name) lt why so_far = tt
+  explained before d all OutOfMemory lt why so_far = tt
+
+-- ---- what was read so far
+
+pub only_read-trans : (a b c : Told) → OnlyRead a b → OnlyRead b c → OnlyRead a c
+only_read-trans a b c first second = second ∙ ap (λ (w : Told). let x : Told = record w { left = c.left; last = c.last } in x) first

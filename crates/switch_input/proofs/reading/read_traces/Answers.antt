@@ -1,0 +1,45 @@
+use Rattle.std.proofs.Common.{◌+◌, ◌≤◌, length, arith, ap, ◌∙◌}
+use Rattle.std.proofs.lemmas.List.{length_push}
+use Rattle.std.proofs.lemmas.List.Elements.{All-push}
+use Rattle.std.proofs.lemmas.Result.{err_from_is_err_and}
+use Rattle.edge_io.specs.Shelf.{Told}
+use Rattle.spec_pcap.specs.Pcap.{Capture}
+use Rattle.spec_run.specs.Limits.{most_frames}
+use Rattle.switch_input.specs.InputViews.{trace_view}
+use Rattle.switch_input.proofs.Walk.{next_trace, explained, all_traces, opened_here, opened_later, only_read-trans}
+use Rattle.switch_input.proofs.reading.read_traces.Goals as goal
+
+pub returns-in_err-read-clause-err : goal.returns-in_err-read-clause-err
+returns-in_err-read-clause-err g c = λ t.
+    let p = err_from_is_err_and c.from_residual.result c.from_residual.ensures.1 in
+    rw (p.1, p.2) (explained _ c.ports.bytes_left c.ports.frames_left c.args.ports.now c.ports.w-index _ _ _ c.in_err-read.field-0.0 c.ports-test.true (rw (ap (λ (w : Told). w.holds) (c.ports.invariant.told t)) at c.in_err-read.ensures.err t) (c.ports.invariant.verdict t))
+
+pub returns-in_err-read-clause-opened : goal.returns-in_err-read-clause-opened
+returns-in_err-read-clause-opened g c = λ t.
+    let p = err_from_is_err_and c.from_residual.result c.from_residual.ensures.1 in
+    rw (p.1, p.2) (opened_here _ c.ports.bytes_left c.ports.frames_left c.args.ports.now c.ports.w-index _ _ c.in_err-read.field-0.0 c.ports-test.true c.in_err-read.ensures.fault (c.ports.invariant.opened t))
+
+pub ports-preserved : goal.ports-preserved
+ports-preserved g c =
+    let before = c.ports.invariant in
+    let read = c.in_ok-read.ensures in
+    let grown = c.in_ok-push.ensures.items in
+    record {
+      in_use = read.in_use;
+      bytes = omega (arith, before.bytes);
+      frames = omega (arith, before.frames);
+      one_each = ap length grown ∙ length_push c.ports.traces.items c.in_ok-read.read.trace ∙ ap (λ n. n + 1) before.one_each;
+      few_frames = rw grown (All-push (λ (t : Capture). length t.frames ≤ most_frames) c.ports.traces.items c.in_ok-read.read.trace before.few_frames (omega (arith, read.frames, before.frames)));
+      verdict = λ t.
+          let same = ap (λ (w : Told). w.holds) (before.told t) in
+          rw (grown, c.len-frames_left.ensures)
+          (next_trace _ c.ports.bytes_left c.ports.frames_left c.args.ports.now c.ports.w-index _ _ (trace_view c.in_ok-read.read) _ c.ports-test.true (rw same at read.ok t) (before.verdict t));
+      opened = λ t name later.
+          let same = ap (λ (w : Told). w.holds) (before.told t) in
+          before.opened t name (opened_later _ c.ports.bytes_left c.ports.frames_left c.args.ports.now c.ports.w-index _ (trace_view c.in_ok-read.read) name c.ports-test.true (rw same at read.ok t) (rw c.len-frames_left.ensures at later));
+      told = λ t. only_read-trans (g.S.Shelf.told c.args.shelf.now) (g.S.Shelf.told c.ports.shelf) (g.S.Shelf.told c.read_port_trace.new.shelf) (before.told t) (read.told t);
+      counts = read.counts ∙ before.counts;
+    }
+
+pub returns-clause-ok : goal.returns-clause-ok
+returns-clause-ok g c = λ t. all_traces _ c.ports.bytes_left c.ports.frames_left c.args.ports.now c.ports.w-index _ _ (omega arith) (c.ports.invariant.verdict t)

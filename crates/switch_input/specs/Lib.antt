@@ -1,0 +1,3 @@
+pub mod WordViews
+pub mod InputViews
+pub mod Refused

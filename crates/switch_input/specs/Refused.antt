@@ -1,0 +1,36 @@
+-- What a refusal in reading says, and when it may come.
+use Rattle.std.specs.Prelude.{◌≡◌, ℕ, List, Result, Err}
+use Rattle.edge_io.specs.Counts.{Counts, ReadFailed}
+use Rattle.spec_run.specs.Verdict as verdicts
+use Rattle.switch_input.specs.declared.refusal.InputFault.{InputFault}
+use Rattle.switch_input.specs.declared.refusal.InputFault.TheVariants.{NotBuilt, Trace, Limit}
+use Rattle.switch_input.specs.declared.refusal.InputRefusal.{InputRefusal}
+use Rattle.switch_input.specs.declared.refusal.InputRefusal.TheVariants.{Input, ReadFault, OutOfMemory}
+
+-- what the verdict says of such an input
+abbrev pub fault_view : InputFault → verdicts.Refusal
+fault_view (NotBuilt what) = verdicts.NotBuilt what.now
+fault_view (Trace name fault) = verdicts.Trace name.now fault
+fault_view (Limit q) = verdicts.Limit q
+
+-- This holds of the fault of an input, where that is what it tells.
+abbrev pub IfInput : InputRefusal → (InputFault → Type 0) → Type 0
+IfInput (Input fault) P = P fault
+IfInput (ReadFault name) P = Unit {0}
+IfInput OutOfMemory P = Unit {0}
+
+-- This holds of the file's name, where it tells that reading failed.
+abbrev pub IfReadFault : InputRefusal → (List ℕ → Type 0) → Type 0
+IfReadFault (Input fault) P = Unit {0}
+IfReadFault (ReadFault name) P = P name.now
+IfReadFault OutOfMemory P = Unit {0}
+
+-- An input is refused only as this stage of the verdict refuses it.
+abbrev pub Explains : {A : Type 0} → Result A verdicts.Refusal → InputRefusal → Type 0
+Explains stage r = IfInput r (λ fault. stage ≡ Err (fault_view fault))
+
+-- Only a fault in reading changes the counts of the shelf, and it comes only where the one of reading rose.
+abbrev pub HasCause : Counts → Counts → InputRefusal → Type 0
+HasCause before now (Input fault) = now ≡ before
+HasCause before now (ReadFault name) = ReadFailed before now
+HasCause before now OutOfMemory = now ≡ before

@@ -1,0 +1,45 @@
+//! What a run of the switch begins with: the words and the files that they name, read whole.
+//!
+//! # What?
+//!
+//! The words of the command line name a file of edits and a trace for each port, or none. `read_inputs` reads the words,
+//! then the edits and then the traces, from a shelf of files, up to the first that is refused.
+//!
+//! # What is promised
+//!
+//! `spec_run` has the verdict on words and files: the run that they give, or their first refusal in the order of reading.
+//! Where the shelf tells its bytes, `read_inputs` answers just that.
+//!
+//! - What was read is what the verdict accepts: the command, the edits and the sync points, and a trace for each port. All
+//!   of it has the form that is built, and is within the limits.
+//! - An input is refused only as the verdict refuses it: the words or the edits as a form that isn't built, a trace by its
+//!   name and its first fault, or a quantity as above its limit.
+//! - A read fault is told only where calls of reading failed, and of the file that was last asked for. Before that file none
+//!   is refused.
+//! - Nothing else is refused, unless memory runs out. Whatever the answer is, nothing is written, and all but a read fault
+//!   leave the counts of the shelf as they stood.
+//!
+//! # How
+//!
+//! Each stage of the verdict has a function whose contract is that stage: `read_command`, `read_edits`, and `read_traces`,
+//! which goes from port to port and gives each trace the room that those before it left. The whole is the chain of their
+//! answers, as the verdict is the chain of the stages. They meet the shelf in `read_file` alone. The bytes of a trace are
+//! read into the memory where they stay.
+//!
+//! # What is left to others
+//!
+//! Numbers to `text_numbers`, scripts to `edit_script`, capture files to `pcap_io`, and all that touches the system to
+//! `edge_io`. Statuses and texts of refusals, and what becomes of the run, are for `switch_app`. No board is known here, so
+//! that reading and deciding are proved side by side.
+#![tactic(auto)]
+
+mod inputs;
+mod limits;
+mod reading;
+mod refusal;
+mod words;
+
+pub use inputs::{Inputs, read_inputs};
+pub use limits::{MOST_FRAMES, MOST_TRACE_BYTES};
+pub use refusal::{InputFault, InputRefusal};
+pub use words::{Command, PortWord};

@@ -1,0 +1,200 @@
+ghost use Rattle.std.specs.Prelude.{◌≡◌, ◌<◌, ◌≤◌, length, Ok, Err, All, Contains, IsTrue, IsSomeAnd, OnOk, IfOk, IfErr, Some};
+ghost use Rattle.std.specs.List.{list_all};
+ghost use Rattle.edge_io.specs.declared.outside.InUse.TheVariants.{Nothing};
+ghost use Rattle.edge_io.specs.ReadAll.{OnlyRead};
+ghost use Rattle.spec_tables.specs.declared.edit_word.EditWord.TheVariants.{Add};
+ghost use Rattle.spec_case.specs.Blocks.{AreInOrder};
+ghost use Rattle.spec_script.specs.Script.{most_edits, most_syncs};
+ghost use Rattle.spec_run.specs.Limits.{most_trace_bytes, most_frames};
+ghost use Rattle.spec_run.specs.Verdict.{refused_trace, script_in, file_in, trace_in, traces_in, trace_names, traces_opened};
+ghost use Rattle.spec_tables.specs.Outputs.{has_outputs_only};
+ghost use Rattle.edit_script.specs.Plain.{has_few_actions};
+ghost use Rattle.edit_script.specs.ScriptViews.{script_view};
+ghost use Rattle.switch_input.specs.WordViews.{port_view, ports_view};
+ghost use Rattle.switch_input.specs.InputViews.{trace_view};
+ghost use Rattle.switch_input.specs.Refused.{fault_view, IfInput, IfReadFault, Explains, HasCause};
+
+use crate::limits::{MOST_FRAMES, MOST_TRACE_BYTES};
+use crate::refusal::{InputFault, InputRefusal};
+use crate::words::PortWord;
+use edge_io::{ReadFault, Shelf, read_all};
+use edit_script::{MOST_BYTES, Script, ScriptFault, read_script};
+use pcap_io::{PcapFault, Trace, read_trace};
+use spec_run::Quantity;
+use std::alloc::Global;
+
+// Reads a file whole. One that has more bytes than `most` is refused for this fault.
+fn read_file<'a, S: Shelf>(
+    alloc: Global,
+    shelf: &mut S,
+    name: &'a str,
+    most: usize,
+    too_long: InputFault<'a>,
+) -> Result<Vec<u8>, InputRefusal<'a>>
+    requires { S.in_use shelf.old ≡ Nothing }
+    ensures in_use { OnOk result (S.in_use shelf.new ≡ Nothing) }
+    ensures few { IfOk result (λ v. length v.items ≤ most) }
+    ensures bytes { IsTrue S.tells → IfOk result (λ v. (S.told shelf.old).holds name.now ≡ Some v.items) }
+    ensures too_long { IfErr result (λ r. IfInput r (λ fault. fault ≡ too_long.entry)) }
+    ensures has_more { IsTrue S.tells → IfErr result (λ r. IfInput r
+        (λ _. IsSomeAnd ((S.told shelf.old).holds name.now) (λ b. most < length b))) }
+    ensures fault { IfErr result (λ r. IfReadFault r (λ n. n ≡ name.now)) }
+    ensures named { IsTrue S.tells → IfErr result (λ r. IfReadFault r (λ n. (S.told shelf.new).last ≡ n)) }
+    ensures told { IsTrue S.tells → OnlyRead (S.told shelf.old) (S.told shelf.new) }
+    ensures counts { OnOk result (S.counts shelf.new ≡ S.counts shelf.old) }
+    ensures cause { IfErr result (HasCause (S.counts shelf.old) (S.counts shelf.new)) }
+{
+    match read_all(alloc, shelf, name, most) {
+        Ok(bytes) => Ok(bytes),
+        Err(ReadFault::Fault) => Err(InputRefusal::ReadFault { name }),
+        Err(ReadFault::Over) => Err(InputRefusal::Input(too_long)),
+        Err(ReadFault::OutOfMemory) => Err(InputRefusal::OutOfMemory),
+    }
+}
+
+/// Reads the file of edits.
+pub fn read_edits<'a, S: Shelf>(
+    alloc: Global,
+    shelf: &mut S,
+    name: &'a str,
+) -> Result<Script, InputRefusal<'a>>
+    requires { S.in_use shelf.old ≡ Nothing }
+    ensures in_use { OnOk result (S.in_use shelf.new ≡ Nothing) }
+    ensures ok { IsTrue S.tells
+        → IfOk result (λ s. script_in (S.told shelf.old).holds name.now ≡ Ok (script_view s)) }
+    ensures adds { IfOk result (λ s. All (λ e. e.word ≡ Add) s.edits.items) }
+    ensures outputs_only { IfOk result (λ s. IsTrue (list_all has_outputs_only s.edits.items)) }
+    ensures few_actions { IfOk result (λ s. IsTrue (list_all has_few_actions s.edits.items)) }
+    ensures few_edits { IfOk result (λ s. length s.edits.items ≤ most_edits) }
+    ensures few_syncs { IfOk result (λ s. length s.syncs.items ≤ most_syncs) }
+    ensures in_order { IfOk result (λ s. AreInOrder s.syncs.items (length s.edits.items)) }
+    ensures err { IsTrue S.tells → IfErr result (Explains (script_in (S.told shelf.old).holds name.now)) }
+    ensures fault { IfErr result (λ r. IfReadFault r (λ n. n ≡ name.now)) }
+    ensures named { IsTrue S.tells → IfErr result (λ r. IfReadFault r (λ n. (S.told shelf.new).last ≡ n)) }
+    ensures told { IsTrue S.tells → OnlyRead (S.told shelf.old) (S.told shelf.new) }
+    ensures counts { OnOk result (S.counts shelf.new ≡ S.counts shelf.old) }
+    ensures cause { IfErr result (HasCause (S.counts shelf.old) (S.counts shelf.new)) }
+{
+    let not_built = InputFault::NotBuilt { what: name };
+    let bytes = read_file(alloc, shelf, name, MOST_BYTES, not_built)?;
+    match read_script(alloc, &bytes) {
+        Ok(script) => Ok(script),
+        Err(ScriptFault::NotBuilt) => Err(InputRefusal::Input(not_built)),
+        Err(ScriptFault::OutOfMemory) => Err(InputRefusal::OutOfMemory),
+    }
+}
+
+/// A trace, and how many bytes its file has.
+#[derive(Drop)]
+pub struct TraceFile {
+    pub size: usize,
+    pub trace: Trace,
+}
+
+// What becomes of a run whose trace of this name has this fault.
+fn refused(name: &str, fault: PcapFault) -> InputRefusal<'_>
+    ensures input { IfInput result (λ told. fault_view told ≡ refused_trace name.now fault) }
+    ensures no_fault { IfReadFault result (λ _. ⊥) }
+    ensures no_memory { fault ≡ PcapFault.OutOfMemory → result ≡ InputRefusal.OutOfMemory }
+{
+    match fault {
+        PcapFault::OutOfMemory => InputRefusal::OutOfMemory,
+        PcapFault::TooManyFrames => InputRefusal::Input(InputFault::Limit(Quantity::Frames)),
+        fault => InputRefusal::Input(InputFault::Trace { name, fault }),
+    }
+}
+
+// Reads a trace for which so much room is left.
+fn read_trace_file<'a, S: Shelf>(
+    alloc: Global,
+    shelf: &mut S,
+    name: &'a str,
+    bytes_left: usize,
+    frames_left: usize,
+) -> Result<TraceFile, InputRefusal<'a>>
+    requires { S.in_use shelf.old ≡ Nothing }
+    ensures in_use { OnOk result (S.in_use shelf.new ≡ Nothing) }
+    ensures ok { IsTrue S.tells → IfOk result (λ t.
+        file_in (S.told shelf.old).holds bytes_left frames_left name.now ≡ Ok (trace_view t)) }
+    ensures frames { IfOk result (λ t. length t.trace.frames ≤ frames_left) }
+    ensures size { IfOk result (λ t. t.size ≤ bytes_left) }
+    ensures err { IsTrue S.tells
+        → IfErr result (Explains (file_in (S.told shelf.old).holds bytes_left frames_left name.now)) }
+    ensures fault { IfErr result (λ r. IfReadFault r (λ n. n ≡ name.now)) }
+    ensures named { IsTrue S.tells → IfErr result (λ r. IfReadFault r (λ n. (S.told shelf.new).last ≡ n)) }
+    ensures told { IsTrue S.tells → OnlyRead (S.told shelf.old) (S.told shelf.new) }
+    ensures counts { OnOk result (S.counts shelf.new ≡ S.counts shelf.old) }
+    ensures cause { IfErr result (HasCause (S.counts shelf.old) (S.counts shelf.new)) }
+{
+    let too_long = InputFault::Limit(Quantity::TraceBytes);
+    let bytes = read_file(alloc, shelf, name, bytes_left, too_long)?;
+    let size = bytes.len();
+    match read_trace(alloc, bytes, frames_left) {
+        Ok(trace) => Ok(TraceFile { size, trace }),
+        Err(fault) => Err(refused(name, fault)),
+    }
+}
+
+// Reads the trace of a port, if it has one.
+fn read_port_trace<'a, S: Shelf>(
+    alloc: Global,
+    shelf: &mut S,
+    w: &PortWord<'a>,
+    bytes_left: usize,
+    frames_left: usize,
+) -> Result<TraceFile, InputRefusal<'a>>
+    requires { S.in_use shelf.old ≡ Nothing }
+    ensures in_use { OnOk result (S.in_use shelf.new ≡ Nothing) }
+    ensures ok { IsTrue S.tells → IfOk result (λ t.
+        trace_in (S.told shelf.old).holds bytes_left frames_left (port_view w.now) ≡ Ok (trace_view t)) }
+    ensures frames { IfOk result (λ t. length t.trace.frames ≤ frames_left) }
+    ensures size { IfOk result (λ t. t.size ≤ bytes_left) }
+    ensures err { IsTrue S.tells → IfErr result (Explains
+        (trace_in (S.told shelf.old).holds bytes_left frames_left (port_view w.now))) }
+    ensures fault { IfErr result (λ r. IfReadFault r (Contains (trace_names (port_view w.now)))) }
+    ensures named { IsTrue S.tells → IfErr result (λ r. IfReadFault r (λ n. (S.told shelf.new).last ≡ n)) }
+    ensures told { IsTrue S.tells → OnlyRead (S.told shelf.old) (S.told shelf.new) }
+    ensures counts { OnOk result (S.counts shelf.new ≡ S.counts shelf.old) }
+    ensures cause { IfErr result (HasCause (S.counts shelf.old) (S.counts shelf.new)) }
+{
+    if w.file.is_empty() {
+        return Ok(TraceFile {
+            size: 0,
+            trace: Trace::empty(alloc),
+        });
+    }
+    read_trace_file(alloc, shelf, w.file, bytes_left, frames_left)
+}
+
+/// Reads the traces of the ports, an empty one where a port has none. Each takes of the room that those before it left.
+pub fn read_traces<'a, S: Shelf>(
+    alloc: Global,
+    shelf: &mut S,
+    ports: &[PortWord<'a>],
+) -> Result<Vec<Trace>, InputRefusal<'a>>
+    requires { S.in_use shelf.old ≡ Nothing }
+    ensures in_use { OnOk result (S.in_use shelf.new ≡ Nothing) }
+    ensures one_each { IfOk result (λ traces. length traces.items ≡ length ports.now) }
+    ensures few_frames { IfOk result (λ traces. All (λ t. length t.frames ≤ most_frames) traces.items) }
+    ensures ok { IsTrue S.tells
+        → IfOk result (λ traces. traces_in (S.told shelf.old).holds (ports_view ports.now) ≡ Ok traces.items) }
+    ensures err { IsTrue S.tells
+        → IfErr result (Explains (traces_in (S.told shelf.old).holds (ports_view ports.now))) }
+    ensures opened { IsTrue S.tells → IfErr result (λ r. IfReadFault r (Contains
+        (traces_opened (S.told shelf.old).holds most_trace_bytes most_frames (ports_view ports.now)))) }
+    ensures named { IsTrue S.tells → IfErr result (λ r. IfReadFault r (λ n. (S.told shelf.new).last ≡ n)) }
+    ensures told { IsTrue S.tells → OnlyRead (S.told shelf.old) (S.told shelf.new) }
+    ensures counts { OnOk result (S.counts shelf.new ≡ S.counts shelf.old) }
+    ensures cause { IfErr result (HasCause (S.counts shelf.old) (S.counts shelf.new)) }
+{
+    let mut traces = Vec::new(alloc);
+    let mut bytes_left = MOST_TRACE_BYTES;
+    let mut frames_left = MOST_FRAMES;
+    'ports: for w in ports {
+        let read = read_port_trace(alloc, shelf, w, bytes_left, frames_left)?;
+        bytes_left -= read.size;
+        frames_left -= read.trace.len();
+        traces.push(read.trace)?;
+    }
+    Ok(traces)
+}
