@@ -1,0 +1,123 @@
+#!/usr/bin/env python3
+"""Makes each call of the system fail in turn, by strace's injection, and compares what the program does then.
+
+    failing_calls.py PROGRAM
+
+A run opens, reads and writes the files of a small switch. Each of its calls of openat, read and write is made to fail
+with each error of ERRORS, alone. The status, the text and the files have to be those that docs/FORMATS.md says: a call
+that a signal interrupted is made again, every other failure is a fault of the file in use, and a fault in printing
+leaves the status of a refusal.
+"""
+import os
+import re
+import shutil
+import subprocess
+import sys
+import tempfile
+
+ERRORS = ("EIO", "ENOSPC", "EACCES", "EINTR", "EAGAIN")
+CALLS = ("openat", "read", "write")
+HERE = os.path.dirname(os.path.realpath(__file__))
+WORDS = ["edits", "out", "1=small.pcap", "2=large.pcap"]
+READ = ["edits", "small.pcap", "large.pcap"]
+WRITTEN = ["out.p1.pcap", "out.p2.pcap", "out.journal"]
+STDOUT = 1
+
+
+class Call:
+    """A call of the system in a run: the how-manieth of its name it is, and the name of its file."""
+
+    def __init__(self, name, number, file):
+        self.name, self.number, self.file = name, number, file
+
+
+class Outcome:
+    def __init__(self, status, text, files):
+        self.status, self.text, self.files = status, text, files
+
+
+def make_inputs():
+    with open("edits", "w") as file:
+        file.write("in_port=1,actions=2\nin_port=2,actions=1\n")
+    for name, frames in (("small.pcap", 1), ("large.pcap", 2000)):
+        subprocess.run([sys.executable, f"{HERE}/make_trace.py", name, str(frames), "60"], check=True)
+
+
+def run(program, words, inputs, strace):
+    """What the program does on these words in a new folder with the inputs, under strace with these options."""
+    with tempfile.TemporaryDirectory() as room:
+        for name in READ:
+            shutil.copy(f"{inputs}/{name}", room)
+        log = f"{inputs}/log"
+        end = subprocess.run(["strace", "-o", log, *strace, program, *words], cwd=room, capture_output=True, timeout=60)
+        files = {}
+        for name in sorted(set(os.listdir(room)) - set(READ)):
+            with open(f"{room}/{name}", "rb") as file:
+                files[name] = file.read()
+        return Outcome(end.returncode, end.stdout, files)
+
+
+def calls_of(log):
+    """The calls of a run, from the first that opens one of its files, or prints, on."""
+    counts, names, calls = dict.fromkeys(CALLS, 0), {STDOUT: None}, []
+    with open(log) as lines:
+        for line in lines:
+            found = re.match(r"(\w+)\((.*)\) += (-?\d+)", line)
+            if not found or found[1] not in (*CALLS, "close"):
+                continue
+            name, words, result = found[1], found[2], int(found[3])
+            if name in counts:
+                counts[name] += 1
+            if name == "openat":
+                names[result] = words.split('"')[1]
+                if names[result] in READ + WRITTEN:
+                    calls.append(Call(name, counts[name], names[result]))
+                continue
+            descriptor = int(words.split(",")[0])
+            if name == "close":
+                names.pop(descriptor, None)
+            elif names.get(descriptor, "") in [None, *READ, *WRITTEN]:
+                calls.append(Call(name, counts[name], names[descriptor]))
+    return calls
+
+
+def is_as_expected(call, error, good, now):
+    """Whether a run has come to what it has to, where one call failed so in a run that is good otherwise."""
+    if error == "EINTR" or call.file is None:
+        return (now.status, now.files) == (good.status, good.files) and (now.text == good.text or error != "EINTR")
+    if call.file in READ:
+        return (now.status, now.text, now.files) == (5, f"read fault: {call.file}\n".encode(), {})
+    place = WRITTEN.index(call.file)
+    whole = all(now.files.get(name) == good.files[name] for name in WRITTEN[:place])
+    none = not set(now.files) & set(WRITTEN[place + 1:])
+    begun = good.files[call.file].startswith(now.files.get(call.file, b""))
+    return (now.status, now.text) == (6, f"write fault: {call.file}\n".encode()) and whole and none and begun
+
+
+def try_run(program, words, inputs):
+    """Makes each call of the run on these words fail in turn, and tells of those that end otherwise."""
+    good = run(program, words, inputs, ["-e", f"trace={','.join((*CALLS, 'close'))}"])
+    calls = calls_of(f"{inputs}/log")
+    wrong = 0
+    for call in calls:
+        for error in ERRORS:
+            now = run(program, words, inputs, ["-e", f"inject={call.name}:error={error}:when={call.number}"])
+            if not is_as_expected(call, error, good, now):
+                wrong += 1
+                where = call.file or "standard output"
+                print(f"{call.name} {call.number} of {where} with {error}: status {now.status}, {now.text!r}, {sorted(now.files)}")
+    return len(calls) * len(ERRORS), wrong
+
+
+def main():
+    program = os.path.realpath(sys.argv[1])
+    with tempfile.TemporaryDirectory() as inputs:
+        os.chdir(inputs)
+        make_inputs()
+        tried = [try_run(program, words, inputs) for words in (WORDS, ["edits"])]
+    print(f"{sum(count for count, _ in tried)} failures tried, {sum(wrong for _, wrong in tried)} end otherwise")
+    sys.exit(any(wrong for _, wrong in tried) or not all(count for count, _ in tried))
+
+
+if __name__ == "__main__":
+    main()
