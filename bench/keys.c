@@ -22,7 +22,7 @@ struct key {
     uint8_t nw_proto, nw_tos, nw_ttl, ip_frag;
 };
 
-enum { FIELDS = 17, WHOLE = 0, FIRST = 1, LATER = 3 };
+enum { FIELDS = 34, WHOLE = 0, FIRST = 1, LATER = 3 };
 
 static uint16_t be16(const uint8_t *b) { uint16_t n; memcpy(&n, b, 2); return __builtin_bswap16(n); }
 static uint32_t be32(const uint8_t *b) { uint32_t n; memcpy(&n, b, 4); return __builtin_bswap32(n); }
@@ -32,7 +32,7 @@ static u128 be128(const uint8_t *b) { return (u128)be64(b) << 64 | be64(b + 8); 
 
 static uint8_t part(unsigned offset, unsigned more) { return offset ? LATER : more ? FIRST : WHOLE; }
 
-/* What stands behind an IP header up to the end of its packet. */
+/* What stands after an IP header up to the end of its packet. */
 static void read_transport(struct key *key, const uint8_t *frame, size_t at, size_t end, unsigned icmp,
                            size_t icmp_size) {
     size_t size = end < at ? 0 : end - at;
@@ -142,26 +142,28 @@ static __attribute__((noinline)) void key_of(struct key *key, uint16_t port, con
         read_ipv6(key, frame, len, at);
 }
 
-/* A field of a key, by its place among those that frames give. */
-static u128 get(const struct key *key, unsigned field) {
-    switch (field) {
+/* A field of a key, by its place there. */
+static u128 get(const struct key *key, unsigned place) {
+    switch (place) {
     case 0: return key->in_port;
-    case 1: return key->dl_src;
-    case 2: return key->dl_dst;
-    case 3: return key->dl_type;
-    case 4: return key->vlan_tci;
-    case 5: return key->nw_src;
-    case 6: return key->nw_dst;
-    case 7: return key->ipv6_src;
-    case 8: return key->ipv6_dst;
-    case 9: return key->nw_proto;
-    case 10: return key->nw_tos;
-    case 11: return key->nw_ttl;
-    case 12: return key->ip_frag;
-    case 13: return key->arp_sha;
-    case 14: return key->arp_tha;
-    case 15: return key->tp_src;
-    default: return key->tp_dst;
+    case 1: return key->metadata;
+    case 18: return key->dl_src;
+    case 19: return key->dl_dst;
+    case 20: return key->dl_type;
+    case 21: return key->vlan_tci;
+    case 22: return key->nw_src;
+    case 23: return key->nw_dst;
+    case 24: return key->ipv6_src;
+    case 25: return key->ipv6_dst;
+    case 26: return key->nw_proto;
+    case 27: return key->nw_tos;
+    case 28: return key->nw_ttl;
+    case 29: return key->ip_frag;
+    case 30: return key->arp_sha;
+    case 31: return key->arp_tha;
+    case 32: return key->tp_src;
+    case 33: return key->tp_dst;
+    default: return key->registers[place - 2];
     }
 }
 

@@ -11,7 +11,7 @@ PORT = 7
 TAG_BIT = 0x1000
 NO_TYPE = 0x05FF
 
-# The protocols of tags, with the field that has the type behind.
+# The protocols of tags, with the field that has the type after.
 TAGS = {"vlan": "vlan.etype", "ieee8021ad": "ieee8021ah.etype"}
 
 # The extension headers of IPv6 by number, with the field that says what follows.

@@ -72,13 +72,13 @@ TO_BRIDGES = mac("01:80:c2:00:00:00") + SENDER
 TO_NEAREST_BRIDGE = mac("01:80:c2:00:00:0e") + SENDER
 
 TYPES = (
-    Frame("an_unknown_type", "A type for local experiments, with 46 bytes behind it.", under(EXPERIMENT, bytes(46))),
+    Frame("an_unknown_type", "A type for local experiments, with 46 bytes after it.", under(EXPERIMENT, bytes(46))),
     Frame("a_header_alone", "14 bytes are enough for addresses and type.", under(EXPERIMENT)),
     Frame("thirteen_bytes", "The last byte of the type is missing.", (ADDRESSES, b"\x88")),
     Frame("no_byte", "A frame of no bytes.", ()),
-    Frame("the_type_of_ipv4_alone", "IPv4, with nothing behind the type.", under(IPV4)),
-    Frame("the_type_of_ipv6_alone", "IPv6, with nothing behind the type.", under(IPV6)),
-    Frame("the_type_of_arp_alone", "ARP, with nothing behind the type.", under(ARP)),
+    Frame("the_type_of_ipv4_alone", "IPv4, with nothing after the type.", under(IPV4)),
+    Frame("the_type_of_ipv6_alone", "IPv6, with nothing after the type.", under(IPV6)),
+    Frame("the_type_of_arp_alone", "ARP, with nothing after the type.", under(ARP)),
     Frame("lldp", "LLDP, which is empty.", under(LLDP, bytes(46), addresses=TO_NEAREST_BRIDGE)),
     Frame("the_least_type", "0x0600 is a type.", under(0x0600, bytes(46))),
     Frame("the_greatest_number_that_is_no_type", "0x05ff is none.", under(0x05FF, LLC, bytes(43))),
@@ -86,20 +86,20 @@ TYPES = (
 )
 
 SNAP = (
-    Frame("snap", "The type stands behind SNAP.", under(46, snap(EXPERIMENT), bytes(38))),
-    Frame("snap_with_the_least_type", "0x0600 is a type behind SNAP too.", under(46, snap(0x0600), bytes(38))),
-    Frame("snap_with_a_number_that_is_no_type", "0x05fe behind SNAP is no type.", under(46, snap(0x05FE), bytes(38)),
+    Frame("snap", "The type stands after SNAP.", under(46, snap(EXPERIMENT), bytes(38))),
+    Frame("snap_with_the_least_type", "0x0600 is a type after SNAP too.", under(46, snap(0x0600), bytes(38))),
+    Frame("snap_with_a_number_that_is_no_type", "0x05fe after SNAP is no type.", under(46, snap(0x05FE), bytes(38)),
           Difference("it prints this number as the type.", key={"DlType": 0x05FF})),
-    Frame("snap_behind_the_greatest_number_that_is_no_type", "The type stands behind SNAP.",
+    Frame("snap_after_the_greatest_number_that_is_no_type", "The type stands after SNAP.",
           under(0x05FF, snap(EXPERIMENT), bytes(38)),
           Difference("it takes 0x05ff as no length either, and reads no further.", key={"DlType": EXPERIMENT})),
     Frame("snap_of_another_organization", "The number is one of the organization 00-00-0c.",
           under(46, snap(IPV4, 0x00000C), bytes(38))),
     Frame("snap_with_another_control_field", "LLC's control isn't unnumbered information.",
           under(46, b"\xaa\xaa\xf3" + snap(IPV4)[3:], bytes(38))),
-    Frame("snap_with_its_type_alone", "The frame ends behind the type.", under(8, snap(EXPERIMENT))),
+    Frame("snap_with_its_type_alone", "The frame ends after the type.", under(8, snap(EXPERIMENT))),
     Frame("snap_cut", "The last byte of the type is missing.", under(8, snap(EXPERIMENT)[:7])),
-    Frame("snap_behind_a_length_of_3", "The length has room for LLC alone.", under(3, snap(EXPERIMENT), bytes(38)),
+    Frame("snap_after_a_length_of_3", "The length has room for LLC alone.", under(3, snap(EXPERIMENT), bytes(38)),
           Difference("it reads no further than the length says; the rules don't ask how much that is.",
                      key={"DlType": EXPERIMENT})),
 )
@@ -125,10 +125,10 @@ TAGS = (
     Frame("a_service_tag_cut", "Of 18 bytes the last two are missing.", under(SERVICE_TAG, word(0xA064))),
     Frame("an_old_tag", "0x9100, in use for service tags before 802.1ad, is a type.",
           tagged(0xA064, EXPERIMENT, bytes(42), tag_type=OLD_TAG), no_tag("it reads a tag.", OLD_TAG)),
-    Frame("a_tag_and_snap", "A tag, a length, and the type behind SNAP.",
+    Frame("a_tag_and_snap", "A tag, a length, and the type after SNAP.",
           tagged(0xA064, 42, snap(EXPERIMENT), bytes(34))),
     Frame("a_tag_and_llc", "A tag, a length, and LLC.", tagged(0xA064, 42, LLC, bytes(39))),
-    Frame("a_tag_and_snap_cut", "The last byte of the type behind SNAP is missing.",
+    Frame("a_tag_and_snap_cut", "The last byte of the type after SNAP is missing.",
           tagged(0xA064, 8, snap(EXPERIMENT)[:7])),
 )
 
@@ -156,7 +156,7 @@ ARP_PACKETS = (
     Frame("protocol_addresses_of_16_bytes", "So they are, by what the packet says.",
           under(ARP, arp(1, protocol_size=16), bytes(18))),
     Frame("a_request_with_a_tag", "ARP in VLAN 100.", tagged(0x0064, ARP, arp(1), bytes(14), addresses=TO_ALL)),
-    Frame("a_request_behind_snap", "ARP in a frame with a length.",
+    Frame("a_request_after_snap", "ARP in a frame with a length.",
           under(36, snap(ARP), arp(1), bytes(10), addresses=TO_ALL)),
     Frame("a_reverse_request", "RARP is another type.", under(RARP, arp(3), bytes(18), addresses=TO_ALL),
           unread("it reads the packet as one of ARP.")),
@@ -213,7 +213,7 @@ IPV4_HEADERS = (
     Frame("options_cut", "The last byte of the options is missing.", in_ipv4(ipv4(TCP, 20, NO_OPERATION * 4)[:23])),
     Frame("a_header_length_of_16", "Less than the least header.", in_ipv4(ipv4(TCP, 20, words=4), tcp())),
     Frame("a_header_length_of_0", "A header of no length.", in_ipv4(ipv4(TCP, 20, words=0), tcp())),
-    Frame("a_header_alone_of_ipv4", "20 bytes of header, and nothing behind.", in_ipv4(ipv4(TCP, 0))),
+    Frame("a_header_alone_of_ipv4", "20 bytes of header, and nothing after.", in_ipv4(ipv4(TCP, 0))),
     Frame("a_header_of_19_bytes", "The last byte of the header is missing.", in_ipv4(ipv4(TCP, 20)[:19])),
     Frame("version_5", "Another version.", in_ipv4(ipv4(TCP, 20, version=5), tcp())),
     Frame("version_6_under_the_type_of_ipv4", "The type and the version disagree.",
@@ -248,11 +248,11 @@ IPV4_FRAGMENTS = (
 
 IPV4_BEHIND = (
     Frame("tcp_and_a_tag", "TCP in VLAN 100.", tagged(0x0064, IPV4, ipv4(TCP, 20), tcp())),
-    Frame("udp_and_two_tags", "Nothing is read behind the second tag.",
+    Frame("udp_and_two_tags", "Nothing is read after the second tag.",
           tagged(0x20C8, CUSTOMER_TAG, word(0x0065), word(IPV4), ipv4(UDP, 8), udp(), tag_type=SERVICE_TAG),
           unread("it reads both tags, and the packet.")),
-    Frame("udp_behind_snap", "UDP in a frame with a length.", under(36, snap(IPV4), ipv4(UDP, 8), udp())),
-    Frame("udp_behind_a_tag_and_snap", "UDP in a frame with a priority tag and a length.",
+    Frame("udp_after_snap", "UDP in a frame with a length.", under(36, snap(IPV4), ipv4(UDP, 8), udp())),
+    Frame("udp_after_a_tag_and_snap", "UDP in a frame with a priority tag and a length.",
           tagged(0x6000, 36, snap(IPV4), ipv4(UDP, 8), udp())),
 )
 
@@ -297,7 +297,7 @@ IPV6_PACKETS = (
           no_transport(CUT_PORTS)),
     Frame("a_payload_length_of_100", "It says 100 bytes, where 20 are.", with_payload(100, TCP, tcp())),
     Frame("udp_over_ipv6_and_a_tag", "UDP in VLAN 100.", tagged(0x0064, IPV6, ipv6(UDP, 8), udp())),
-    Frame("tcp_over_ipv6_behind_snap", "TCP in a frame with a length.", under(68, snap(IPV6), ipv6(TCP, 20), tcp())),
+    Frame("tcp_over_ipv6_after_snap", "TCP in a frame with a length.", under(68, snap(IPV6), ipv6(TCP, 20), tcp())),
 )
 
 # ---- extension headers
@@ -327,12 +327,12 @@ EXTENSIONS = (
           in_ipv6(DESTINATION_OPTIONS, *[options(DESTINATION_OPTIONS)] * 7, options(UDP), udp())),
     Frame("nine_extension_headers", "One more than are passed.",
           in_ipv6(DESTINATION_OPTIONS, *[options(DESTINATION_OPTIONS)] * 8, options(UDP), udp()), unread(PASSES_NINTH)),
-    Frame("no_next_header_behind_options", "Nothing follows the options.",
+    Frame("no_next_header_after_options", "Nothing follows the options.",
           in_ipv6(DESTINATION_OPTIONS, options(NO_NEXT))),
-    Frame("esp_behind_routing", "What is encrypted isn't read.", in_ipv6(ROUTING, routing(ESP), ESP_HEADER, bytes(24))),
-    Frame("tcp_of_19_bytes_behind_options", "The last byte is missing.",
+    Frame("esp_after_routing", "What is encrypted isn't read.", in_ipv6(ROUTING, routing(ESP), ESP_HEADER, bytes(24))),
+    Frame("tcp_of_19_bytes_after_options", "The last byte is missing.",
           in_ipv6(DESTINATION_OPTIONS, options(TCP), tcp()[:19]), no_transport(CUT_PORTS)),
-    Frame("options_and_a_tag", "TCP behind options in VLAN 100.",
+    Frame("options_and_a_tag", "TCP after options in VLAN 100.",
           tagged(0x0064, IPV6, ipv6(HOP_BY_HOP, 28), options(TCP), tcp())),
 )
 
@@ -352,16 +352,16 @@ IPV6_FRAGMENTS = (
           in_ipv6(FRAGMENT, fragment(FRAGMENT), fragment(TCP, more=1), tcp()), not_shown(SHOWS_PORTS)),
     Frame("a_first_fragment_and_a_later_one", "What the second fragment header says counts.",
           in_ipv6(FRAGMENT, fragment(FRAGMENT, more=1), fragment(TCP, 1), tcp()), later_fragment(PRINTS_FOLLOWING)),
-    Frame("routing_behind_a_first_fragment", "The routing header is passed.",
+    Frame("routing_after_a_first_fragment", "The routing header is passed.",
           in_ipv6(FRAGMENT, fragment(ROUTING, more=1), routing(UDP), udp()), not_shown(SHOWS_PORTS)),
-    Frame("routing_behind_a_later_fragment", "Nothing is read behind the fragment header.",
+    Frame("routing_after_a_later_fragment", "Nothing is read after the fragment header.",
           in_ipv6(FRAGMENT, fragment(ROUTING, 1), routing(UDP), udp()), later_fragment(PRINTS_FOLLOWING)),
-    Frame("a_later_fragment_behind_routing", "The routing header is passed.",
+    Frame("a_later_fragment_after_routing", "The routing header is passed.",
           in_ipv6(ROUTING, routing(FRAGMENT), fragment(UDP, 1), udp()), later_fragment(PRINTS_FOLLOWING)),
-    Frame("a_later_fragment_behind_seven_headers", "An eighth header is passed.",
+    Frame("a_later_fragment_after_seven_headers", "An eighth header is passed.",
           in_ipv6(DESTINATION_OPTIONS, *[options(DESTINATION_OPTIONS)] * 6, options(FRAGMENT), fragment(UDP, 1), udp()),
           later_fragment(PRINTS_FOLLOWING)),
-    Frame("a_later_fragment_behind_eight_headers", "A ninth header isn't passed.",
+    Frame("a_later_fragment_after_eight_headers", "A ninth header isn't passed.",
           in_ipv6(DESTINATION_OPTIONS, *[options(DESTINATION_OPTIONS)] * 7, options(FRAGMENT), fragment(UDP, 1), udp()),
           unread(PASSES_NINTH)),
 )

@@ -87,12 +87,12 @@ def arp(operation, hardware=1, protocol=IPV4, hardware_size=6, protocol_size=4, 
 # ---- IPv4
 
 
-def ipv4(protocol, behind, options=b"", version=4, words=None, total=None, flags=0, offset=0, tos=0, ttl=64):
+def ipv4(protocol, after, options=b"", version=4, words=None, total=None, flags=0, offset=0, tos=0, ttl=64):
     """A header in front of so many bytes; flags are of 3 bits, and the offset is in units of 8 bytes (RFC 791, 3.1)."""
     if words is None:
         words = 5 + len(options) // 4
     if total is None:
-        total = 20 + len(options) + behind
+        total = 20 + len(options) + after
     first = bytes([version << 4 | words, tos]) + word(total) + word(0x1C46) + word(flags << 13 | offset)
     first += bytes([ttl, protocol])
     last = IPV4_ADDRESSES + options

@@ -95,9 +95,9 @@ def unnamed(data):
 def lists(data):
     """The lists that make up these bytes."""
     for known, name in NAMED.items():
-        before, found, behind = data.partition(known)
+        before, found, after = data.partition(known)
         if found:
-            return [*lists(before), name, *lists(behind)]
+            return [*lists(before), name, *lists(after)]
     return list(unnamed(data))
 
 

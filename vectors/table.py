@@ -62,7 +62,7 @@ def fields_in(capture):
 
 
 def positions_in(capture):
-    """For each frame the first position of each protocol that it has, under the protocol's name behind an @."""
+    """For each frame the first position of each protocol that it has, under the protocol's name after an @."""
     for packet in xml.etree.ElementTree.fromstring(tshark(*OPTIONS, "-r", capture, "-T", "pdml")).iter("packet"):
         positions = {}
         for proto in packet.iter("proto"):
