@@ -4,5 +4,4 @@ pub mod Pieces
 pub mod Files
 pub mod Refusals
 pub mod Whole
-pub mod Places
 pub mod Rows

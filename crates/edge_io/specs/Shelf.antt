@@ -1,5 +1,5 @@
 -- What the calls of a shelf do to what it tells.
-use Rattle.std.specs.Prelude.{◌≡◌, ℕ, ◌<◌, List, [], ◌∷◌, ◌++◌, length, take, drop, Option, Some, Result, OnOk, OnErr, IfOk, IsErrOf}
+use Rattle.std.specs.Prelude.{◌≡◌, ℕ, ◌<◌, List, [], ◌∷◌, ◌++◌, length, take, drop, Option, Some, None, Result, OnOk, OnErr, IfOk, IsErrOf}
 use Rattle.spec_base.specs.Files.{File}
 use Rattle.edge_io.specs.declared.outside.Failed.{Failed}
 use Rattle.edge_io.specs.declared.outside.Failed.TheVariants.{Fault, OutOfMemory}
@@ -17,6 +17,10 @@ pub record Told : Type 0 where
 -- a shelf of these contents, with which nothing was done
 abbrev pub untouched : (List ℕ → Option (List ℕ)) → Told
 untouched holds = record { holds = holds; left = []; done = []; current = []; last = [] }
+
+-- what stands for a shelf that tells nothing
+abbrev pub untold : Told
+untold = untouched (λ _. None)
 
 -- Opening finds the contents of the name. A fault keeps the name alone, and out of memory nothing changes.
 pub record Opens {T : Type 0} (before after : Told) (name : List ℕ) (result : Result T Failed) : Type 0 where

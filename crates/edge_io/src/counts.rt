@@ -5,7 +5,7 @@ use crate::Failed;
 use std::marker::Model;
 
 /// Counts a failed call, up to the greatest number of 64 bits.
-pub(crate) fn counted_fault(count: &mut u64) -> Failed
+pub fn counted_fault(count: &mut u64) -> Failed
     ensures fault { result ≡ Failed.Fault }
     ensures counted { count.new ≡ with_fault count.old }
 {
@@ -13,9 +13,9 @@ pub(crate) fn counted_fault(count: &mut u64) -> Failed
     Failed::Fault
 }
 
-/// How often the calls of a shelf have failed.
+/// How often the calls of a shelf have failed: what whoever has a shelf of its own keeps, to count as the trait asks.
 #[derive(Drop)]
-pub(crate) struct FaultCounts {
+pub struct FaultCounts {
     reading: u64,
     writing: u64,
 }
@@ -29,7 +29,8 @@ impl Model for FaultCounts {
 }
 
 impl FaultCounts {
-    pub(crate) fn new() -> FaultCounts
+    /// The counts before any call.
+    pub fn new() -> FaultCounts
         ensures { result ≡ no_faults }
     {
         FaultCounts {
@@ -39,7 +40,7 @@ impl FaultCounts {
     }
 
     /// Counts a failed call of reading.
-    pub(crate) fn read_fault(&mut self) -> Failed
+    pub fn read_fault(&mut self) -> Failed
         ensures fault { result ≡ Failed.Fault }
         ensures counted { self.new ≡ with_read_fault self.old }
     {
@@ -47,7 +48,7 @@ impl FaultCounts {
     }
 
     /// Counts a failed call of writing.
-    pub(crate) fn write_fault(&mut self) -> Failed
+    pub fn write_fault(&mut self) -> Failed
         ensures fault { result ≡ Failed.Fault }
         ensures counted { self.new ≡ with_write_fault self.old }
     {

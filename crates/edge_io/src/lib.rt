@@ -37,38 +37,23 @@
 //!
 //! - `read_all` reads a whole file up to a number of bytes, in large pieces into one buffer; `write_all` and
 //!   `say_all` repeat a write until all is taken. The traits' calls take as many bytes as suits them.
-//! - `RealShelf` and `StdoutSink` are the system's files and standard output. They tell nothing, so they are
-//!   proved only to keep their counts and the file in use; what they do is tried by tests. Small writes are
-//!   gathered in a buffer of std's, which goes out when it is full or the file is closed. A call that a signal
-//!   interrupts is made again. What the system finds out as it closes a file, or later, isn't seen.
-//! - `MemoryShelf` and `MemorySink` are for tests. They tell everything, and by their own clauses they fail
-//!   exactly at the calls whose numbers they are given, so a test can try each call of a run in turn.
-//! - `SteadyShelf` and `SteadySink` never fail: their counts are 0 for good. Over them a run can be proved to
-//!   give its one right answer, if there is memory.
+//! - `FaultCounts` and `counted_fault` are for whoever has a shelf or a sink: they count as the traits ask.
 //! - A `Gate` is told of points at which threads meet, and may hold them, so that a test picks the order.
 //!   It promises nothing. `OpenGate` returns at once.
 //!
-//! Left to others: which files are read and written, in which order, what their bytes mean, and which text
+//! Left to others: the system's files and standard output (`edge_real`), files and text in memory for tests
+//! (`edge_memory`), which files are read and written, in which order, what their bytes mean, and which text
 //! a refusal becomes.
 #![tactic(auto)]
 
-mod calls;
 mod counts;
-mod folder;
-mod memory;
-mod memory_sink;
 mod outside;
 mod reading;
-mod real;
-mod steady;
 mod writing;
 
-pub use memory::MemoryShelf;
-pub use memory_sink::MemorySink;
-pub use outside::{Failed, Gate, InUse, Point, Shelf, Sink};
+pub use counts::{FaultCounts, counted_fault};
+pub use outside::{Failed, Gate, InUse, OpenGate, Point, Shelf, Sink};
 pub use reading::{ReadFault, read_all};
-pub use real::{OpenGate, RealShelf, StdoutSink};
-pub use steady::{SteadyShelf, SteadySink};
 pub use writing::{say_all, write_all};
 
 #[cfg(test)]

@@ -10,7 +10,8 @@
 ghost use Rattle.std.specs.Prelude.{◌^◌, ◌≤◌, length, IfOk};
 
 use anyhow::{Result, anyhow, bail};
-use edge_io::{RealShelf, read_all};
+use edge_io::read_all;
+use edge_real::RealShelf;
 use frame_keys::key_of;
 use ovs_fields::{FieldId, Key, all_fields};
 use pcap_io::{Trace, read_trace};

@@ -1,7 +1,7 @@
 ghost use Rattle.std.specs.Prelude.{◌≡◌, false};
 ghost use Rattle.edge_io.specs.declared.outside.InUse.TheVariants.{Nothing};
 ghost use Rattle.edge_io.specs.Counts.{no_faults};
-ghost use Rattle.edge_io.specs.Real.{untold};
+ghost use Rattle.edge_io.specs.Shelf.{untold};
 
 use edge_io::{Failed, InUse, Shelf};
 

@@ -3,7 +3,8 @@ ghost use Rattle.edge_io.specs.declared.outside.InUse.TheVariants.{Nothing};
 
 use crate::cases::{Bytes, File, HEADER, RUNS, Run};
 use crate::made::{MadeFile, MadeShelf, Piece};
-use edge_io::{MemoryShelf, MemorySink, OpenGate, Shelf};
+use edge_io::{OpenGate, Shelf};
+use edge_memory::{MemoryShelf, MemorySink};
 use std::alloc::{AllocError, Global};
 use std::sync::Wait;
 use std::test::Fail;

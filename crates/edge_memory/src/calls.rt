@@ -1,5 +1,5 @@
 ghost use Rattle.std.specs.Prelude.{◌≡◌, ◌↔◌, IsTrue};
-ghost use Rattle.edge_io.specs.Calls.{with_call, IsDue};
+ghost use Rattle.edge_memory.specs.Calls.{with_call, IsDue};
 
 use std::marker::Model;
 
@@ -11,7 +11,7 @@ pub(crate) struct NumberedCalls {
 }
 
 impl Model for NumberedCalls {
-    ghost use Rattle.edge_io.specs.Calls.{Calls};
+    ghost use Rattle.edge_memory.specs.Calls.{Calls};
 
     ghost Value = { Calls };
 

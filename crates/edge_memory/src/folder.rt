@@ -1,8 +1,8 @@
 ghost use Rattle.std.specs.Prelude.{◌≡◌, ◌≢◌, ℕ, List, [], ◌∷◌, ◌++◌, length, min, take, drop, ◌↔◌, Some, None, IsSome, IfSome, IfNone, OnOk, OnErr};
 ghost use Rattle.edge_io.specs.declared.outside.InUse.TheVariants.{Nothing, Opened, Created};
-ghost use Rattle.edge_io.specs.Stored.{Stored, pairs, lookup, lookup_or_empty, contents_of};
+ghost use Rattle.edge_memory.specs.Stored.{Stored, pairs, lookup, lookup_or_empty, contents_of};
 
-use crate::InUse;
+use edge_io::InUse;
 use std::alloc::{AllocError, Global};
 use std::marker::Model;
 use std::mem;
@@ -28,8 +28,8 @@ pub(crate) struct Folder {
 
 impl Model for Folder {
     ghost use Rattle.std.specs.Prelude.{string_bytes};
-    ghost use Rattle.edge_io.specs.Stored.{Stored, pairs};
-    ghost use Rattle.edge_io.specs.Slots.{use_of, left_of, current_of, IsSound};
+    ghost use Rattle.edge_memory.specs.Stored.{Stored, pairs};
+    ghost use Rattle.edge_memory.specs.Slots.{use_of, left_of, current_of, IsSound};
 
     ghost Value = { Stored };
 

@@ -2,10 +2,10 @@ ghost use Rattle.std.specs.Prelude.{◌≡◌, ℕ, [], true, Some};
 ghost use Rattle.edge_io.specs.declared.outside.InUse.TheVariants.{Nothing};
 ghost use Rattle.edge_io.specs.Counts.{no_faults};
 ghost use Rattle.edge_io.specs.Shelf.{untouched};
-ghost use Rattle.edge_io.specs.Stored.{pairs, lookup_or_empty, told_of};
+ghost use Rattle.edge_memory.specs.Stored.{pairs, lookup_or_empty, told_of};
 
 use crate::folder::Folder;
-use crate::{Failed, Shelf, Sink};
+use edge_io::{Failed, Shelf, Sink};
 use std::alloc::Global;
 
 /// Files in memory, of which every name that it wasn't given is an empty one. It tells its bytes.

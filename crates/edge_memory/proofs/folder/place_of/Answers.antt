@@ -1,6 +1,6 @@
 use Rattle.std.proofs.Common.{rules}
-use Rattle.edge_io.proofs.Places.{found_at}
-use Rattle.edge_io.proofs.folder.place_of.Goals as goal
+use Rattle.edge_memory.proofs.Places.{found_at}
+use Rattle.edge_memory.proofs.folder.place_of.Goals as goal
 
 pub returns-then-eq-clause-found : goal.returns-then-eq-clause-found
 returns-then-eq-clause-found c =

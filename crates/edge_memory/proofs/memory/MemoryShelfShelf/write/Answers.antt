@@ -1,6 +1,6 @@
 use Rattle.std.proofs.Common.{rules}
 use Rattle.std.proofs.lemmas.Result.{err_from_is_err_and}
-use Rattle.edge_io.proofs.memory.MemoryShelfShelf.write.Goals as goal
+use Rattle.edge_memory.proofs.memory.MemoryShelfShelf.write.Goals as goal
 
 pub returns-in_err-write-clause-told : goal.returns-in_err-write-clause-told
 returns-in_err-write-clause-told c =

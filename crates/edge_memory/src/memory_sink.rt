@@ -1,11 +1,10 @@
 ghost use Rattle.std.specs.Prelude.{◌≡◌, ◌<◌, ◌≤◌, [], true, length, IfOk};
-ghost use Rattle.edge_io.specs.Calls.{with_call, IsDue, FailsWhere};
+ghost use Rattle.edge_memory.specs.Calls.{with_call, IsDue, FailsWhere};
 ghost use Rattle.edge_io.specs.Counts.{HasCause, with_fault};
 ghost use Rattle.edge_io.specs.Sink.{Says};
 
 use crate::calls::NumberedCalls;
-use crate::counts::counted_fault;
-use crate::{Failed, Sink};
+use edge_io::{Failed, Sink, counted_fault};
 use std::alloc::Global;
 
 /// Text in memory. It tells its bytes, and fails at the calls whose numbers it was given and at no other.
@@ -17,7 +16,7 @@ pub struct MemorySink {
 }
 
 impl MemorySink {
-    ghost use Rattle.edge_io.specs.Memory.{sink_written, sink_faults, sink_calls};
+    ghost use Rattle.edge_memory.specs.Memory.{sink_written, sink_faults, sink_calls};
 
     /// An empty sink. The calls of `fails` are numbered from 1.
     pub fn new(alloc: Global, fails: Vec<u64>) -> MemorySink
@@ -48,7 +47,7 @@ impl MemorySink {
 }
 
 impl Sink for MemorySink {
-    ghost use Rattle.edge_io.specs.Memory.{sink_written, sink_faults, sink_calls};
+    ghost use Rattle.edge_memory.specs.Memory.{sink_written, sink_faults, sink_calls};
 
     ghost tells = { true };
 

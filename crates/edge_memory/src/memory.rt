@@ -1,14 +1,13 @@
 ghost use Rattle.std.specs.Prelude.{◌≡◌, ◌≢◌, ◌<◌, ◌≤◌, ◌⊎◌, ◌↔◌, true, length, None, IsSome, IfSome, OnOk, OnErr, IfOk};
 ghost use Rattle.edge_io.specs.declared.outside.InUse.TheVariants.{Nothing, Opened, Created};
-ghost use Rattle.edge_io.specs.Calls.{with_call, IsDue, FailsWhere};
+ghost use Rattle.edge_memory.specs.Calls.{with_call, IsDue, FailsWhere};
 ghost use Rattle.edge_io.specs.Counts.{no_faults, with_read_fault, with_write_fault, HasCause};
 ghost use Rattle.edge_io.specs.Shelf.{untouched, Opens, Reads, Creates, Writes, released, closed};
-ghost use Rattle.edge_io.specs.Stored.{pairs, lookup};
+ghost use Rattle.edge_memory.specs.Stored.{pairs, lookup};
 
 use crate::calls::NumberedCalls;
-use crate::counts::FaultCounts;
 use crate::folder::Folder;
-use crate::{Failed, InUse, Shelf};
+use edge_io::{Failed, FaultCounts, InUse, Shelf};
 use std::alloc::Global;
 
 /// Files in memory. It tells its bytes, and fails at the calls whose numbers it was given.
@@ -22,7 +21,7 @@ pub struct MemoryShelf {
 }
 
 impl MemoryShelf {
-    ghost use Rattle.edge_io.specs.Memory.{shelf_told, shelf_in_use, shelf_counts, shelf_calls};
+    ghost use Rattle.edge_memory.specs.Memory.{shelf_told, shelf_in_use, shelf_counts, shelf_calls};
 
     /// A shelf that holds these files, of a name the first. The calls of `fails` are numbered from 1
     /// over all five functions.
@@ -65,7 +64,7 @@ impl MemoryShelf {
 
 // Each function says first which of its calls fail, and then what every shelf promises.
 impl Shelf for MemoryShelf {
-    ghost use Rattle.edge_io.specs.Memory.{shelf_told, shelf_in_use, shelf_counts, shelf_calls};
+    ghost use Rattle.edge_memory.specs.Memory.{shelf_told, shelf_in_use, shelf_counts, shelf_calls};
 
     ghost tells = { true };
 

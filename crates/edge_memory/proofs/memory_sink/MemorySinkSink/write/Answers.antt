@@ -1,6 +1,6 @@
 use Rattle.std.proofs.Common.{rules}
 use Rattle.std.proofs.lemmas.Result.{err_from_is_err_and}
-use Rattle.edge_io.proofs.memory_sink.MemorySinkSink.write.Goals as goal
+use Rattle.edge_memory.proofs.memory_sink.MemorySinkSink.write.Goals as goal
 
 pub returns-in_err-extend_from_slice-clause-told : goal.returns-in_err-extend_from_slice-clause-told
 returns-in_err-extend_from_slice-clause-told c =

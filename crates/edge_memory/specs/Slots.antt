@@ -4,9 +4,9 @@ use Rattle.std.specs.declared.alloc.Global.{Global}
 use Rattle.spec_base.specs.Files.{File}
 use Rattle.edge_io.specs.declared.outside.InUse.{InUse}
 use Rattle.edge_io.specs.declared.outside.InUse.TheVariants as in_use
-use Rattle.edge_io.specs.declared.folder.Slot.{Slot}
-use Rattle.edge_io.specs.declared.folder.Slot.TheVariants.{Empty, Opened, Created}
-use Rattle.edge_io.specs.Stored.{contents_of}
+use Rattle.edge_memory.specs.declared.folder.Slot.{Slot}
+use Rattle.edge_memory.specs.declared.folder.Slot.TheVariants.{Empty, Opened, Created}
+use Rattle.edge_memory.specs.Stored.{contents_of}
 
 abbrev pub use_of : Slot → InUse
 use_of Empty = in_use.Nothing

@@ -1,6 +1,6 @@
 use Rattle.std.proofs.Common.{◌≡◌, drop}
-use Rattle.edge_io.specs.Stored.{pairs, lookup}
-use Rattle.edge_io.proofs.folder.place_of.Given as goal
+use Rattle.edge_memory.specs.Stored.{pairs, lookup}
+use Rattle.edge_memory.proofs.folder.place_of.Given as goal
 
 abbrev pub invariant-files : goal.invariant-files
 invariant-files l = lookup (pairs (drop l.place l.files)) l.name ≡ lookup (pairs l.files) l.name

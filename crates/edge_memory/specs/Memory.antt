@@ -1,12 +1,12 @@
 -- What is seen of files and text in memory.
 use Rattle.std.specs.Prelude.{ℕ, List}
 use Rattle.edge_io.specs.declared.outside.InUse.{InUse}
-use Rattle.edge_io.specs.declared.memory.MemoryShelf.{MemoryShelf}
-use Rattle.edge_io.specs.declared.memory_sink.MemorySink.{MemorySink}
-use Rattle.edge_io.specs.Calls.{Calls}
+use Rattle.edge_memory.specs.declared.memory.MemoryShelf.{MemoryShelf}
+use Rattle.edge_memory.specs.declared.memory_sink.MemorySink.{MemorySink}
+use Rattle.edge_memory.specs.Calls.{Calls}
 use Rattle.edge_io.specs.Counts.{Counts}
 use Rattle.edge_io.specs.Shelf.{Told}
-use Rattle.edge_io.specs.Stored.{lookup, told_of}
+use Rattle.edge_memory.specs.Stored.{lookup, told_of}
 
 abbrev pub shelf_told : MemoryShelf → Told
 shelf_told s = told_of (lookup s.folder.held) s.folder

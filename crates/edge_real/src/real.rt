@@ -1,10 +1,10 @@
 ghost use Rattle.std.specs.Prelude.{◌≡◌, ◌<◌, ◌≤◌, false, [], length, IfOk};
-ghost use Rattle.edge_io.specs.Counts.{no_faults};
-ghost use Rattle.edge_io.specs.Real.{use_of, untold};
 ghost use Rattle.edge_io.specs.declared.outside.InUse.TheVariants.{Nothing};
+ghost use Rattle.edge_io.specs.Counts.{no_faults};
+ghost use Rattle.edge_io.specs.Shelf.{untold};
+ghost use Rattle.edge_real.specs.Real.{use_of};
 
-use crate::counts::{FaultCounts, counted_fault};
-use crate::{Failed, Gate, Point, Shelf, Sink};
+use edge_io::{Failed, FaultCounts, Shelf, Sink, counted_fault};
 use std::io::{self, BufWriter, ErrorKind, Read, Write};
 use std::rt::Files;
 use std::{fs, mem};
@@ -178,14 +178,6 @@ impl<R: Print> Sink for StdoutSink<'_, R> {
         }
         Err(counted_fault(&mut self.faults))
     }
-}
-
-/// A gate that returns at once.
-#[derive(Clone, Copy, Debug)]
-pub struct OpenGate;
-
-impl Gate for OpenGate {
-    fn pass(&self, _point: Point) {}
 }
 
 #[cfg(test)]

@@ -1,0 +1,4 @@
+pub mod Stored
+pub mod Slots
+pub mod Calls
+pub mod Memory
