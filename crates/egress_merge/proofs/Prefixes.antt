@@ -11,7 +11,7 @@ use Rattle.edge_io.specs.Shelf.{Told, wrote}
 use Rattle.edge_io.specs.Written.{written, WrotePrefix}
 use Rattle.edge_io.proofs.Pieces.{prefix_of_first, prefix_within}
 use Rattle.edge_io.proofs.Files.{refused_prefix, created_prefix}
-use Rattle.pcap_io.specs.Writing.{IsNotStarted}
+use Rattle.pcap_writer.specs.Writing.{IsNotStarted}
 
 -- copies of which one was cut short
 pub copy_cut : {X : Type 0} (bytes : X → List ℕ) (t u v : Told) (x : X) (i n : ℕ) → i < n → u ≡ wrote t (flat_map bytes (replicate i x))

@@ -16,7 +16,7 @@ ghost use Rattle.edge_io.specs.Written.{written, WrotePrefix};
 ghost use Rattle.spec_base.specs.Files.{IsPrefixOf};
 
 use edge_io::{Failed, Shelf};
-use pcap_io::PcapWriter;
+use pcap_writer::PcapWriter;
 use pmd_board::Board;
 use run_case::{Case, RunData};
 use spec_actions::DpAction;

@@ -14,7 +14,7 @@ use edge_io::read_all;
 use edge_real::RealShelf;
 use frame_keys::key_of;
 use ovs_fields::{FieldId, Key, all_fields};
-use pcap_io::{Trace, read_trace};
+use pcap_reader::{Trace, read_trace};
 use std::alloc::Global;
 use std::env;
 

@@ -3,7 +3,7 @@ ghost use Rattle.std.specs.Prelude.{◌≡◌, ◌+◌, ◌≤◌, ◌^◌, ◌<
 ghost use Rattle.spec_case.specs.Blocks.{frames_before};
 ghost use Rattle.run_case.specs.Places.{IsCounted, AreCounted, ends_of};
 
-use pcap_io::Trace;
+use pcap_reader::Trace;
 use spec_tables::SyncPoint;
 use std::alloc::{AllocError, Global};
 use std::marker::Model;

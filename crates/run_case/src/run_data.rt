@@ -9,7 +9,7 @@ use crate::case::Case;
 use crate::keyed::Keyed;
 use crate::ports::Ports;
 use frame_keys::key_of;
-use pcap_io::Trace;
+use pcap_reader::Trace;
 use rule_tables::Edit;
 use spec_tables::SyncPoint;
 use std::alloc::{AllocError, Global};

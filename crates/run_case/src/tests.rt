@@ -5,7 +5,7 @@ ghost use Rattle.run_case.specs.Places.{HasPort, HasPlace, IsCounted, AreCounted
 
 use crate::{Case, Ports, RunData};
 use ovs_fields::FieldId;
-use pcap_io::{Trace, read_trace};
+use pcap_reader::{Trace, read_trace};
 use spec_tables::SyncPoint;
 use std::alloc::{AllocError, Global};
 use std::marker::Brand;

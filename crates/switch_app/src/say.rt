@@ -9,7 +9,7 @@ ghost use Rattle.switch_app.specs.Refused.{input_text, write_text, text_of};
 use crate::refusal::{Refusal, WriteRefusal};
 use edge_io::{Sink, say_all};
 use itoa::Buffer;
-use pcap_io::PcapFault;
+use pcap_reader::PcapFault;
 use spec_run::Quantity;
 use switch_input::{InputFault, InputRefusal, MOST_FRAMES, MOST_TRACE_BYTES};
 

@@ -11,7 +11,7 @@ use crate::refusal::InputRefusal;
 use crate::words::{Command, read_command};
 use edge_io::Shelf;
 use edit_script::Script;
-use pcap_io::Trace;
+use pcap_reader::Trace;
 use std::alloc::Global;
 
 /// What the words and the files say: one trace for each port of the words, in their order.

@@ -28,7 +28,7 @@
 //!
 //! # What is left to others
 //!
-//! Numbers to `text_numbers`, scripts to `edit_script`, capture files to `pcap_io`, and all that touches the system to
+//! Numbers to `text_numbers`, scripts to `edit_script`, capture files to `pcap_reader`, and all that touches the system to
 //! `edge_io`. Statuses and texts of refusals, and what becomes of the run, are for `switch_app`. No board is known here, so
 //! that reading and deciding are proved side by side.
 #![tactic(auto)]

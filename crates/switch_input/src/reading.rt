@@ -19,7 +19,7 @@ use crate::refusal::{InputFault, InputRefusal};
 use crate::words::PortWord;
 use edge_io::{ReadFault, Shelf, read_all};
 use edit_script::{MOST_BYTES, Script, ScriptFault, read_script};
-use pcap_io::{PcapFault, Trace, read_trace};
+use pcap_reader::{PcapFault, Trace, read_trace};
 use spec_run::Quantity;
 use std::alloc::Global;
 

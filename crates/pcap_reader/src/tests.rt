@@ -1,0 +1,133 @@
+use super::*;
+use std::alloc::{AllocError, Global};
+use std::test::Fail;
+
+const HEADER: [u8; 24] = [
+    0xd4, 0xc3, 0xb2, 0xa1, 2, 0, 4, 0, 0, 0, 0, 0, 0, 0, 0, 0, 0, 0, 4, 0, 1, 0, 0, 0,
+];
+
+// At one second, 60 bytes.
+const RECORD_HEADER: [u8; 16] = [1, 0, 0, 0, 0, 0, 0, 0, 60, 0, 0, 0, 60, 0, 0, 0];
+
+// 60 bytes from 00:00:00:00:00:01 to 00:00:00:00:00:02, of the type 0x88b5.
+fn frame() -> [u8; 60] {
+    let mut bytes = [0; 60];
+    bytes[..14].copy_from_slice(&[0, 0, 0, 0, 0, 2, 0, 0, 0, 0, 0, 1, 0x88, 0xb5]);
+    bytes
+}
+
+// A file that tcpdump(8) 4.99 reads as this frame.
+fn file(alloc: Global) -> Result<Vec<u8>, AllocError> {
+    let mut bytes = HEADER.to_vec(alloc)?;
+    bytes.extend_from_slice(&RECORD_HEADER)?;
+    bytes.extend_from_slice(&frame())?;
+    Ok(bytes)
+}
+
+#[test]
+fn one_frame_is_read(rt: HostRuntime) -> Result<(), Fail> {
+    let alloc = rt.alloc();
+    let trace = read_trace(alloc, file(alloc)?, 1)?;
+    assert_eq!(rt; trace.len(), 1);
+    assert!(rt; !trace.is_empty());
+    assert!(rt; !trace.nanos());
+    assert_eq!(rt; trace.time(1), 1_000_000_000);
+    assert_eq!(rt; trace.frame(1), frame().as_slice());
+    Ok(())
+}
+
+#[test]
+fn empty_trace_has_no_frames(rt: HostRuntime) -> Result<(), Fail> {
+    let alloc = rt.alloc();
+    let trace = Trace::empty(alloc);
+    assert_eq!(rt; trace.len(), 0);
+    assert!(rt; trace.is_empty());
+    assert!(rt; !trace.nanos());
+    let trace = read_trace(alloc, HEADER.to_vec(alloc)?, 0)?;
+    assert!(rt; trace.is_empty());
+    Ok(())
+}
+
+// What is answered to the file in which these bytes stand at an offset.
+fn fault_with(
+    alloc: Global,
+    offset: usize,
+    piece: [u8; 4],
+) -> Result<Option<PcapFault>, AllocError> {
+    let good = file(alloc)?;
+    let mut bytes = Vec::new(alloc);
+    for (at, byte) in good.iter().enumerate() {
+        let given = at.checked_sub(offset).and_then(|place| piece.get(place));
+        bytes.push(*given.unwrap_or(byte))?;
+    }
+    Ok(read_trace(alloc, bytes, 1).err())
+}
+
+// What is answered to the file's first bytes.
+fn fault_of_prefix(alloc: Global, len: usize) -> Result<Option<PcapFault>, AllocError> {
+    let mut bytes = file(alloc)?;
+    bytes.truncate(len);
+    Ok(read_trace(alloc, bytes, 1).err())
+}
+
+#[test]
+fn each_fault_of_a_file_is_told(rt: HostRuntime) -> Result<(), Fail> {
+    let alloc = rt.alloc();
+    let version = |major, minor| Some(PcapFault::Version { major, minor });
+    let fraction = Some(PcapFault::Fraction { at: 24 });
+    let long = Some(PcapFault::TooLong { at: 24, n: 262_145 });
+    for (offset, bytes, fault) in [
+        // A section header block of pcapng, the format of Kuznetzov's patched libpcap, and one bit that is wrong.
+        (0, [0x0a, 0x0d, 0x0d, 0x0a], Some(PcapFault::Magic)),
+        (0, [0x34, 0xcd, 0xb2, 0xa1], Some(PcapFault::Magic)),
+        (0, [0xd4, 0xc3, 0xb2, 0xa0], Some(PcapFault::Magic)),
+        (4, [3, 0, 4, 0], version(3, 4)),
+        (4, [2, 0, 4, 1], version(2, 0x0104)),
+        // LINKTYPE_RAW; and a frame check sequence of four bytes, which is no part of the type.
+        (20, [101, 0, 0, 0], Some(PcapFault::LinkType(101))),
+        (20, [1, 0, 0, 0x24], None),
+        // Records of a second, of a microsecond less, and of a byte more than there may be.
+        (28, [0x40, 0x42, 0x0f, 0], fraction),
+        (28, [0x3f, 0x42, 0x0f, 0], None),
+        (32, [1, 0, 4, 0], long),
+    ] {
+        assert_eq!(rt; fault_with(alloc, offset, bytes)?, fault);
+    }
+    Ok(())
+}
+
+#[test]
+fn cut_file_and_one_without_room_are_refused(rt: HostRuntime) -> Result<(), Fail> {
+    let alloc = rt.alloc();
+    let short = Some(PcapFault::ShortRecord { at: 24 });
+    for (len, fault) in [
+        (23, Some(PcapFault::ShortHeader)),
+        (24, None),
+        (25, short),
+        (39, short),
+        (40, short),
+        (99, short),
+    ] {
+        assert_eq!(rt; fault_of_prefix(alloc, len)?, fault);
+    }
+    let refused = read_trace(alloc, file(alloc)?, 0).err();
+    assert_eq!(rt; refused, Some(PcapFault::TooManyFrames));
+    Ok(())
+}
+
+// The same frame at one second and five nanoseconds, as `editcap -F nsecpcap` writes it on a big-endian machine.
+#[test]
+fn big_endian_nanoseconds_are_read(rt: HostRuntime) -> Result<(), Fail> {
+    let alloc = rt.alloc();
+    let mut bytes = vec![in alloc;
+        0xa1, 0xb2, 0x3c, 0x4d, 0, 2, 0, 4, 0, 0, 0, 0, 0, 0, 0, 0, 0, 4, 0, 0, 0, 0, 0, 1,
+    ]?;
+    bytes.extend_from_slice(&[0, 0, 0, 1, 0, 0, 0, 5, 0, 0, 0, 60, 0, 0, 0, 60])?;
+    bytes.extend_from_slice(&frame())?;
+    let trace = read_trace(alloc, bytes, 1)?;
+    assert_eq!(rt; trace.len(), 1);
+    assert!(rt; trace.nanos());
+    assert_eq!(rt; trace.time(1), 1_000_000_005);
+    assert_eq!(rt; trace.frame(1), frame().as_slice());
+    Ok(())
+}
