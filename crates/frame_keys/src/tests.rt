@@ -1,4 +1,5 @@
-use crate::{L3, L4, Layout, key_of, layout_of};
+use crate::key_of;
+use frame_headers::{L3, L4, Layout, layout_of};
 use ovs_fields::{FieldId, Key};
 use std::alloc::{AllocError, Global};
 use std::test::Fail;

@@ -1,8 +1,8 @@
 use Rattle.std.proofs.Common.{◌≡◌, ◌≤◌, length}
 use Rattle.spec_frames.specs.declared.headers.Fragment.TheVariants.{Whole}
 use Rattle.spec_frames.specs.Ipv6.{and_after, upper_layer, most_extensions}
-use Rattle.frame_keys.proofs.Chain.{rest}
-use Rattle.frame_keys.proofs.ipv6.upper_layer.Given as goal
+use Rattle.frame_headers.proofs.Chain.{rest}
+use Rattle.frame_headers.proofs.ipv6.upper_layer.Given as goal
 
 abbrev pub invariant-extensions : goal.invariant-extensions
 invariant-extensions l = record {

@@ -1,8 +1,8 @@
 use Rattle.std.proofs.Common.{◌≡◌, suc, ◌-◌, true, false, sym, ◌∙◌, arith}
 use Rattle.spec_frames.specs.Ipv6.{is_extension, is_present}
-use Rattle.frame_keys.proofs.Chain.{is_present-within, and_after-whole, rest-end, rest-no_room, rest-absent, rest-later, rest-passed}
-use Rattle.frame_keys.proofs.ipv6.upper_layer.Goals as goal
-use Rattle.frame_keys.proofs.ipv6.upper_layer.Goals.{then-room-eq0-via-then-room-eq0, then-room-eq0-via-else-room-eq0+then-not-is_present}
+use Rattle.frame_headers.proofs.Chain.{is_present-within, and_after-whole, rest-end, rest-no_room, rest-absent, rest-later, rest-passed}
+use Rattle.frame_headers.proofs.ipv6.upper_layer.Goals as goal
+use Rattle.frame_headers.proofs.ipv6.upper_layer.Goals.{then-room-eq0-via-then-room-eq0, then-room-eq0-via-else-room-eq0+then-not-is_present}
 
 pub returns-then-room-eq0 : goal.returns-then-room-eq0
 returns-then-room-eq0 c =

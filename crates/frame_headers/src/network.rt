@@ -1,7 +1,7 @@
 //! The network header of a frame.
 ghost use Rattle.std.specs.Prelude.{◌≡◌, ◌≤◌, length};
 ghost use Rattle.spec_frames.specs.Network.{network_at};
-ghost use Rattle.frame_keys.specs.Within.{IsWithin};
+ghost use Rattle.frame_headers.specs.Within.{IsWithin};
 
 use crate::arp::is_arp;
 use crate::ethernet::{ARP_TYPE, IPV4_TYPE, IPV6_TYPE};
@@ -12,7 +12,7 @@ use spec_frames::{Carried, Network};
 /// The header of what a frame carries; nothing where it is malformed, or of another type.
 #[inline]
 #[tactic(auto, unfolding(spec_frames::specs::Network::network_at, spec_frames::specs::Arp::is_arp))]
-pub(crate) fn network_at(frame: &[u8], payload: Carried) -> Network
+pub fn network_at(frame: &[u8], payload: Carried) -> Network
     requires { payload.at ≤ length frame.now }
     ensures value { result ≡ network_at frame.now payload.dl_type payload.at }
     ensures within { IsWithin frame.now result }

@@ -3,7 +3,7 @@
 ghost use Rattle.std.specs.Prelude.{◌≡◌, ◌<◌, if◌then◌else◌};
 ghost use Rattle.spec_keys.specs.Protocols.{icmp_protocol, icmp6_protocol};
 ghost use Rattle.spec_frames.specs.Transport.{icmp_size, icmp6_size, carries, tcp_or_udp, unless_later, transport};
-ghost use Rattle.frame_keys.specs.Within.{end_of, IsBefore};
+ghost use Rattle.frame_headers.specs.Within.{end_of, IsBefore};
 
 use spec_frames::{Datagram, Fragment, L4, Network};
 
@@ -91,7 +91,7 @@ fn unless_later(fragment: Fragment, header: L4) -> L4
 /// The transport header of a frame by its network header.
 #[inline]
 #[tactic(auto, unfolding(spec_frames::specs::Transport::transport))]
-pub(crate) fn transport(network: &Network) -> L4
+pub fn transport(network: &Network) -> L4
     ensures value { result ≡ transport network.now }
     ensures before { IsBefore (end_of network.now) result }
 {

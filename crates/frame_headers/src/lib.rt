@@ -1,0 +1,47 @@
+//! The headers of a frame: which there are, where they stand, and what they say of the packet.
+//!
+//! # What?
+//!
+//! A frame has an Ethernet header, perhaps with a tag, then a network header of ARP, IPv4 or IPv6, and after one of IP a
+//! transport header. `network_at` reads the network header and `transport` finds the one after it: what a key is made of.
+//! Actions that rewrite a frame need to know where its headers stand, which `layout_of` says.
+//!
+//! # What is promised
+//!
+//! `spec_frames` says which headers a frame has. Each answer is exactly the one that it defines, for every frame, however
+//! short or broken.
+//!
+//! - A malformed network header is none, and no header stands after it.
+//! - A frame that was cut by its capture is read as it is: a packet ends where its header says, or with the frame. A
+//!   header that isn't whole is malformed. Headers that are found stand within the frame.
+//! - A later fragment has no transport header, and a first one has.
+//! - No call takes memory, and none can fail.
+//!
+//! # How
+//!
+//! Each header has a module, which tests at an offset whether the header is well formed and reads what it says. The
+//! network header is read once: the transport header, the layout and the key are made of what is kept of it
+//! (`spec_frames::Network`). Nothing is copied, and each number is read where it stands.
+//!
+//! The extension headers of IPv6 are passed in a loop of at most eight turns. It keeps an `UpperLayer`: what the packet
+//! would carry if no extension header followed.
+//!
+//! # What is left to others
+//!
+//! The key (`frame_keys`), which frame is asked about, and changes to a frame. No checksum is tested: a frame with a
+//! wrong one has headers as any other. A second tag, MPLS and tunnels aren't read.
+#![tactic(auto)]
+
+mod arp;
+mod ethernet;
+mod ipv4;
+mod ipv6;
+mod layout;
+mod network;
+mod transport;
+
+pub use ethernet::{HEADER_SIZE, carried, is_tagged, tci_of};
+pub use layout::layout_of;
+pub use network::network_at;
+pub use spec_frames::{L3, L4, Layout};
+pub use transport::transport;
