@@ -9,7 +9,7 @@ use Rattle.spec_case.specs.Run.{Run, frames_of}
 use Rattle.spec_board.specs.State.{Waiting, place_at, is_decided}
 use Rattle.spec_board.specs.Texts.{Journal}
 use Rattle.spec_run.specs.Journals.{steps_of, steps_in}
-use Rattle.run_case.specs.Places.{HasPlace}
+use Rattle.run_blocks.specs.Places.{HasPlace}
 use Rattle.pmd_board.specs.BoardView.{BoardView, state_of, journal_view, journals_view}
 use Rattle.board_laws.proofs.PlaceLaws.{at_there}
 use Rattle.board_laws.proofs.Places.{all_places}

@@ -4,7 +4,7 @@ use Rattle.std.specs.List.{list_all}
 use Rattle.spec_case.specs.declared.arrival.Arrival.{Arrival}
 use Rattle.spec_case.specs.Run.{Run}
 use Rattle.spec_board.specs.State.{is_decided}
-use Rattle.run_case.specs.Places.{HasPort, HasPlace}
+use Rattle.run_blocks.specs.Places.{HasPort, HasPlace}
 use Rattle.pmd_board.specs.BoardView.{BoardView, state_of}
 
 -- Each frame of the board's port is decided.

@@ -1,7 +1,7 @@
 ghost use Rattle.std.specs.Prelude.{◌≡◌, ◌++◌, OnOk, OnErr, IfOk, IsPermutation};
 ghost use Rattle.spec_case.specs.Run.{frames_of};
 ghost use Rattle.spec_case.specs.Arrivals.{arrivals_at, arrivals, in_order};
-ghost use Rattle.run_case.specs.Places.{HasPort};
+ghost use Rattle.run_blocks.specs.Places.{HasPort};
 
 use run_case::{Case, RunData};
 use spec_case::Arrival;

@@ -8,7 +8,7 @@ ghost use Rattle.spec_run.specs.Outputs.{frames_by, frames_out};
 ghost use Rattle.edge_io.specs.declared.outside.InUse.TheVariants.{Nothing, Created};
 ghost use Rattle.edge_io.specs.Counts.{HasCause, with_write_fault};
 ghost use Rattle.edge_io.specs.Shelf.{wrote, kept};
-ghost use Rattle.run_case.specs.Places.{HasPort};
+ghost use Rattle.run_blocks.specs.Places.{HasPort};
 ghost use Rattle.pmd_board.specs.BoardView.{journals_view};
 ghost use Rattle.egress_merge.specs.Boards.{IsAllDecided, IsArrival};
 ghost use Rattle.egress_merge.specs.Sending.{sends_to};

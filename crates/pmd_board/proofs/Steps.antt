@@ -19,7 +19,7 @@ use Rattle.board_laws.proofs.Kept.{kept_after}
 use Rattle.board_laws.proofs.Looked.{next_after}
 use Rattle.board_laws.proofs.Once.{decided_in}
 use Rattle.board_laws.proofs.Stated.{few_entries, look_misses, places_after, versions_after}
-use Rattle.run_case.specs.Places.{HasPort}
+use Rattle.run_blocks.specs.Places.{HasPort}
 use Rattle.pmd_board.specs.declared.step.Step as rust
 use Rattle.pmd_board.specs.declared.board.Board.TheInside.{Inside}
 use Rattle.pmd_board.specs.StepViews.{step_view, steps_view}

@@ -9,7 +9,7 @@ use Rattle.spec_board.specs.Journals.{IsLegal}
 use Rattle.board_laws.specs.Entries.{HasKeys}
 use Rattle.board_laws.specs.Versions.{HasVersionsInOrder}
 use Rattle.board_laws.specs.Places.{ArePlaces}
-use Rattle.run_case.specs.Places.{HasPort}
+use Rattle.run_blocks.specs.Places.{HasPort}
 use Rattle.pmd_board.specs.BoardView.{BoardView, state_of}
 use Rattle.pmd_board.specs.StepViews.{steps_view}
 use Rattle.pmd_board.specs.declared.place.Place.{Place}

@@ -11,7 +11,7 @@ ghost use Rattle.spec_board.specs.Results.{translated};
 ghost use Rattle.spec_board.specs.Journals.{IsLegal};
 ghost use Rattle.spec_board.specs.Decisions.{IsDecided};
 ghost use Rattle.spec_board.specs.Refusals.{is_next_block, open_fault, look_fault, settle_fault, begin_fault, end_fault};
-ghost use Rattle.run_case.specs.Places.{HasPort};
+ghost use Rattle.run_blocks.specs.Places.{HasPort};
 ghost use Rattle.board_laws.specs.Entries.{HasKeys};
 ghost use Rattle.board_laws.specs.Versions.{HasVersionsInOrder};
 ghost use Rattle.board_laws.specs.Places.{ArePlaces};

@@ -16,8 +16,6 @@
 //!   begin and end where the sync points stand.
 //! - A `Keyed` is a frame of the run: its type keeps that the frame is there, and that key, length, time and block are
 //!   that frame's.
-//! - The laws of blocks are lemmas (proofs/Blocks.antt): ends don't fall, the last block ends with the trace, and a
-//!   place is in a block exactly where it stands after the end of the one before and not after its own.
 //! - Reading takes no memory and can't fail. Only `RunData::new` takes some, 4 bytes for each block of each port, and
 //!   then no run is made.
 //!
@@ -26,9 +24,8 @@
 //! The function that has read the files calls one function under the name `Brand`, and picks there what the name
 //! means; below that call `C.run` is what was read. A name costs nothing when the program runs.
 //!
-//! Where a port's blocks end is found in one walk along its trace, once. The block of a place is then a count over as
-//! many ends as there are blocks, and a port's trace is found by going through the ports: there are few of both. Frames
-//! aren't copied, but lent from the bytes of their file.
+//! Where a port's blocks end is found once (`run_blocks`). A port's trace is found by going through the ports, of which
+//! there are few. Frames aren't copied, but lent from the bytes of their file.
 //!
 //! # What is left to others
 //!
@@ -36,18 +33,16 @@
 //! schedule are parts of `C.run`, but aren't held here: who keeps them ties them to it.
 #![tactic(auto)]
 
-mod block_ends;
 mod case;
 mod keyed;
-mod ports;
 mod ran;
 mod run_data;
 mod threads;
 
 pub use case::Case;
 pub use keyed::Keyed;
-pub use ports::Ports;
 pub use ran::Ran;
+pub use run_blocks::Ports;
 pub use run_data::RunData;
 
 #[cfg(test)]

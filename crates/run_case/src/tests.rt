@@ -1,7 +1,7 @@
 ghost use Rattle.std.specs.Prelude.{◌≡◌, ◌+◌, ◌^◌, ◌<◌, [], ◌∷◌, IfOk, length, map};
 ghost use Rattle.spec_case.specs.Run.{last_version};
 ghost use Rattle.spec_case.specs.Blocks.{AreInOrder};
-ghost use Rattle.run_case.specs.Places.{HasPort, HasPlace, IsCounted, AreCounted};
+ghost use Rattle.run_blocks.specs.Places.{HasPort, HasPlace, IsCounted, AreCounted};
 
 use crate::{Case, Ports, RunData};
 use ovs_fields::FieldId;

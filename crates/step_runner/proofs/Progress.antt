@@ -11,8 +11,8 @@ use Rattle.spec_board.specs.Results.{key_at, translated}
 use Rattle.spec_board.specs.Refusals.{open_fault, look_fault, settle_fault, begin_fault, end_fault}
 use Rattle.spec_board.specs.Effects.{effect}
 use Rattle.spec_board.specs.Journals.{IsFinished}
-use Rattle.run_case.specs.Places.{place_before}
-use Rattle.run_case.proofs.Blocks.{last_place-le}
+use Rattle.run_blocks.specs.Places.{place_before}
+use Rattle.run_blocks.proofs.Blocks.{last_place-le}
 use Rattle.board_laws.proofs.Refusals.{lo_next}
 use Rattle.board_laws.proofs.PlaceLaws.{at_there, at_written, at_others, pending_written, decided_written}
 use Rattle.step_runner.specs.Progress.{planned, IsAt, IsSwept}

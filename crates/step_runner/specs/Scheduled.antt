@@ -4,7 +4,7 @@ use Rattle.spec_case.specs.Run.{Run}
 use Rattle.spec_case.specs.Blocks.{last_block}
 use Rattle.spec_board.specs.Journals.{IsLegal, IsFinished}
 use Rattle.spec_board.specs.Schedules as schedules
-use Rattle.run_case.specs.Places.{place_before}
+use Rattle.run_blocks.specs.Places.{place_before}
 use Rattle.pmd_board.specs.BoardView.{BoardView, state_of}
 use Rattle.step_runner.specs.Progress.{IsAt, ArePlanned, AreDecided}
 

@@ -4,7 +4,7 @@ ghost use Rattle.std.specs.List.{list_all};
 ghost use Rattle.spec_case.specs.Blocks.{hi, last_block, last_place};
 ghost use Rattle.spec_board.specs.Journals.{IsLegal, IsFinished};
 ghost use Rattle.spec_board.specs.Schedules as schedules;
-ghost use Rattle.run_case.specs.Places.{HasPlace, IsInBlock, place_before};
+ghost use Rattle.run_blocks.specs.Places.{HasPlace, IsInBlock, place_before};
 ghost use Rattle.pmd_board.specs.BoardView.{state_of};
 ghost use Rattle.rule_tables.specs.History.{history_of};
 ghost use Rattle.step_runner.specs.Outputs.{emits_outputs_only};

@@ -7,7 +7,7 @@ use Rattle.spec_board.specs.State.{State, Waiting, place_at}
 use Rattle.spec_board.specs.Schedules as schedules
 use Rattle.spec_board.specs.Refusals.{settle_fault}
 use Rattle.spec_board.specs.Effects.{effect}
-use Rattle.run_case.proofs.Blocks.{block_of-from_in}
+use Rattle.run_blocks.proofs.Blocks.{block_of-from_in}
 use Rattle.pmd_board.specs.BoardView.{BoardView, state_of}
 use Rattle.pmd_board.proofs.Steps.{state_after}
 use Rattle.step_runner.specs.Progress.{IsSwept}

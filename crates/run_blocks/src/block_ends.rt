@@ -1,16 +1,16 @@
 //! Where the blocks of a trace end.
 ghost use Rattle.std.specs.Prelude.{◌≡◌, ◌+◌, ◌≤◌, ◌^◌, ◌<◌, nat_lt, count_by, drop, length, map, IfOk};
 ghost use Rattle.spec_case.specs.Blocks.{frames_before};
-ghost use Rattle.run_case.specs.Places.{IsCounted, AreCounted, ends_of};
+ghost use Rattle.run_blocks.specs.Places.{IsCounted, AreCounted, ends_of};
 
 use pcap_reader::Trace;
 use spec_tables::SyncPoint;
 use std::alloc::{AllocError, Global};
 use std::marker::Model;
 
-// The last place of each block of one trace.
+/// The last place of each block of one trace.
 #[derive(Debug, Drop)]
-pub(crate) struct BlockEnds(Vec<u32>);
+pub struct BlockEnds(Vec<u32>);
 
 impl Model for BlockEnds {
     ghost use Rattle.std.specs.Prelude.{ℕ, List};
@@ -21,7 +21,8 @@ impl Model for BlockEnds {
 }
 
 impl BlockEnds {
-    pub(crate) fn as_slice(&self) -> &[u32]
+    /// The places, block by block, counted from 1; 0 where no frame came in by then.
+    pub fn as_slice(&self) -> &[u32]
         ensures { result.now ≡ self.now }
     {
         self.0.as_slice()
@@ -57,8 +58,8 @@ fn block_ends(alloc: Global, syncs: &[SyncPoint], trace: &Trace) -> Result<Block
     Ok(BlockEnds(ends))
 }
 
-// Where the blocks of each trace end: one walk along each.
-pub(crate) fn all_block_ends(
+/// Where the blocks of each trace end: one walk along each. It takes 4 bytes for each block of each trace.
+pub fn all_block_ends(
     alloc: Global,
     syncs: &[SyncPoint],
     traces: &[Trace],
@@ -73,8 +74,8 @@ pub(crate) fn all_block_ends(
     Ok(all)
 }
 
-// The block of a place: as many blocks end before it.
-pub(crate) fn block_of(ends: &[u32], place: u32) -> u32
+/// The block of a place: as many blocks end before it.
+pub fn block_of(ends: &[u32], place: u32) -> u32
     requires { length ends.now < 2 ^ 32 }
     ensures { result ≡ count_by (λ end. nat_lt end place) ends.now }
 {

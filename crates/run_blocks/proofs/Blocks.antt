@@ -8,7 +8,7 @@ use Rattle.std.proofs.lemmas.List.Sums.{prefix_len-le-length, count_by-le-length
 use Rattle.spec_pcap.specs.Pcap.{Frame}
 use Rattle.spec_tables.specs.declared.sync_point.SyncPoint.{SyncPoint}
 use Rattle.spec_case.specs.Run.{Run, last_version, frames_of}
-use Rattle.run_case.specs.Places.{IsInBlock}
+use Rattle.run_blocks.specs.Places.{IsInBlock}
 use Rattle.spec_case.specs.Blocks.{last_block, frames_before, ends_after, block_ends, last_place, block_of, hi, lo, AreInOrder}
 
 -- ---- numbers that don't fall

@@ -2,8 +2,8 @@ use Rattle.std.proofs.Common.{◌≡◌, suc, ◌+◌, [], ◌∷◌, drop, get_
 use Rattle.std.proofs.Math.Seq.{drop-cons}
 use Rattle.std.proofs.Math.ListN.{drop_of_length-le}
 use Rattle.spec_tables.specs.declared.sync_point.SyncPoint.{SyncPoint}
-use Rattle.run_case.proofs.Walks.{ends_after-step, ends_after-last}
-use Rattle.run_case.proofs.block_ends.block_ends.Goals as goal
+use Rattle.run_blocks.proofs.Walks.{ends_after-step, ends_after-last}
+use Rattle.run_blocks.proofs.block_ends.block_ends.Goals as goal
 
 pub loop-sync-preserved : goal.loop-sync-preserved
 loop-sync-preserved c =

@@ -1,6 +1,6 @@
 use Rattle.std.proofs.Common.{◌≡◌, ◌≤◌, map, take, length, vec_capacity}
-use Rattle.run_case.specs.Places.{ends_of}
-use Rattle.run_case.proofs.block_ends.all_block_ends.Given as goal
+use Rattle.run_blocks.specs.Places.{ends_of}
+use Rattle.run_blocks.proofs.block_ends.all_block_ends.Given as goal
 
 abbrev pub invariant-loop-trace : goal.invariant-loop-trace
 invariant-loop-trace l = record {

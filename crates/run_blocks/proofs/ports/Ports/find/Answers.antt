@@ -1,7 +1,7 @@
 use Rattle.std.proofs.Common.{◌==◌, sym, ap, ◌∙◌}
 use Rattle.std.specs.Prelude.{is_some}
-use Rattle.run_case.proofs.PlacesOfPorts.{is_some-position, slice_get-position}
-use Rattle.run_case.proofs.ports.Ports.find.Goals as goal
+use Rattle.run_blocks.proofs.PlacesOfPorts.{is_some-position, slice_get-position}
+use Rattle.run_blocks.proofs.ports.Ports.find.Goals as goal
 
 pub returns-in-Some-clause-found : goal.returns-in-Some-clause-found
 returns-in-Some-clause-found c =

@@ -1,7 +1,7 @@
 use Rattle.std.proofs.Common.{◌≡◌, ◌≤◌, ◌+◌, ◌++◌, drop, length, vec_len, vec_capacity}
 use Rattle.spec_case.specs.Blocks.{ends_after}
-use Rattle.run_case.specs.Places.{ends_of}
-use Rattle.run_case.proofs.block_ends.block_ends.Given as goal
+use Rattle.run_blocks.specs.Places.{ends_of}
+use Rattle.run_blocks.proofs.block_ends.block_ends.Given as goal
 
 abbrev pub invariant-loop-sync : goal.invariant-loop-sync
 invariant-loop-sync l = record {

@@ -1,6 +1,6 @@
 ghost use Rattle.std.specs.Prelude.{◌≡◌, ◌<◌, ◌≤◌, ◌^◌, ◌==◌, length, position, slice_get, nat_eq, Some, IfSome, is_some};
 ghost use Rattle.std.specs.List.{IsDistinct, list_any};
-ghost use Rattle.run_case.specs.Places.{HasPort};
+ghost use Rattle.run_blocks.specs.Places.{HasPort};
 
 use std::marker::Model;
 

@@ -1,6 +1,6 @@
 use Rattle.std.proofs.Common.{◌≡◌, ◌+◌, ◌-◌, ◌≤◌, drop, length}
 use Rattle.spec_case.specs.Blocks.{frames_before}
-use Rattle.run_case.proofs.block_ends.end_of_block.Given as goal
+use Rattle.run_blocks.proofs.block_ends.end_of_block.Given as goal
 
 abbrev pub invariant-loop-place : goal.invariant-loop-place
 invariant-loop-place l = record {

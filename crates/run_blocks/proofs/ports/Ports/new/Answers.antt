@@ -1,6 +1,6 @@
 use Rattle.std.proofs.Common.{rules}
-use Rattle.run_case.proofs.PlacesOfPorts.{length-distinct_ports}
-use Rattle.run_case.proofs.ports.Ports.new.Goals as goal
+use Rattle.run_blocks.proofs.PlacesOfPorts.{length-distinct_ports}
+use Rattle.run_blocks.proofs.ports.Ports.new.Goals as goal
 
 pub invariant_of-result : goal.invariant_of-result
 invariant_of-result c =
