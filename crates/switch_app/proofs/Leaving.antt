@@ -12,10 +12,10 @@ use Rattle.edge_io.specs.Written.{written}
 use Rattle.switch_input.specs.declared.refusal.InputRefusal.{InputRefusal}
 use Rattle.switch_input.specs.declared.refusal.InputRefusal.TheVariants as input
 use Rattle.switch_input.specs.Refused.{Explains, IfReadFault}
-use Rattle.switch_app.specs.declared.refusal.WriteRefusal.{WriteRefusal}
-use Rattle.switch_app.specs.declared.refusal.WriteRefusal.TheVariants.{WriteFault, OutOfMemory}
+use Rattle.switch_output.specs.declared.refusal.WriteRefusal.{WriteRefusal}
+use Rattle.switch_output.specs.declared.refusal.WriteRefusal.TheVariants.{WriteFault, OutOfMemory}
 use Rattle.switch_app.specs.declared.refusal.Refusal.TheVariants.{Reading, Writing}
-use Rattle.switch_app.specs.Refused.{IfWriteFault}
+use Rattle.switch_output.specs.Refused.{IfWriteFault}
 use Rattle.switch_app.specs.RunViews.{Writes, StopsIn, Leaves}
 
 pub if_err_map : {T E : Type 0} {P Q : E → Type 0} (r : Result T E) → ((e : E) → P e → Q e) → IfErr r P → IfErr r Q

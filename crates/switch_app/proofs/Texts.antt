@@ -5,7 +5,7 @@ use Rattle.edge_io.specs.declared.outside.InUse.{InUse}
 use Rattle.edge_io.specs.Shelf.{Told}
 use Rattle.switch_input.specs.declared.refusal.InputFault.TheVariants.{NotBuilt, Trace, Limit}
 use Rattle.switch_input.specs.declared.refusal.InputRefusal.TheVariants as input
-use Rattle.switch_app.specs.declared.refusal.WriteRefusal.TheVariants.{WriteFault, OutOfMemory}
+use Rattle.switch_output.specs.declared.refusal.WriteRefusal.TheVariants.{WriteFault, OutOfMemory}
 use Rattle.switch_app.specs.declared.refusal.Refusal.{Refusal}
 use Rattle.switch_app.specs.declared.refusal.Refusal.TheVariants.{Reading, Writing}
 use Rattle.switch_app.specs.Refused.{status_of, text_of}

@@ -14,12 +14,12 @@ use Rattle.edge_io.specs.ReadAll.{OnlyRead}
 use Rattle.edge_io.specs.Written.{written}
 use Rattle.switch_input.specs.declared.refusal.InputRefusal.TheVariants as input
 use Rattle.switch_input.specs.Refused as reading
-use Rattle.switch_app.specs.declared.refusal.WriteRefusal.{WriteRefusal}
-use Rattle.switch_app.specs.declared.refusal.WriteRefusal.TheVariants.{WriteFault, OutOfMemory}
+use Rattle.switch_output.specs.declared.refusal.WriteRefusal.{WriteRefusal}
+use Rattle.switch_output.specs.declared.refusal.WriteRefusal.TheVariants.{WriteFault, OutOfMemory}
 use Rattle.switch_app.specs.declared.refusal.Refusal.{Refusal}
 use Rattle.switch_app.specs.declared.refusal.Refusal.TheVariants.{Reading, Writing}
-use Rattle.switch_app.specs.Refused as writing
-use Rattle.switch_app.specs.Refused.{IsCutIn}
+use Rattle.switch_output.specs.Refused as writing
+use Rattle.switch_output.specs.Refused.{IsCutIn}
 
 -- After the files before, exactly those of the run were written, by its journals.
 pub record Writes (run : Run) (out : List ℕ) (before after : List File) : Type 0 where

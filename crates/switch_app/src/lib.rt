@@ -35,15 +35,15 @@
 //! parameter: every board, and every fact of a board, speaks of it.
 //!
 //! All edits are applied first, to a store that answers for every version (`rules`). Then each port's board is run to its
-//! end, which decides every frame. Only then files are written (`writing`). So what takes memory by the size of the run is
-//! taken before the first file: between files there is but a name, and a line of the journal. Texts are printed piece by
-//! piece (`say`), so that why a run was refused can be told without memory.
+//! end, which decides every frame. Only then files are written (`switch_output`). So what takes memory by the size of the
+//! run is taken before the first file: between files there is but a name, and a line of the journal. Why a run was refused
+//! is told without memory (`refusal_texts`).
 //!
 //! # What is left to others
 //!
 //! Words and files to `switch_input`, rules to `rule_tables`, the run and its blocks to `run_case`, boards to `pmd_board`
-//! and `step_runner`, capture files and the order of frames to `egress_merge`, the text of journals to `flow_dump`, digits
-//! to `itoa`, and all that touches the system to `edge_io`.
+//! and `step_runner`, the order of frames to `egress_merge`, the files to `switch_output`, texts and statuses to
+//! `refusal_texts`, and all that touches the system to `edge_io`.
 #![tactic(auto)]
 
 mod refusal;
@@ -51,7 +51,6 @@ mod rules;
 mod run;
 mod say;
 mod status;
-mod writing;
 
+pub use refusal_texts::OUT_OF_MEMORY;
 pub use run::run_switch;
-pub use status::OUT_OF_MEMORY;

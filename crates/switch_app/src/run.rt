@@ -11,16 +11,16 @@ ghost use Rattle.edge_io.specs.ReadAll.{OnlyRead};
 ghost use Rattle.edge_io.specs.Written.{written};
 ghost use Rattle.switch_input.specs.WordViews.{texts, ports_view, ports_said};
 ghost use Rattle.switch_input.specs.InputViews.{accepted_view, IsBuilt};
-ghost use Rattle.switch_app.specs.Refused.{IfWriteFault, HasCause as HasWriteCause};
+ghost use Rattle.switch_output.specs.Refused.{IfWriteFault, HasCause as HasWriteCause};
 ghost use Rattle.switch_app.specs.RunViews.{Writes, StopsIn, Leaves, HasCause};
 
-use crate::refusal::{Refusal, WriteRefusal};
+use crate::refusal::Refusal;
 use crate::rules::rules_of;
 use crate::say::say_refusal;
-use crate::status::{DONE, status_of};
-use crate::writing::write_files;
+use crate::status::status_of;
 use edge_io::{Gate, Shelf, Sink};
 use egress_merge::arrivals_of;
+use refusal_texts::DONE;
 use run_case::{Case, Ports, RunData};
 use std::alloc::{AllocError, Global};
 use std::marker::Brand;
@@ -28,6 +28,7 @@ use std::sync::Wait;
 use std::thread::Threads;
 use step_runner::finish;
 use switch_input::{Inputs, PortWord, read_inputs};
+use switch_output::{WriteRefusal, write_files};
 
 // The ports of words, in their order.
 #[tactic(auto, using(crate::proofs::Lists::ports_in_view))]

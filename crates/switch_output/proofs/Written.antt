@@ -7,8 +7,8 @@ use Rattle.std.proofs.Math.ListN.{get_or-map}
 use Rattle.spec_base.specs.Files.{File, IsPrefixOf}
 use Rattle.spec_run.specs.CutShort.{IsCutShort}
 use Rattle.edge_io.specs.Shelf.{Told, kept}
-use Rattle.switch_app.specs.declared.refusal.WriteRefusal.{WriteRefusal}
-use Rattle.switch_app.specs.Refused.{IfWriteFault, IsCutIn}
+use Rattle.switch_output.specs.declared.refusal.WriteRefusal.{WriteRefusal}
+use Rattle.switch_output.specs.Refused.{IfWriteFault, IsCutIn}
 
 pub files_more : (file : ℕ → File) (ports : List ℕ) (i : ℕ) (done before now : List File) → i < length ports
     → before ≡ done ++ map file (take i ports) → now ≡ before ++ file (get_or ports i 0) ∷ [] → now ≡ done ++ map file (take (i + 1) ports)

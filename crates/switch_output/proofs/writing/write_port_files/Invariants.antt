@@ -2,7 +2,7 @@ use Rattle.std.proofs.Common.{◌≡◌, ◌++◌, take, map, IsTrue}
 use Rattle.edge_io.specs.declared.outside.InUse.TheVariants.{Nothing}
 use Rattle.spec_run.specs.Outputs.{port_file}
 use Rattle.pmd_board.specs.BoardView.{journals_view}
-use Rattle.switch_app.proofs.writing.write_port_files.Given as goal
+use Rattle.switch_output.proofs.writing.write_port_files.Given as goal
 
 abbrev pub invariant-files : goal.invariant-files
 invariant-files g l = record {

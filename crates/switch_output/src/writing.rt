@@ -7,7 +7,7 @@ ghost use Rattle.edge_io.specs.Shelf.{kept};
 ghost use Rattle.edge_io.specs.Written.{written};
 ghost use Rattle.pmd_board.specs.BoardView.{journals_view};
 ghost use Rattle.egress_merge.specs.Boards.{IsAllDecided};
-ghost use Rattle.switch_app.specs.Refused.{IfWriteFault, HasCause, IsCutIn};
+ghost use Rattle.switch_output.specs.Refused.{IfWriteFault, HasCause, IsCutIn};
 
 use crate::refusal::WriteRefusal;
 use edge_io::{Failed, Shelf};

@@ -2,8 +2,8 @@ use Rattle.std.proofs.Common.{map}
 use Rattle.std.proofs.lemmas.Result.{err_from_is_err_and}
 use Rattle.spec_run.specs.Outputs.{port_file, journal_file}
 use Rattle.pmd_board.specs.BoardView.{journals_view}
-use Rattle.switch_app.proofs.Written.{cut_in_first, cut_in_last, last_whole}
-use Rattle.switch_app.proofs.writing.write_files.Goals as goal
+use Rattle.switch_output.proofs.Written.{cut_in_first, cut_in_last, last_whole}
+use Rattle.switch_output.proofs.writing.write_files.Goals as goal
 
 pub returns-in_err-write_port_files-clause-err : goal.returns-in_err-write_port_files-clause-err
 returns-in_err-write_port_files-clause-err g c = λ t.

@@ -3,8 +3,8 @@ use Rattle.std.proofs.lemmas.Result.{err_from_is_err_and}
 use Rattle.edge_io.specs.Shelf.{Told}
 use Rattle.spec_run.specs.Outputs.{port_file}
 use Rattle.pmd_board.specs.BoardView.{journals_view}
-use Rattle.switch_app.proofs.Written.{files_more, cut_in_at}
-use Rattle.switch_app.proofs.writing.write_port_files.Goals as goal
+use Rattle.switch_output.proofs.Written.{files_more, cut_in_at}
+use Rattle.switch_output.proofs.writing.write_port_files.Goals as goal
 
 pub returns-in_err-write_port_file-clause-err : goal.returns-in_err-write_port_file-clause-err
 returns-in_err-write_port_file-clause-err g c = λ t.

@@ -1,0 +1,29 @@
+//! How a run that was refused is told: its exit status, and the text that is printed.
+//!
+//! # What?
+//!
+//! Words and files can be refused, files can't be read or written, and memory may run out. `spec_run` has a status and a
+//! text for each; this crate gives the one and prints the other, to a sink.
+//!
+//! # What is promised
+//!
+//! The statuses and the texts are those of `spec_run`. A sink that tells its bytes has got all of the text where it needs no
+//! memory and didn't fail, and else a prefix. Nothing else is printed, and no call takes memory or can fail.
+//!
+//! # How
+//!
+//! Texts are printed piece by piece, up to the first at which the sink fails, so that why a run was refused can be told
+//! without memory. Digits are those of `itoa`.
+//!
+//! # What is left to others
+//!
+//! Which refusal it is (`switch_input`, `switch_output`), and what ends with the status.
+#![tactic(auto)]
+
+mod say;
+mod status;
+
+pub use say::{say_input_refusal, say_out_of_memory, say_write_fault};
+pub use status::{
+    DONE, LIMIT, NOT_BUILT, OUT_OF_MEMORY, READ_FAULT, TRACE, WRITE_FAULT, input_status,
+};

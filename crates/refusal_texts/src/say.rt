@@ -1,0 +1,120 @@
+//! The texts of refusals. They are printed piece by piece, so that none takes memory.
+ghost use Rattle.std.specs.Prelude.{◌≡◌, ◌++◌, IsTrue, codes};
+ghost use Rattle.std.specs.Fmt.{decimal};
+ghost use Rattle.spec_run.specs.Statuses.{Prints, trace_text, limit_text, text_of as refusal_text, write_fault_text, out_of_memory_text};
+ghost use Rattle.switch_input.specs.Refused.{fault_view};
+ghost use Rattle.refusal_texts.specs.Pieces.{joined};
+ghost use Rattle.refusal_texts.specs.Refused.{input_text};
+
+use edge_io::{Sink, say_all};
+use itoa::Buffer;
+use spec_pcap::PcapFault;
+use spec_run::Quantity;
+use switch_input::{InputFault, InputRefusal, MOST_FRAMES, MOST_TRACE_BYTES};
+
+// Prints texts, one after the other, up to the first at which the sink fails.
+fn say_pieces<K: Sink>(say: &mut K, pieces: &[&str])
+    ensures { IsTrue K.tells → Prints K.needs_memory (K.faults say.old) (K.faults say.new) (K.written say.old)
+        (K.written say.new) (joined pieces.now) }
+{
+    'pieces: for piece in pieces {
+        match say_all(say, piece.as_bytes()) {
+            Ok(()) => {}
+            Err(_) => return,
+        }
+    }
+}
+
+// Prints a line that ends with a number.
+fn say_number<K: Sink>(say: &mut K, name: &str, what: &str, number: usize)
+    ensures { IsTrue K.tells
+        → Prints K.needs_memory (K.faults say.old) (K.faults say.new) (K.written say.old) (K.written say.new)
+        (name.now ++ (what.now ++ (decimal number ++ codes "\n"))) }
+{
+    let mut digits = Buffer::new();
+    say_pieces(say, &[name, what, digits.format(number), "\n"]);
+}
+
+fn say_version<K: Sink>(say: &mut K, name: &str, major: u16, minor: u16)
+    ensures { IsTrue K.tells
+        → Prints K.needs_memory (K.faults say.old) (K.faults say.new) (K.written say.old) (K.written say.new)
+        (trace_text name.now (PcapFault.Version major minor)) }
+{
+    let mut first = Buffer::new();
+    let mut second = Buffer::new();
+    let pieces = [
+        name,
+        ": version ",
+        first.format(major),
+        ".",
+        second.format(minor),
+        "\n",
+    ];
+    say_pieces(say, &pieces);
+}
+
+fn say_trace<K: Sink>(say: &mut K, name: &str, fault: PcapFault)
+    ensures { IsTrue K.tells → Prints K.needs_memory (K.faults say.old) (K.faults say.new) (K.written say.old)
+        (K.written say.new) (trace_text name.now fault) }
+{
+    match fault {
+        PcapFault::ShortHeader => say_pieces(say, &[name, ": short header\n"]),
+        PcapFault::Magic => say_pieces(say, &[name, ": magic\n"]),
+        PcapFault::Version { major, minor } => say_version(say, name, major, minor),
+        PcapFault::LinkType(number) => say_number(say, name, ": link type ", number as usize),
+        PcapFault::ShortRecord { at } => say_number(say, name, ": short record at ", at),
+        PcapFault::TooLong { at, .. } => say_number(say, name, ": too long at ", at),
+        PcapFault::Fraction { at } => say_number(say, name, ": fraction at ", at),
+        PcapFault::TooManyFrames => say_pieces(say, &[name, ": too many frames\n"]),
+        PcapFault::OutOfMemory => say_pieces(say, &[name, ": out of memory\n"]),
+    }
+}
+
+fn say_limit<K: Sink>(say: &mut K, quantity: Quantity)
+    ensures { IsTrue K.tells → Prints K.needs_memory (K.faults say.old) (K.faults say.new) (K.written say.old)
+        (K.written say.new) (limit_text quantity) }
+{
+    match quantity {
+        Quantity::TraceBytes => say_number(say, "limit: ", "trace-bytes ", MOST_TRACE_BYTES),
+        Quantity::Frames => say_number(say, "limit: ", "frames ", MOST_FRAMES),
+    }
+}
+
+fn say_fault<K: Sink>(say: &mut K, fault: &InputFault<'_>)
+    ensures { IsTrue K.tells → Prints K.needs_memory (K.faults say.old) (K.faults say.new) (K.written say.old)
+        (K.written say.new) (refusal_text (fault_view fault.now)) }
+{
+    match fault {
+        InputFault::NotBuilt { what } => say_pieces(say, &["not built: ", what, "\n"]),
+        InputFault::Trace { name, fault } => say_trace(say, name, *fault),
+        InputFault::Limit(quantity) => say_limit(say, *quantity),
+    }
+}
+
+/// Prints why the words and the files were not read.
+pub fn say_input_refusal<K: Sink>(say: &mut K, refusal: &InputRefusal<'_>)
+    ensures { IsTrue K.tells → Prints K.needs_memory (K.faults say.old) (K.faults say.new) (K.written say.old)
+        (K.written say.new) (input_text refusal.now) }
+{
+    match refusal {
+        InputRefusal::Input(fault) => say_fault(say, fault),
+        InputRefusal::ReadFault { name } => say_pieces(say, &["read fault: ", name, "\n"]),
+        InputRefusal::OutOfMemory => say_out_of_memory(say),
+    }
+}
+
+/// Prints that writing the file of this name failed.
+pub fn say_write_fault<K: Sink>(say: &mut K, name: &str)
+    ensures { IsTrue K.tells → Prints K.needs_memory (K.faults say.old) (K.faults say.new) (K.written say.old)
+        (K.written say.new) (write_fault_text name.now) }
+{
+    say_pieces(say, &["write fault: ", name, "\n"]);
+}
+
+/// Prints that memory ran out. It takes none.
+pub fn say_out_of_memory<K: Sink>(say: &mut K)
+    ensures { IsTrue K.tells → Prints K.needs_memory (K.faults say.old) (K.faults say.new) (K.written say.old)
+        (K.written say.new) out_of_memory_text }
+{
+    say_pieces(say, &["out of memory\n"]);
+}

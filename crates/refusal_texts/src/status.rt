@@ -1,0 +1,39 @@
+//! The exit statuses, as `spec_run` has them.
+ghost use Rattle.std.specs.Prelude.{◌≡◌};
+ghost use Rattle.refusal_texts.specs.Refused.{input_status};
+
+use switch_input::{InputFault, InputRefusal};
+
+/// All was done.
+pub const DONE: u8 = 0;
+
+/// A trace is no capture file that is read.
+pub const TRACE: u8 = 4;
+
+/// A file was not read.
+pub const READ_FAULT: u8 = 5;
+
+/// A file was not written.
+pub const WRITE_FAULT: u8 = 6;
+
+/// A quantity is above its limit.
+pub const LIMIT: u8 = 7;
+
+/// Memory ran out.
+pub const OUT_OF_MEMORY: u8 = 8;
+
+/// A form isn't built.
+pub const NOT_BUILT: u8 = 9;
+
+/// The exit status where the words and the files were not read.
+pub fn input_status(refusal: &InputRefusal<'_>) -> u8
+    ensures { result ≡ input_status refusal.now }
+{
+    match refusal {
+        InputRefusal::Input(InputFault::NotBuilt { .. }) => NOT_BUILT,
+        InputRefusal::Input(InputFault::Trace { .. }) => TRACE,
+        InputRefusal::Input(InputFault::Limit(_)) => LIMIT,
+        InputRefusal::ReadFault { .. } => READ_FAULT,
+        InputRefusal::OutOfMemory => OUT_OF_MEMORY,
+    }
+}
