@@ -42,7 +42,7 @@
 //! # What is left to others
 //!
 //! Words and files to `switch_input`, rules to `rule_tables`, the run and its blocks to `run_case`, boards to `pmd_board`
-//! and `step_runner`, the order of frames to `egress_merge`, the files to `switch_output`, texts and statuses to
+//! and `step_runner`, the order of arrivals to `frame_arrivals`, the files to `switch_output`, texts and statuses to
 //! `refusal_texts`, and all that touches the system to `edge_io`.
 #![tactic(auto)]
 

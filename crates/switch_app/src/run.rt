@@ -19,7 +19,7 @@ use crate::rules::rules_of;
 use crate::say::say_refusal;
 use crate::status::status_of;
 use edge_io::{Gate, Shelf, Sink};
-use egress_merge::arrivals_of;
+use frame_arrivals::arrivals_of;
 use refusal_texts::DONE;
 use run_case::{Case, Ports, RunData};
 use std::alloc::{AllocError, Global};

@@ -19,7 +19,7 @@
 //!
 //! # What is left to others
 //!
-//! That all frames are decided, the order of arrivals (`egress_merge`), and what a refusal is told as.
+//! That all frames are decided, the order of arrivals (`frame_arrivals`), and what a refusal is told as.
 #![tactic(auto)]
 
 mod refusal;

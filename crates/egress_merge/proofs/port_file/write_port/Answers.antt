@@ -10,7 +10,7 @@ use Rattle.edge_io.specs.Shelf.{Told}
 use Rattle.edge_io.proofs.Always.{on_err}
 use Rattle.edge_io.proofs.Files.{created_prefix, closed_prefix, closed_whole}
 use Rattle.egress_merge.proofs.Prefixes.{header_prefix, pieces_cut}
-use Rattle.egress_merge.proofs.Places.{are_arrivals}
+use Rattle.frame_arrivals.proofs.Places.{are_arrivals}
 use Rattle.egress_merge.proofs.port_file.write_port.Goals as goal
 
 pub returns-in_err-writer-clause-err : goal.returns-in_err-writer-clause-err

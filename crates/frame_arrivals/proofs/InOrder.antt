@@ -9,7 +9,7 @@ use Rattle.std.specs.Cmp.{IsStrictWeakOrder}
 use Rattle.std.specs.List.Sorted.{IsSorted, IsStable, ties}
 use Rattle.spec_case.specs.declared.arrival.Arrival.{Arrival}
 use Rattle.spec_case.specs.Arrivals.{arrival_cmp, comes_before, put_in_order, in_order}
-use Rattle.egress_merge.proofs.StableSorts.{filter-exchanged, ties_with_one, Rises, Rises-head, Rises-tail, Rises-from_sort, same_from_ties}
+use Rattle.frame_arrivals.proofs.StableSorts.{filter-exchanged, ties_with_one, Rises, Rises-head, Rises-tail, Rises-from_sort, same_from_ties}
 
 -- by three numbers, one after the other
 order : IsStrictWeakOrder comes_before

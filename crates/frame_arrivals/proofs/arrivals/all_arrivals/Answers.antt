@@ -1,7 +1,7 @@
 use Rattle.std.proofs.Common.{◌≡◌, sym, ap, ◌∙◌, arith}
 use Rattle.std.proofs.lemmas.List.{take_all}
-use Rattle.egress_merge.proofs.Places.{arrivals_to, arrivals-by_port}
-use Rattle.egress_merge.proofs.arrivals.all_arrivals.Goals as goal
+use Rattle.frame_arrivals.proofs.Places.{arrivals_to, arrivals-by_port}
+use Rattle.frame_arrivals.proofs.arrivals.all_arrivals.Goals as goal
 
 pub returns : goal.returns
 returns g c =

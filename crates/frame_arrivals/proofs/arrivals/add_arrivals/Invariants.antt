@@ -1,7 +1,7 @@
 use Rattle.std.proofs.Common.{◌≡◌, ◌+◌, ◌++◌, drop}
 use Rattle.spec_case.specs.Run.{frames_of}
 use Rattle.spec_case.specs.Arrivals.{arrivals_at}
-use Rattle.egress_merge.proofs.arrivals.add_arrivals.Given as goal
+use Rattle.frame_arrivals.proofs.arrivals.add_arrivals.Given as goal
 
 abbrev pub invariant-places : goal.invariant-places
 invariant-places g l =

@@ -11,8 +11,8 @@ use Rattle.spec_case.specs.declared.arrival.Arrival.{Arrival}
 use Rattle.spec_case.specs.Run.{Run, frames_in, frames_of}
 use Rattle.spec_case.specs.Arrivals.{arrivals_at, arrivals_in, arrivals, in_order}
 use Rattle.run_blocks.specs.Places.{HasPort}
-use Rattle.egress_merge.specs.Boards.{IsArrival}
-use Rattle.egress_merge.proofs.InOrder.{All-put_in_order}
+use Rattle.frame_arrivals.specs.Arrivals.{IsArrival}
+use Rattle.frame_arrivals.proofs.InOrder.{All-put_in_order}
 
 -- ---- at one port
 

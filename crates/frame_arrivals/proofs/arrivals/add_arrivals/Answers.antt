@@ -1,7 +1,7 @@
 use Rattle.std.proofs.Common.{arith}
 use Rattle.spec_case.specs.Run.{frames_of}
-use Rattle.egress_merge.proofs.Places.{next_arrival, last_arrival}
-use Rattle.egress_merge.proofs.arrivals.add_arrivals.Goals as goal
+use Rattle.frame_arrivals.proofs.Places.{next_arrival, last_arrival}
+use Rattle.frame_arrivals.proofs.arrivals.add_arrivals.Goals as goal
 
 pub places-preserved : goal.places-preserved
 places-preserved g c =

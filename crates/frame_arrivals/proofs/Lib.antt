@@ -1,0 +1,4 @@
+pub mod InOrder
+mod Rows
+pub mod StableSorts
+pub mod Places
