@@ -1,5 +1,1 @@
 pub mod Lines
-pub mod Cuts
-pub mod Reading
-pub mod Rows
-pub mod StepWords

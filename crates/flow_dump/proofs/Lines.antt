@@ -3,8 +3,8 @@ use Rattle.std.proofs.Common.{◌≡◌, ℕ, List}
 use Rattle.std.specs.List.{flat_map}
 use Rattle.std.proofs.lemmas.List.Folds.{flat_map-map}
 use Rattle.spec_board.specs.Texts.{line_of, step_text, journal_text, journals_text}
-use Rattle.pmd_board.specs.declared.step.Step.{Step}
-use Rattle.pmd_board.specs.StepViews.{step_view, steps_view}
+use Rattle.board_steps.specs.declared.step.Step.{Step}
+use Rattle.board_steps.specs.StepViews.{step_view, steps_view}
 use Rattle.pmd_board.specs.BoardView.{BoardView, journal_view, journals_view}
 use Rattle.flow_dump.specs.Lines.{steps_text}
 

@@ -3,16 +3,16 @@ ghost use Rattle.spec_board.specs.Texts.{line_of, word_with, step_text, journal_
 ghost use Rattle.edge_io.specs.declared.outside.InUse.TheVariants.{Nothing, Created};
 ghost use Rattle.edge_io.specs.Counts.{HasCause, with_write_fault};
 ghost use Rattle.edge_io.specs.Shelf.{wrote, kept};
-ghost use Rattle.pmd_board.specs.StepViews.{step_view, steps_view};
+ghost use Rattle.board_steps.specs.StepViews.{step_view, steps_view};
 ghost use Rattle.pmd_board.specs.BoardView.{journal_view, journals_view};
 ghost use Rattle.flow_dump.specs.Lines.{steps_text};
 ghost use Rattle.edge_io.specs.Written.{written, WrotePrefix};
 ghost use Rattle.spec_base.specs.Files.{IsPrefixOf};
-ghost use Rattle.flow_dump.specs.Printable.{IsPrintable, IsPrintableStep, IsPrintableJournal};
+ghost use Rattle.board_steps.specs.Printable.{IsPrintable, IsPrintableStep, IsPrintableJournal};
 
-use crate::step_text::push_step;
+use board_steps::{Step, push_step};
 use edge_io::{Failed, Shelf, write_all};
-use pmd_board::{Board, Step};
+use pmd_board::Board;
 use run_case::Case;
 use std::alloc::Global;
 use std::fmt::Write;

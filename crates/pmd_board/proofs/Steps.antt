@@ -20,9 +20,9 @@ use Rattle.board_laws.proofs.Looked.{next_after}
 use Rattle.board_laws.proofs.Once.{decided_in}
 use Rattle.board_laws.proofs.Stated.{few_entries, look_misses, places_after, versions_after}
 use Rattle.run_blocks.specs.Places.{HasPort}
-use Rattle.pmd_board.specs.declared.step.Step as rust
+use Rattle.board_steps.specs.declared.step.Step as rust
 use Rattle.pmd_board.specs.declared.board.Board.TheInside.{Inside}
-use Rattle.pmd_board.specs.StepViews.{step_view, steps_view}
+use Rattle.board_steps.specs.StepViews.{step_view, steps_view}
 use Rattle.pmd_board.specs.BoardView.{BoardView, Appends, IsDecision, state_of, with_step}
 use Rattle.pmd_board.specs.Fields.{view_of, AreVersionsOf, ArePlacesOf, NamesList, AreBounds, HasRoom, IsLawful, IsKept}
 

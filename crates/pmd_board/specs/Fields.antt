@@ -11,7 +11,7 @@ use Rattle.board_laws.specs.Versions.{HasVersionsInOrder}
 use Rattle.board_laws.specs.Places.{ArePlaces}
 use Rattle.run_blocks.specs.Places.{HasPort}
 use Rattle.pmd_board.specs.BoardView.{BoardView, state_of}
-use Rattle.pmd_board.specs.StepViews.{steps_view}
+use Rattle.board_steps.specs.StepViews.{steps_view}
 use Rattle.pmd_board.specs.declared.place.Place.{Place}
 use Rattle.pmd_board.specs.declared.place.Place.TheVariants.{Waiting, Pending, Decided}
 use Rattle.pmd_board.specs.declared.place.BlockBounds.{BlockBounds}

@@ -1,3 +1,2 @@
-pub mod StepViews
 pub mod BoardView
 pub mod Fields

@@ -17,10 +17,10 @@ ghost use Rattle.board_laws.specs.Versions.{HasVersionsInOrder};
 ghost use Rattle.board_laws.specs.Places.{ArePlaces};
 ghost use Rattle.pmd_board.specs.BoardView.{Appends, IsDecision, state_of};
 ghost use Rattle.pmd_board.specs.Fields.{AreBounds, steps_left as left};
-ghost use Rattle.pmd_board.specs.StepViews.{settled_view, steps_view};
+ghost use Rattle.board_steps.specs.StepViews.{settled_view, steps_view};
 
 use crate::place::{BlockBounds, Place};
-use crate::step::{Settled, Step};
+use board_steps::{Settled, Step};
 use dp_actions::{ActionList, DpAction};
 use run_case::{Case, Keyed, RunData};
 use spec_board::{BeginFault, EndFault, LookFault, Looked, OpenFault, SettleFault};

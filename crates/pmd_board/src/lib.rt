@@ -42,12 +42,11 @@
 
 mod board;
 mod place;
-mod step;
 mod threads;
 
 pub use board::Board;
+pub use board_steps::{EntryNumbers, Settled, Step};
 pub use dp_actions::ActionList;
 pub use spec_board::{
     BeginFault, EndFault, LookFault, Looked, OpenFault, PutDone, PutFault, SettleFault,
 };
-pub use step::{EntryNumbers, Settled, Step};

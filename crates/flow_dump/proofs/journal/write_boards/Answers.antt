@@ -4,7 +4,7 @@ use Rattle.std.proofs.lemmas.List.Elements.{All-map, All-more}
 use Rattle.std.proofs.lemmas.Result.{err_from_is_err_and}
 use Rattle.edge_io.proofs.Pieces.{prefix_of_one, wrote_more}
 use Rattle.pmd_board.specs.BoardView.{journal_view}
-use Rattle.flow_dump.specs.Printable.{IsPrintableJournal}
+use Rattle.board_steps.specs.Printable.{IsPrintableJournal}
 use Rattle.flow_dump.proofs.Lines.{text_of_board, journals_text-is}
 use Rattle.flow_dump.proofs.journal.write_boards.Goals as goal
 

@@ -4,7 +4,7 @@ use Rattle.std.specs.List.{flat_map}
 use Rattle.edge_io.specs.declared.outside.InUse.TheVariants.{Created}
 use Rattle.edge_io.specs.Shelf.{wrote}
 use Rattle.pmd_board.specs.BoardView.{journal_view}
-use Rattle.flow_dump.specs.Printable.{IsPrintableJournal}
+use Rattle.board_steps.specs.Printable.{IsPrintableJournal}
 use Rattle.flow_dump.proofs.Lines.{text_of_board}
 use Rattle.flow_dump.proofs.journal.write_boards.Given as goal
 

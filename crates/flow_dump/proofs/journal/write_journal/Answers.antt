@@ -1,7 +1,7 @@
 use Rattle.std.specs.Prelude.{codes}
 use Rattle.std.proofs.lemmas.Result.{err_from_is_err_and, on_err_weaker}
 use Rattle.spec_board.specs.Texts.{line_of, word_with}
-use Rattle.pmd_board.specs.StepViews.{steps_view}
+use Rattle.board_steps.specs.StepViews.{steps_view}
 use Rattle.flow_dump.specs.Lines.{steps_text}
 use Rattle.edge_io.proofs.Pieces.{prefix_of_first, prefix_of_second}
 use Rattle.flow_dump.proofs.journal.write_journal.Goals as goal

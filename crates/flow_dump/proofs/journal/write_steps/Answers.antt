@@ -3,8 +3,8 @@ use Rattle.std.proofs.lemmas.List.{take_all}
 use Rattle.std.proofs.lemmas.List.Elements.{All-map, All-more}
 use Rattle.std.proofs.lemmas.Result.{err_from_is_err_and}
 use Rattle.edge_io.proofs.Pieces.{prefix_of_one, wrote_more}
-use Rattle.pmd_board.specs.StepViews.{step_view}
-use Rattle.flow_dump.specs.Printable.{IsPrintableStep}
+use Rattle.board_steps.specs.StepViews.{step_view}
+use Rattle.board_steps.specs.Printable.{IsPrintableStep}
 use Rattle.flow_dump.proofs.Lines.{line_of_step, steps_text-is}
 use Rattle.flow_dump.proofs.journal.write_steps.Goals as goal
 

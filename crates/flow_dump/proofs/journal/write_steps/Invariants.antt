@@ -3,8 +3,8 @@ use Rattle.std.specs.Prelude.{All}
 use Rattle.std.specs.List.{flat_map}
 use Rattle.edge_io.specs.declared.outside.InUse.TheVariants.{Created}
 use Rattle.edge_io.specs.Shelf.{wrote}
-use Rattle.pmd_board.specs.StepViews.{step_view}
-use Rattle.flow_dump.specs.Printable.{IsPrintableStep}
+use Rattle.board_steps.specs.StepViews.{step_view}
+use Rattle.board_steps.specs.Printable.{IsPrintableStep}
 use Rattle.flow_dump.proofs.Lines.{line_of_step}
 use Rattle.flow_dump.proofs.journal.write_steps.Given as goal
 

@@ -1,7 +1,7 @@
 use Rattle.std.proofs.Common.{◌≡◌, subst}
 use Rattle.spec_case.specs.Run.{Run}
 use Rattle.spec_board.specs.State as states
-use Rattle.pmd_board.specs.StepViews.{steps_view}
+use Rattle.board_steps.specs.StepViews.{steps_view}
 use Rattle.pmd_board.specs.BoardView.{BoardView, IsDecision, state_of}
 use Rattle.pmd_board.proofs.Steps.{decision_in}
 use Rattle.pmd_board.proofs.board.Board.decision.Goals as goal

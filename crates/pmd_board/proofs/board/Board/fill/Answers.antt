@@ -7,8 +7,8 @@ use Rattle.spec_board.specs.Refusals.{settle_fault}
 use Rattle.spec_board.specs.Journals.{Legal}
 use Rattle.board_laws.proofs.Refusals.{may_settle}
 use Rattle.board_laws.proofs.PlaceLaws.{decided_written}
-use Rattle.pmd_board.specs.declared.step.Step.TheVariants as rust
-use Rattle.pmd_board.specs.declared.step.Settled.TheVariants as rust_settled
+use Rattle.board_steps.specs.declared.step.Step.TheVariants as rust
+use Rattle.board_steps.specs.declared.step.Settled.TheVariants as rust_settled
 use Rattle.pmd_board.specs.declared.place.Place.TheVariants as rust_place
 use Rattle.pmd_board.specs.BoardView.{BoardView, state_of}
 use Rattle.pmd_board.specs.Fields.{view_of}

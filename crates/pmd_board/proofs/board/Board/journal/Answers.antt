@@ -3,7 +3,7 @@ use Rattle.spec_case.specs.Run.{Run}
 use Rattle.spec_board.specs.State as states
 use Rattle.spec_board.specs.Decisions.{IsDecided}
 use Rattle.board_laws.proofs.Stated.{decided_after}
-use Rattle.pmd_board.specs.StepViews.{steps_view}
+use Rattle.board_steps.specs.StepViews.{steps_view}
 use Rattle.pmd_board.specs.BoardView.{BoardView, state_of}
 use Rattle.pmd_board.proofs.board.Board.journal.Goals as goal
 

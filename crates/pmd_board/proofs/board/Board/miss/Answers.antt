@@ -10,9 +10,9 @@ use Rattle.spec_board.specs.Refusals.{look_fault}
 use Rattle.spec_board.specs.Journals.{Legal}
 use Rattle.board_laws.proofs.Refusals.{may_look}
 use Rattle.board_laws.proofs.PlaceLaws.{pending_written}
-use Rattle.pmd_board.specs.declared.step.Step.TheVariants as rust
+use Rattle.board_steps.specs.declared.step.Step.TheVariants as rust
 use Rattle.pmd_board.specs.declared.place.Place.TheVariants as rust_place
-use Rattle.pmd_board.specs.StepViews.{steps_view}
+use Rattle.board_steps.specs.StepViews.{steps_view}
 use Rattle.pmd_board.specs.BoardView.{BoardView, state_of}
 use Rattle.pmd_board.specs.Fields.{view_of, place_view, NamesList}
 use Rattle.pmd_board.proofs.Steps.{missed, key_looked_up, pushed, view_pushed}

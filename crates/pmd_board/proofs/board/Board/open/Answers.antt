@@ -3,7 +3,7 @@ use Rattle.spec_case.specs.Run.{Run}
 use Rattle.spec_board.specs.State.{State}
 use Rattle.spec_board.specs.Refusals.{open_fault}
 use Rattle.board_laws.proofs.Refusals.{MayOpen, may_open}
-use Rattle.pmd_board.specs.declared.step.Step.TheVariants as rust
+use Rattle.board_steps.specs.declared.step.Step.TheVariants as rust
 use Rattle.pmd_board.specs.BoardView.{BoardView, state_of}
 use Rattle.pmd_board.specs.Fields.{view_of}
 use Rattle.pmd_board.proofs.Steps.{pushed}

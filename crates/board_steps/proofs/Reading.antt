@@ -10,9 +10,9 @@ use Rattle.std.proofs.lemmas.List.Elements.{All-head, All-tail}
 use Rattle.std.proofs.lemmas.List.Folds.{flat_map-map, list_all-append}
 use Rattle.spec_board.specs.Steps.{Step}
 use Rattle.spec_board.specs.Texts.{Journal, line_of, word_with, step_text, journal_text, journals_text}
-use Rattle.flow_dump.specs.Printable.{IsPrintable, IsPrintableStep, IsPrintableJournal}
-use Rattle.flow_dump.proofs.Cuts.{is_space, is_feed, is_word, is_line, with_spaces, split_words, split_lines, words_are_line}
-use Rattle.flow_dump.proofs.StepWords.{number_is_word, value_is, first_word, other_words, step_text-is, first_is_word, others_are_words, says, number_at, read_step, read_step-is, not_port}
+use Rattle.board_steps.specs.Printable.{IsPrintable, IsPrintableStep, IsPrintableJournal}
+use Rattle.board_steps.proofs.Cuts.{is_space, is_feed, is_word, is_line, with_spaces, split_words, split_lines, words_are_line}
+use Rattle.board_steps.proofs.StepWords.{number_is_word, value_is, first_word, other_words, step_text-is, first_is_word, others_are_words, says, number_at, read_step, read_step-is, not_port}
 
 -- ---- the lines of journals
 

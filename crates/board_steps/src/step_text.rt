@@ -2,10 +2,11 @@
 ghost use Rattle.std.specs.Prelude.{◌≡◌, ◌++◌, OnOk, All, codes, string_bytes};
 ghost use Rattle.std.specs.Fmt.{decimal};
 ghost use Rattle.spec_board.specs.Texts.{dropped_text, looked_text, put_text, settled_text, step_text, word_with};
-ghost use Rattle.pmd_board.specs.StepViews.{settled_view, step_view};
-ghost use Rattle.flow_dump.specs.Printable.{IsPrintable, IsPrintableLooked, IsPrintableSettled, IsPrintableStep};
+ghost use Rattle.board_steps.specs.StepViews.{settled_view, step_view};
+ghost use Rattle.board_steps.specs.Printable.{IsPrintable, IsPrintableLooked, IsPrintableSettled, IsPrintableStep};
 
-use pmd_board::{Looked, PutDone, Settled, Step};
+use crate::step::{Settled, Step};
+use spec_board::{Looked, PutDone};
 use std::alloc::AllocError;
 use std::fmt::Write;
 
@@ -77,7 +78,7 @@ fn push_put(line: &mut String, put: PutDone) -> Result<(), AllocError>
 }
 
 /// Adds the text of a step, without a line feed.
-pub(crate) fn push_step(line: &mut String, step: &Step) -> Result<(), AllocError>
+pub fn push_step(line: &mut String, step: &Step) -> Result<(), AllocError>
     ensures text { OnOk result (string_bytes line.new ≡ string_bytes line.old ++ step_text (step_view step.now)) }
     ensures printable { OnOk result (IsPrintableStep (step_view step.now)) }
 {

@@ -1,8 +1,8 @@
 use Rattle.std.proofs.Common.{◌≡◌, ◌++◌, take, string_bytes}
 use Rattle.std.specs.Prelude.{codes, All}
 use Rattle.spec_board.specs.Texts.{numbers_text}
-use Rattle.flow_dump.specs.Printable.{IsPrintable}
-use Rattle.flow_dump.proofs.step_text.push_dropped.Given as goal
+use Rattle.board_steps.specs.Printable.{IsPrintable}
+use Rattle.board_steps.proofs.step_text.push_dropped.Given as goal
 
 abbrev pub invariant-numbers : goal.invariant-numbers
 invariant-numbers l = record {

@@ -17,8 +17,8 @@ use Rattle.spec_board.specs.declared.put_done.PutDone.{PutDone}
 use Rattle.spec_board.specs.declared.put_done.PutDone.TheVariants.{Idle, Removed, Kept, Replaced}
 use Rattle.spec_board.specs.Steps.{Step, Open, Look, Settle, Begin, Put, End, Settled, Present, Full, Installed}
 use Rattle.spec_board.specs.Texts.{step_text, looked_text, settled_text, put_text, numbers_text}
-use Rattle.flow_dump.specs.Printable.{IsPrintable, IsPrintableLooked, IsPrintableSettled, IsPrintableStep}
-use Rattle.flow_dump.proofs.Cuts.{is_word, with_spaces}
+use Rattle.board_steps.specs.Printable.{IsPrintable, IsPrintableLooked, IsPrintableSettled, IsPrintableStep}
+use Rattle.board_steps.proofs.Cuts.{is_word, with_spaces}
 
 -- ---- numbers
 

@@ -1,5 +1,5 @@
-use crate::step_text::push_step;
-use pmd_board::{EntryNumbers, Looked, PutDone, Settled, Step};
+use super::*;
+use spec_board::{Looked, PutDone};
 use std::test::Fail;
 
 const EVERY_KIND: &str = "open 0

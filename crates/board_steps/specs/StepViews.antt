@@ -1,10 +1,10 @@
 -- Steps, as the definitions see them.
 use Rattle.std.specs.Prelude.{List, map}
 use Rattle.spec_board.specs.Steps as steps
-use Rattle.pmd_board.specs.declared.step.Settled.{Settled}
-use Rattle.pmd_board.specs.declared.step.Settled.TheVariants.{Present, Full, Installed}
-use Rattle.pmd_board.specs.declared.step.Step.{Step}
-use Rattle.pmd_board.specs.declared.step.Step.TheVariants.{Open, Look, Settle, Begin, Put, End}
+use Rattle.board_steps.specs.declared.step.Settled.{Settled}
+use Rattle.board_steps.specs.declared.step.Settled.TheVariants.{Present, Full, Installed}
+use Rattle.board_steps.specs.declared.step.Step.{Step}
+use Rattle.board_steps.specs.declared.step.Step.TheVariants.{Open, Look, Settle, Begin, Put, End}
 
 abbrev pub settled_view : Settled → steps.Settled
 settled_view (Present n) = steps.Present n

@@ -1,0 +1,4 @@
+pub mod Cuts
+pub mod Reading
+pub mod Rows
+pub mod StepWords

@@ -1,0 +1,2 @@
+pub mod StepViews
+pub mod Printable

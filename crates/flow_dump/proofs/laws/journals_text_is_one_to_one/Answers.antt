@@ -1,5 +1,0 @@
-use Rattle.flow_dump.proofs.Reading.{one_to_one}
-use Rattle.flow_dump.proofs.laws.journals_text_is_one_to_one.Goals as goal
-
-pub returns : goal.returns
-returns c = one_to_one
