@@ -8,32 +8,30 @@ use crate::case::Case;
 use crate::keyed::Keyed;
 use frame_keys::key_of;
 use pcap_reader::Trace;
-use rule_tables::Edit;
 use run_blocks::{BlockEnds, Ports, all_block_ends, block_of};
 use spec_tables::SyncPoint;
 use std::alloc::{AllocError, Global};
 use std::marker::PhantomData;
 
-/// What one run is given, and where the blocks of its traces end.
+/// What one run is given, of its edits their number, and where the blocks of its traces end.
 ///
-/// Ports stand in the order of the words, the trace of each at the same place. Edits and places of a trace are counted
-/// from 1, blocks from 0, and times are in nanoseconds.
+/// Ports stand in the order of the words, the trace of each at the same place. Places of a trace are counted from 1,
+/// blocks from 0, and times are in nanoseconds.
 #[derive(Debug, Drop)]
 pub struct RunData<C: Case> {
     ports: Ports,
-    edits: Vec<Edit>,
+    edit_count: u32,
     syncs: Vec<SyncPoint>,
     traces: Vec<Trace>,
     ends: Vec<BlockEnds>,
     of: PhantomData<C>,
     ghost ports_are: { ports ≡ C.run.ports },
-    ghost edits_are: { edits.items ≡ C.run.edits },
+    ghost edits_are: { edit_count ≡ length C.run.edits },
     ghost syncs_are: { syncs.items ≡ C.run.syncs },
     ghost traces_are: { traces.items ≡ C.run.traces },
     ghost ends_are: { ends.items ≡ map (ends_of C.run.syncs) C.run.traces },
     ghost one_each: { length C.run.traces ≡ length C.run.ports },
     ghost in_order: { AreInOrder C.run.syncs (last_version C.run) },
-    ghost few_edits: { length C.run.edits < 2 ^ 32 },
     ghost few_syncs: { length C.run.syncs + 1 < 2 ^ 32 },
     ghost counted: { AreCounted C.run.traces },
 }
@@ -44,24 +42,23 @@ impl<C: Case> RunData<C> {
     pub fn new(
         alloc: Global,
         ports: Ports,
-        edits: Vec<Edit>,
+        edit_count: u32,
         syncs: Vec<SyncPoint>,
         traces: Vec<Trace>,
     ) -> Result<RunData<C>, AllocError>
         requires ports { ports ≡ C.run.ports }
-        requires edits { edits.items ≡ C.run.edits }
+        requires edits { edit_count ≡ length C.run.edits }
         requires syncs { syncs.items ≡ C.run.syncs }
         requires traces { traces.items ≡ C.run.traces }
         requires one_each { length C.run.traces ≡ length C.run.ports }
         requires in_order { AreInOrder C.run.syncs (last_version C.run) }
-        requires few_edits { length C.run.edits < 2 ^ 32 }
         requires few_syncs { length C.run.syncs + 1 < 2 ^ 32 }
         requires counted { AreCounted C.run.traces }
     {
         let ends = all_block_ends(alloc, &syncs, &traces)?;
         Ok(RunData {
             ports,
-            edits,
+            edit_count,
             syncs,
             traces,
             ends,
@@ -118,22 +115,13 @@ impl<C: Case> RunData<C> {
     pub fn last_version(&self) -> u32
         ensures { result ≡ last_version C.run }
     {
-        self.edits.len() as u32
+        self.edit_count
     }
 
     pub fn edit_count(&self) -> u32
         ensures { result ≡ length C.run.edits }
     {
-        self.edits.len() as u32
-    }
-
-    /// The edit with a number, from 1.
-    pub fn edit(&self, number: u32) -> &Edit
-        requires first { 1 ≤ number }
-        requires last { number ≤ length C.run.edits }
-        ensures { slice_get C.run.edits (number - 1) ≡ Some result.now }
-    {
-        &self.edits[number as usize - 1]
+        self.edit_count
     }
 
     // The place of a port among the ports, and of its trace among the traces.

@@ -85,7 +85,7 @@ fn in_run<C: Case>(
     requires few { length C.run.syncs < 100 }
     requires counted { AreCounted C.run.traces }
 {
-    let run = RunData::<C>::new(alloc, ports, Vec::new(alloc), syncs, traces)?;
+    let run = RunData::<C>::new(alloc, ports, 0, syncs, traces)?;
     assert_eq!(rt; run.frames(EMPTY_PORT), 0);
     assert_eq!(rt; run.frames(FULL_PORT), 3);
     for index in 0..3u32 {

@@ -9,9 +9,9 @@ use Rattle.edge_io.specs.declared.outside.InUse.{InUse}
 use Rattle.edge_io.specs.Shelf.{Told}
 use Rattle.edge_io.specs.ReadAll.{OnlyRead}
 use Rattle.edge_io.specs.Written.{written}
-use Rattle.switch_input.specs.declared.refusal.InputRefusal.{InputRefusal}
-use Rattle.switch_input.specs.declared.refusal.InputRefusal.TheVariants as input
-use Rattle.switch_input.specs.Refused.{Explains, IfReadFault}
+use Rattle.switch_refusals.specs.declared.refusal.InputRefusal.{InputRefusal}
+use Rattle.switch_refusals.specs.declared.refusal.InputRefusal.TheVariants as input
+use Rattle.switch_refusals.specs.Refused.{Explains, IfReadFault}
 use Rattle.switch_output.specs.declared.refusal.WriteRefusal.{WriteRefusal}
 use Rattle.switch_output.specs.declared.refusal.WriteRefusal.TheVariants.{WriteFault, OutOfMemory}
 use Rattle.switch_app.specs.declared.refusal.Refusal.TheVariants.{Reading, Writing}

@@ -3,8 +3,8 @@ use Rattle.std.proofs.Common.{◌≡◌, ℕ, List, sym, subst, arith}
 use Rattle.spec_run.specs.Statuses.{read_fault_status, write_fault_status, read_fault_text, write_fault_text}
 use Rattle.edge_io.specs.declared.outside.InUse.{InUse}
 use Rattle.edge_io.specs.Shelf.{Told}
-use Rattle.switch_input.specs.declared.refusal.InputFault.TheVariants.{NotBuilt, Trace, Limit}
-use Rattle.switch_input.specs.declared.refusal.InputRefusal.TheVariants as input
+use Rattle.switch_refusals.specs.declared.refusal.InputFault.TheVariants.{NotBuilt, Trace, Limit}
+use Rattle.switch_refusals.specs.declared.refusal.InputRefusal.TheVariants as input
 use Rattle.switch_output.specs.declared.refusal.WriteRefusal.TheVariants.{WriteFault, OutOfMemory}
 use Rattle.switch_app.specs.declared.refusal.Refusal.{Refusal}
 use Rattle.switch_app.specs.declared.refusal.Refusal.TheVariants.{Reading, Writing}

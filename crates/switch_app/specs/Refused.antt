@@ -1,7 +1,7 @@
 -- The statuses and the texts of refusals.
 use Rattle.std.specs.Prelude.{ℕ, List, string_bytes}
 use Rattle.spec_run.specs.Statuses.{write_fault_status, out_of_memory_status, write_fault_text, out_of_memory_text}
-use Rattle.refusal_texts.specs.Refused.{input_status, input_text}
+use Rattle.switch_refusals.specs.Texts.{input_status, input_text}
 use Rattle.switch_output.specs.declared.refusal.WriteRefusal.{WriteRefusal}
 use Rattle.switch_output.specs.declared.refusal.WriteRefusal.TheVariants.{WriteFault, OutOfMemory}
 use Rattle.switch_app.specs.declared.refusal.Refusal.{Refusal}

@@ -12,8 +12,8 @@ use Rattle.edge_io.specs.Counts.{Counts}
 use Rattle.edge_io.specs.Shelf.{Told}
 use Rattle.edge_io.specs.ReadAll.{OnlyRead}
 use Rattle.edge_io.specs.Written.{written}
-use Rattle.switch_input.specs.declared.refusal.InputRefusal.TheVariants as input
-use Rattle.switch_input.specs.Refused as reading
+use Rattle.switch_refusals.specs.declared.refusal.InputRefusal.TheVariants as input
+use Rattle.switch_refusals.specs.Refused as reading
 use Rattle.switch_output.specs.declared.refusal.WriteRefusal.{WriteRefusal}
 use Rattle.switch_output.specs.declared.refusal.WriteRefusal.TheVariants.{WriteFault, OutOfMemory}
 use Rattle.switch_app.specs.declared.refusal.Refusal.{Refusal}

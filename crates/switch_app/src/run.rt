@@ -15,13 +15,13 @@ ghost use Rattle.switch_output.specs.Refused.{IfWriteFault, HasCause as HasWrite
 ghost use Rattle.switch_app.specs.RunViews.{Writes, StopsIn, Leaves, HasCause};
 
 use crate::refusal::Refusal;
-use crate::rules::rules_of;
 use crate::say::say_refusal;
 use crate::status::status_of;
 use edge_io::{Gate, Shelf, Sink};
 use frame_arrivals::arrivals_of;
-use refusal_texts::DONE;
+use switch_refusals::DONE;
 use run_case::{Case, Ports, RunData};
+use run_edits::{RunEdits, rules_of};
 use std::alloc::{AllocError, Global};
 use std::marker::Brand;
 use std::sync::Wait;
@@ -69,7 +69,8 @@ fn decide_and_write<C: Case, S: Shelf>(
     } = inputs;
     let ports = ports_of(alloc, &command.ports)?;
     let rules = rules_of(alloc, &script.edits)?;
-    let run = RunData::<C>::new(alloc, ports, script.edits, script.syncs, traces)?;
+    let edits = RunEdits::<C>::new(script.edits);
+    let run = RunData::<C>::new(alloc, ports, edits.count(), script.syncs, traces)?;
     let boards = finish(alloc, &run, &rules)?;
     let arrivals = arrivals_of(alloc, &run)?;
     write_files(alloc, shelf, command.out, &run, &boards, &arrivals)

@@ -5,7 +5,7 @@ ghost use Rattle.switch_app.specs.Refused.{write_text, text_of};
 
 use crate::refusal::Refusal;
 use edge_io::Sink;
-use refusal_texts::{say_input_refusal, say_out_of_memory, say_write_fault};
+use switch_refusals::{say_input_refusal, say_out_of_memory, say_write_fault};
 use switch_output::WriteRefusal;
 
 fn say_write_refusal<K: Sink>(say: &mut K, refusal: &WriteRefusal)

@@ -3,7 +3,7 @@ ghost use Rattle.std.specs.Prelude.{◌≡◌};
 ghost use Rattle.switch_app.specs.Refused.{write_status, status_of};
 
 use crate::refusal::Refusal;
-use refusal_texts::{OUT_OF_MEMORY, WRITE_FAULT, input_status};
+use switch_refusals::{OUT_OF_MEMORY, WRITE_FAULT, input_status};
 use switch_output::WriteRefusal;
 
 fn write_status(refusal: &WriteRefusal) -> u8

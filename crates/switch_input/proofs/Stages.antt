@@ -7,10 +7,10 @@ use Rattle.spec_script.specs.Script.{Script, script_of}
 use Rattle.spec_pcap.specs.declared.fault.PcapFault.{PcapFault}
 use Rattle.spec_run.specs.declared.quantity.Quantity.TheVariants.{TraceBytes}
 use Rattle.spec_run.specs.Verdict.{Files, Refusal, NotBuilt, Limit, refused_trace, script_in, file_in}
-use Rattle.switch_input.specs.declared.refusal.InputFault.{InputFault}
-use Rattle.switch_input.specs.declared.refusal.InputRefusal.{InputRefusal}
-use Rattle.switch_input.specs.declared.refusal.InputRefusal.TheVariants.{Input, ReadFault, OutOfMemory}
-use Rattle.switch_input.specs.Refused.{fault_view, IfInput, Explains}
+use Rattle.switch_refusals.specs.declared.refusal.InputFault.{InputFault}
+use Rattle.switch_refusals.specs.declared.refusal.InputRefusal.{InputRefusal}
+use Rattle.switch_refusals.specs.declared.refusal.InputRefusal.TheVariants.{Input, ReadFault, OutOfMemory}
+use Rattle.switch_refusals.specs.Refused.{fault_view, IfInput, Explains}
 
 past : (n limit : ℕ) → limit < n → nat_lt limit n ≡ true
 past n limit lt = grind (arith, nat_tests)

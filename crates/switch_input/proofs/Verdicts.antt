@@ -7,9 +7,9 @@ use Rattle.spec_script.specs.Script.{Script}
 use Rattle.spec_words.specs.Words.{Command}
 use Rattle.spec_run.specs.Limits.{most_trace_bytes, most_frames}
 use Rattle.spec_run.specs.Verdict.{Files, run_of, command_in, script_in, traces_in, verdict, if_passed, traces_opened, files_opened}
-use Rattle.switch_input.specs.declared.refusal.InputRefusal.{InputRefusal}
-use Rattle.switch_input.specs.declared.refusal.InputRefusal.TheVariants.{Input, ReadFault, OutOfMemory}
-use Rattle.switch_input.specs.Refused.{IfReadFault, Explains}
+use Rattle.switch_refusals.specs.declared.refusal.InputRefusal.{InputRefusal}
+use Rattle.switch_refusals.specs.declared.refusal.InputRefusal.TheVariants.{Input, ReadFault, OutOfMemory}
+use Rattle.switch_refusals.specs.Refused.{IfReadFault, Explains}
 
 module _ (words : List (List ℕ)) (files : Files) where
   -- ---- the words

@@ -8,9 +8,9 @@ use Rattle.spec_run.specs.Verdict.{Files, Refusal, TraceFile, trace_in, trace_na
 use Rattle.edge_io.specs.Shelf.{Told}
 use Rattle.edge_io.specs.ReadAll.{OnlyRead}
 use Rattle.switch_input.specs.declared.words.PortWord.{PortWord}
-use Rattle.switch_input.specs.declared.refusal.InputRefusal.{InputRefusal}
-use Rattle.switch_input.specs.declared.refusal.InputRefusal.TheVariants.{Input, ReadFault, OutOfMemory}
-use Rattle.switch_input.specs.Refused.{IfReadFault, Explains}
+use Rattle.switch_refusals.specs.declared.refusal.InputRefusal.{InputRefusal}
+use Rattle.switch_refusals.specs.declared.refusal.InputRefusal.TheVariants.{Input, ReadFault, OutOfMemory}
+use Rattle.switch_refusals.specs.Refused.{IfReadFault, Explains}
 use Rattle.switch_input.specs.WordViews.{port_view, ports_view}
 
 here : (ports : List PortWord) (i : ℕ) (d : PortWord) → i < length ports → ports_view (drop i ports) ≡ port_view (get_or ports i d) ∷ ports_view (drop (i + 1) ports)

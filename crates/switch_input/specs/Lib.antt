@@ -1,3 +1,2 @@
 pub mod WordViews
 pub mod InputViews
-pub mod Refused

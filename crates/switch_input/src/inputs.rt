@@ -4,15 +4,15 @@ ghost use Rattle.edge_io.specs.ReadAll.{OnlyRead};
 ghost use Rattle.spec_run.specs.Verdict.{verdict, files_opened};
 ghost use Rattle.switch_input.specs.WordViews.{texts};
 ghost use Rattle.switch_input.specs.InputViews.{accepted_view, IsBuilt};
-ghost use Rattle.switch_input.specs.Refused.{IfReadFault, Explains, HasCause};
+ghost use Rattle.switch_refusals.specs.Refused.{IfReadFault, Explains, HasCause};
 
 use crate::reading::{read_edits, read_traces};
-use crate::refusal::InputRefusal;
 use crate::words::{Command, read_command};
 use edge_io::Shelf;
 use edit_script::Script;
 use pcap_reader::Trace;
 use std::alloc::Global;
+use switch_refusals::InputRefusal;
 
 /// What the words and the files say: one trace for each port of the words, in their order.
 #[derive(Drop)]

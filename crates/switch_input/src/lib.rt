@@ -29,17 +29,14 @@
 //! # What is left to others
 //!
 //! Numbers to `text_numbers`, scripts to `edit_script`, capture files to `pcap_reader`, and all that touches the system to
-//! `edge_io`. Statuses and texts of refusals, and what becomes of the run, are for `switch_app`. No board is known here, so
+//! `edge_io`. What refusals are told as is for `switch_refusals`, and what becomes of the run for `switch_app`. No board is known here, so
 //! that reading and deciding are proved side by side.
 #![tactic(auto)]
 
 mod inputs;
-mod limits;
 mod reading;
-mod refusal;
 mod words;
 
 pub use inputs::{Inputs, read_inputs};
-pub use limits::{MOST_FRAMES, MOST_TRACE_BYTES};
-pub use refusal::{InputFault, InputRefusal};
+pub use switch_refusals::{InputFault, InputRefusal};
 pub use words::{Command, PortWord};

@@ -12,16 +12,15 @@ ghost use Rattle.edit_script.specs.Plain.{has_few_actions};
 ghost use Rattle.edit_script.specs.ScriptViews.{script_view};
 ghost use Rattle.switch_input.specs.WordViews.{port_view, ports_view};
 ghost use Rattle.switch_input.specs.InputViews.{trace_view};
-ghost use Rattle.switch_input.specs.Refused.{fault_view, IfInput, IfReadFault, Explains, HasCause};
+ghost use Rattle.switch_refusals.specs.Refused.{fault_view, IfInput, IfReadFault, Explains, HasCause};
 
-use crate::limits::{MOST_FRAMES, MOST_TRACE_BYTES};
-use crate::refusal::{InputFault, InputRefusal};
 use crate::words::PortWord;
 use edge_io::{ReadFault, Shelf, read_all};
 use edit_script::{MOST_BYTES, Script, ScriptFault, read_script};
 use pcap_reader::{PcapFault, Trace, read_trace};
 use spec_run::Quantity;
 use std::alloc::Global;
+use switch_refusals::{InputFault, InputRefusal, MOST_FRAMES, MOST_TRACE_BYTES};
 
 // Reads a file whole. One that has more bytes than `most` is refused for this fault.
 fn read_file<'a, S: Shelf>(

@@ -6,10 +6,10 @@ ghost use Rattle.spec_numbers.specs.Numbers.{split_once};
 ghost use Rattle.spec_words.specs.Words.{port_number, port_word, is_named, new_port, port_words, is_plain, is_well_formed, command_of};
 ghost use Rattle.spec_run.specs.Verdict.{command_in};
 ghost use Rattle.switch_input.specs.WordViews.{texts, port_view, ports_view, ports_said, command_view};
-ghost use Rattle.switch_input.specs.Refused.{Explains, IfReadFault};
+ghost use Rattle.switch_refusals.specs.Refused.{Explains, IfReadFault};
 
-use crate::refusal::{InputFault, InputRefusal};
 use std::alloc::{AllocError, Global};
+use switch_refusals::{InputFault, InputRefusal};
 use text_numbers::{LAST_PORT, as_port, read_decimal};
 
 /// The name under which refused words are told.

@@ -2,7 +2,7 @@
 use Rattle.std.proofs.Common.{◌≡◌, ℕ, zero, suc, ◌+◌, ◌<◌, List, [], ◌∷◌, ◌++◌, length, get_or, take, refl, sym, ap, ◌∙◌, append_assoc, arith}
 use Rattle.std.proofs.Math.Seq.{take-append-add}
 use denote.Ref.{Bor}
-use Rattle.refusal_texts.specs.Pieces.{joined}
+use Rattle.switch_refusals.specs.Pieces.{joined}
 
 -- the start of a text is one of all that begins with it
 start : (n : ℕ) (text rest : List ℕ) → (m : ℕ) × (take n text ≡ take m (text ++ rest))

@@ -2,10 +2,10 @@
 use Rattle.std.specs.Prelude.{◌≡◌, ℕ, List, Result, Err}
 use Rattle.edge_io.specs.Counts.{Counts, ReadFailed}
 use Rattle.spec_run.specs.Verdict as verdicts
-use Rattle.switch_input.specs.declared.refusal.InputFault.{InputFault}
-use Rattle.switch_input.specs.declared.refusal.InputFault.TheVariants.{NotBuilt, Trace, Limit}
-use Rattle.switch_input.specs.declared.refusal.InputRefusal.{InputRefusal}
-use Rattle.switch_input.specs.declared.refusal.InputRefusal.TheVariants.{Input, ReadFault, OutOfMemory}
+use Rattle.switch_refusals.specs.declared.refusal.InputFault.{InputFault}
+use Rattle.switch_refusals.specs.declared.refusal.InputFault.TheVariants.{NotBuilt, Trace, Limit}
+use Rattle.switch_refusals.specs.declared.refusal.InputRefusal.{InputRefusal}
+use Rattle.switch_refusals.specs.declared.refusal.InputRefusal.TheVariants.{Input, ReadFault, OutOfMemory}
 
 -- what the verdict says of such an input
 abbrev pub fault_view : InputFault → verdicts.Refusal

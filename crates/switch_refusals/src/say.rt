@@ -2,15 +2,16 @@
 ghost use Rattle.std.specs.Prelude.{◌≡◌, ◌++◌, IsTrue, codes};
 ghost use Rattle.std.specs.Fmt.{decimal};
 ghost use Rattle.spec_run.specs.Statuses.{Prints, trace_text, limit_text, text_of as refusal_text, write_fault_text, out_of_memory_text};
-ghost use Rattle.switch_input.specs.Refused.{fault_view};
-ghost use Rattle.refusal_texts.specs.Pieces.{joined};
-ghost use Rattle.refusal_texts.specs.Refused.{input_text};
+ghost use Rattle.switch_refusals.specs.Refused.{fault_view};
+ghost use Rattle.switch_refusals.specs.Pieces.{joined};
+ghost use Rattle.switch_refusals.specs.Texts.{input_text};
 
+use crate::limits::{MOST_FRAMES, MOST_TRACE_BYTES};
+use crate::refusal::{InputFault, InputRefusal};
 use edge_io::{Sink, say_all};
 use itoa::Buffer;
 use spec_pcap::PcapFault;
 use spec_run::Quantity;
-use switch_input::{InputFault, InputRefusal, MOST_FRAMES, MOST_TRACE_BYTES};
 
 // Prints texts, one after the other, up to the first at which the sink fails.
 fn say_pieces<K: Sink>(say: &mut K, pieces: &[&str])

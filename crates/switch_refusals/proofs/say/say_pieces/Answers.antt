@@ -1,8 +1,8 @@
 use Rattle.std.proofs.Common.{length, ◌++◌, sym, ap, ◌∙◌, arith}
 use Rattle.std.proofs.lemmas.List.{take_all}
-use Rattle.refusal_texts.specs.Pieces.{joined}
-use Rattle.refusal_texts.proofs.Pieces.{start_printed}
-use Rattle.refusal_texts.proofs.say.say_pieces.Goals as goal
+use Rattle.switch_refusals.specs.Pieces.{joined}
+use Rattle.switch_refusals.proofs.Pieces.{start_printed}
+use Rattle.switch_refusals.proofs.say.say_pieces.Goals as goal
 
 pub returns-in-Err : goal.returns-in-Err
 returns-in-Err g c = λ t. record {

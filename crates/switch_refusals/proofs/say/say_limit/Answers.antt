@@ -1,4 +1,4 @@
-use Rattle.refusal_texts.proofs.say.say_limit.Goals as goal
+use Rattle.switch_refusals.proofs.say.say_limit.Goals as goal
 
 pub returns-in-TraceBytes : goal.returns-in-TraceBytes
 returns-in-TraceBytes g c = λ t. rw c.in-TraceBytes.is (c.say_number.ensures t)

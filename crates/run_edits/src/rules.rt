@@ -2,8 +2,7 @@ ghost use Rattle.std.specs.Prelude.{◌≡◌, ◌<◌, ◌^◌, length, All, If
 ghost use Rattle.spec_tables.specs.declared.edit_word.EditWord.TheVariants.{Add};
 ghost use Rattle.rule_tables.specs.History.{history_of};
 
-use edit_script::Edit;
-use rule_tables::VersionedRules;
+use rule_tables::{Edit, VersionedRules};
 use std::alloc::{AllocError, Global};
 
 /// The rules of all versions that edits make.

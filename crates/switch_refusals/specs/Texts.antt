@@ -2,9 +2,9 @@
 use Rattle.std.specs.Prelude.{ℕ, List}
 use Rattle.spec_run.specs.Statuses as statuses
 use Rattle.spec_run.specs.Statuses.{read_fault_status, out_of_memory_status, read_fault_text, out_of_memory_text}
-use Rattle.switch_input.specs.declared.refusal.InputRefusal.{InputRefusal}
-use Rattle.switch_input.specs.declared.refusal.InputRefusal.TheVariants as input
-use Rattle.switch_input.specs.Refused.{fault_view}
+use Rattle.switch_refusals.specs.declared.refusal.InputRefusal.{InputRefusal}
+use Rattle.switch_refusals.specs.declared.refusal.InputRefusal.TheVariants as input
+use Rattle.switch_refusals.specs.Refused.{fault_view}
 
 abbrev pub input_status : InputRefusal → ℕ
 input_status (input.Input fault) = statuses.status_of (fault_view fault)

@@ -1,8 +1,8 @@
 //! The exit statuses, as `spec_run` has them.
 ghost use Rattle.std.specs.Prelude.{◌≡◌};
-ghost use Rattle.refusal_texts.specs.Refused.{input_status};
+ghost use Rattle.switch_refusals.specs.Texts.{input_status};
 
-use switch_input::{InputFault, InputRefusal};
+use crate::refusal::{InputFault, InputRefusal};
 
 /// All was done.
 pub const DONE: u8 = 0;

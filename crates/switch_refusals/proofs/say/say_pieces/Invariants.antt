@@ -1,6 +1,6 @@
 use Rattle.std.proofs.Common.{◌≡◌, ◌++◌, take, IsTrue}
-use Rattle.refusal_texts.specs.Pieces.{joined}
-use Rattle.refusal_texts.proofs.say.say_pieces.Given as goal
+use Rattle.switch_refusals.specs.Pieces.{joined}
+use Rattle.switch_refusals.proofs.say.say_pieces.Given as goal
 
 abbrev pub invariant-pieces : goal.invariant-pieces
 invariant-pieces g l = record {

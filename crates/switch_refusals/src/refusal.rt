@@ -1,7 +1,7 @@
 ghost use Rattle.std.specs.Prelude.{◌≡◌};
-ghost use Rattle.switch_input.specs.declared.refusal.InputRefusal.TheVariants.{OutOfMemory};
+ghost use Rattle.switch_refusals.specs.declared.refusal.InputRefusal.TheVariants.{OutOfMemory};
 
-use pcap_reader::PcapFault;
+use spec_pcap::PcapFault;
 use spec_run::Quantity;
 use std::alloc::{AllocError, AllocFailed};
 
