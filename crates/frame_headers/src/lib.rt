@@ -1,10 +1,10 @@
-//! The headers of a frame: which there are, where they stand, and what they say of the packet.
+//! The headers of a frame: which there are, and what they say of the packet.
 //!
 //! # What?
 //!
 //! A frame has an Ethernet header, perhaps with a tag, then a network header of ARP, IPv4 or IPv6, and after one of IP a
-//! transport header. `network_at` reads the network header and `transport` finds the one after it: what a key is made of.
-//! Actions that rewrite a frame need to know where its headers stand, which `layout_of` says.
+//! transport header. `network_at` reads the network header and `transport` finds the one after it: what the key of the
+//! frame and its layout are made of.
 //!
 //! # What is promised
 //!
@@ -20,15 +20,14 @@
 //! # How
 //!
 //! Each header has a module, which tests at an offset whether the header is well formed and reads what it says. The
-//! network header is read once: the transport header, the layout and the key are made of what is kept of it
-//! (`spec_frames::Network`). Nothing is copied, and each number is read where it stands.
+//! network header is read once, and all else is made of what is kept of it (`spec_frames::Network`). Nothing is copied, and each number is read where it stands.
 //!
 //! The extension headers of IPv6 are passed in a loop of at most eight turns. It keeps an `UpperLayer`: what the packet
 //! would carry if no extension header followed.
 //!
 //! # What is left to others
 //!
-//! The key (`frame_keys`), which frame is asked about, and changes to a frame. No checksum is tested: a frame with a
+//! The key (`frame_keys`) and the layout (`frame_layout`), which frame is asked about, and changes to a frame. No checksum is tested: a frame with a
 //! wrong one has headers as any other. A second tag, MPLS and tunnels aren't read.
 #![tactic(auto)]
 
@@ -36,12 +35,9 @@ mod arp;
 mod ethernet;
 mod ipv4;
 mod ipv6;
-mod layout;
 mod network;
 mod transport;
 
 pub use ethernet::{HEADER_SIZE, carried, is_tagged, tci_of};
-pub use layout::layout_of;
 pub use network::network_at;
-pub use spec_frames::{L3, L4, Layout};
 pub use transport::transport;

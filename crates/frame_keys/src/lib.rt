@@ -28,7 +28,5 @@ mod ethernet;
 mod ipv4;
 mod ipv6;
 mod key;
-#[cfg(test)]
-mod tests;
 
 pub use key::key_of;

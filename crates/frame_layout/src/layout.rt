@@ -2,9 +2,7 @@
 ghost use Rattle.std.specs.Prelude.{◌≡◌};
 ghost use Rattle.spec_frames.specs.Layout.{place_of_network, is_routed, layout_with, layout_of};
 
-use crate::ethernet::{HEADER_SIZE, carried, is_tagged};
-use crate::network::network_at;
-use crate::transport::transport;
+use frame_headers::{HEADER_SIZE, carried, is_tagged, network_at, transport};
 use spec_frames::{L3, Layout, Network};
 
 #[inline]

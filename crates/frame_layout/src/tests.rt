@@ -1,5 +1,5 @@
-use crate::key_of;
-use frame_headers::{L3, L4, Layout, layout_of};
+use crate::{L3, L4, Layout, layout_of};
+use frame_keys::key_of;
 use ovs_fields::{FieldId, Key};
 use std::alloc::{AllocError, Global};
 use std::test::Fail;
