@@ -2,9 +2,9 @@
 //!
 //! # What?
 //!
-//! What is done to the caches of an ingress port is a list of *steps*, each with its result: a look, a settle, a sweep's
-//! begin, put and end, the opening of a block. `Step` is one, as boards keep them and journals are written of them.
-//! `push_step` adds its line to a text; `spec_board` has the form of the lines.
+//! What is done to the caches of an ingress port is a list of *steps*, each with its result: a look, a settle, a
+//! sweep's begin, put and end, the opening of a block. `Step` is one, as boards keep them and journals are written of
+//! them. `push_step` adds its line to a text; `spec_board` has the form of the lines.
 //!
 //! # What is promised
 //!
@@ -16,8 +16,8 @@
 //! # How
 //!
 //! That the text determines the journals is proved by reading it: cut at the line feeds, each line gives words, cut at
-//! the spaces. No number and no word has either in it. The first word of a line tells its kind, and the words after
-//! it, by their places, tell the rest. Reading the text of journals gives them back, so no two have the same text.
+//! the spaces. No number and no word has either in it. The first word of a line tells its kind, and the words after it,
+//! by their places, tell the rest. Reading the text of journals gives them back, so no two have the same text.
 //!
 //! # What is left to others
 //!

@@ -7,8 +7,8 @@
 //!
 //! - `MemoryShelf` and `MemorySink` fail exactly at the calls whose numbers they were given, so that a test can try
 //!   each call of a run in turn.
-//! - `SteadyShelf` and `SteadySink` never fail: their counts of faults are 0 for good. Over them a run can be proved
-//!   to give its one right answer, if there is memory.
+//! - `SteadyShelf` and `SteadySink` never fail: their counts of faults are 0 for good. Over them a run can be proved to
+//!   give its one right answer, if there is memory.
 //!
 //! # What is promised
 //!

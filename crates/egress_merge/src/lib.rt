@@ -8,15 +8,15 @@
 //! # What is promised
 //!
 //! `write_port` writes exactly the file that `spec_run` defines for the port, out of the journals of the boards: each
-//! frame once for each output to the port in the actions that its board decided, with the time at which it came in.
-//! On a shelf that tells its bytes, a refused call leaves a prefix of that file after the files that were there before,
-//! or nothing of it.
+//! frame once for each output to the port in the actions that its board decided, with the time at which it came in. On
+//! a shelf that tells its bytes, a refused call leaves a prefix of that file after the files that were there before, or
+//! nothing of it.
 //!
 //! # How
 //!
 //! The arrivals are made once for all ports. Each port's file is one walk along them: the board of an arrival's port is
-//! found by going through the ports, of which there are few, and lends the actions of the frame, whose bytes go from its
-//! trace to the shelf. Nothing is copied, and no memory is taken.
+//! found by going through the ports, of which there are few, and lends the actions of the frame, whose bytes go from
+//! its trace to the shelf. Nothing is copied, and no memory is taken.
 //!
 //! # What is left to others
 //!

@@ -2,9 +2,10 @@
 //!
 //! # What?
 //!
-//! Frames come in at all ports of a switch, and each is an *arrival*: a time, an ingress port, and a place in that port's
-//! trace. What leaves the switch stands in the order of arrivals: by time, of equal times by ingress port, and then by
-//! place. So it depends on the input and on what was decided, and not on when a frame was processed or by which thread.
+//! Frames come in at all ports of a switch, and each is an *arrival*: a time, an ingress port, and a place in that
+//! port's trace. What leaves the switch stands in the order of arrivals: by time, of equal times by ingress port, and
+//! then by place. So it depends on the input and on what was decided, and not on when a frame was processed or by which
+//! thread.
 //!
 //! # What is promised
 //!

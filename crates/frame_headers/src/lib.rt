@@ -2,14 +2,14 @@
 //!
 //! # What?
 //!
-//! A frame has an Ethernet header, perhaps with a tag, then a network header of ARP, IPv4 or IPv6, and after one of IP a
-//! transport header. `network_at` reads the network header and `transport` finds the one after it: what the key of the
-//! frame and its layout are made of.
+//! A frame has an Ethernet header, perhaps with a tag, then a network header of ARP, IPv4 or IPv6, and after one of IP
+//! a transport header. `network_at` reads the network header and `transport` finds the one after it: what the key of
+//! the frame and its layout are made of.
 //!
 //! # What is promised
 //!
-//! `spec_frames` says which headers a frame has. Each answer is exactly the one that it defines, for every frame, however
-//! short or broken.
+//! `spec_frames` says which headers a frame has. Each answer is exactly the one that it defines, for every frame,
+//! however short or broken.
 //!
 //! - A malformed network header is none, and no header stands after it.
 //! - A frame that was cut by its capture is read as it is: a packet ends where its header says, or with the frame. A
@@ -20,15 +20,16 @@
 //! # How
 //!
 //! Each header has a module, which tests at an offset whether the header is well formed and reads what it says. The
-//! network header is read once, and all else is made of what is kept of it (`spec_frames::Network`). Nothing is copied, and each number is read where it stands.
+//! network header is read once, and all else is made of what is kept of it (`spec_frames::Network`). Nothing is copied,
+//! and each number is read where it stands.
 //!
 //! The extension headers of IPv6 are passed in a loop of at most eight turns. It keeps an `UpperLayer`: what the packet
 //! would carry if no extension header followed.
 //!
 //! # What is left to others
 //!
-//! The key (`frame_keys`) and the layout (`frame_layout`), which frame is asked about, and changes to a frame. No checksum is tested: a frame with a
-//! wrong one has headers as any other. A second tag, MPLS and tunnels aren't read.
+//! The key (`frame_keys`) and the layout (`frame_layout`), which frame is asked about, and changes to a frame. No
+//! checksum is tested: a frame with a wrong one has headers as any other. A second tag, MPLS and tunnels aren't read.
 #![tactic(auto)]
 
 mod arp;

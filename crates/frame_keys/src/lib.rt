@@ -15,8 +15,8 @@
 //!
 //! # How
 //!
-//! `frame_headers` finds the headers, and reads the network header once. Each header has a module here, which gives a key
-//! its fields. Nothing is copied, and each number is read where it stands.
+//! `frame_headers` finds the headers, and reads the network header once. Each header has a module here, which gives a
+//! key its fields. Nothing is copied, and each number is read where it stands.
 //!
 //! # What is left to others
 //!

@@ -2,14 +2,14 @@
 //!
 //! # What?
 //!
-//! A *trace* is the frames of a capture file, each with its time in nanoseconds. `read_trace` makes one of the bytes
-//! of a file.
+//! A *trace* is the frames of a capture file, each with its time in nanoseconds. `read_trace` makes one of the bytes of
+//! a file.
 //!
 //! # What is promised
 //!
 //! `spec_pcap` says which bytes are a capture file and what it holds. A file is read exactly where `spec_pcap` finds no
-//! fault in it, and then the trace is what it holds. A file with a fault, one of more frames than there is room for among
-//! them, is refused by the first one, with memory or without.
+//! fault in it, and then the trace is what it holds. A file with a fault, one of more frames than there is room for
+//! among them, is refused by the first one, with memory or without.
 //!
 //! # How
 //!

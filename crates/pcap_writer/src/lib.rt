@@ -7,8 +7,8 @@
 //! # What is promised
 //!
 //! `spec_pcap` says which bytes the file of given frames has. After each call that is `Ok`, the file has exactly the
-//! header and the records so far, and no bytes wait in a buffer. After a refusal a prefix of the header or of the record
-//! was written, and nothing else.
+//! header and the records so far, and no bytes wait in a buffer. After a refusal a prefix of the header or of the
+//! record was written, and nothing else.
 //!
 //! # How
 //!

@@ -2,15 +2,16 @@
 //!
 //! # What?
 //!
-//! The words name *ports*, each once. Sync points, which stand among the edits, cut each port's trace into *blocks*: the
-//! frames before the first that isn't before a sync point's time are of an earlier block, and the others of a later one.
-//! All here is found before a run has a name.
+//! The words name *ports*, each once. Sync points, which stand among the edits, cut each port's trace into *blocks*:
+//! the frames before the first that isn't before a sync point's time are of an earlier block, and the others of a later
+//! one. All here is found before a run has a name.
 //!
 //! # What is promised
 //!
 //! `spec_case` says where a block ends and which block a place is in. Every number is the one that it defines.
 //!
-//! - `Ports` are different and in the order of the words. `find` answers where a port stands, exactly where it is there.
+//! - `Ports` are different and in the order of the words. `find` answers where a port stands, exactly where it is
+//!   there.
 //! - `all_block_ends` finds the last place of each block of each trace, and `block_of` the block of a place.
 //! - The laws of blocks are lemmas (proofs/Blocks.antt): ends don't fall, the last block ends with the trace, and a
 //!   place is in a block exactly where it stands after the end of the one before and not after its own.

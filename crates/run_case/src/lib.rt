@@ -3,9 +3,10 @@
 //! # What?
 //!
 //! What a run is given is known only once it has been read: the ports of the words, the edits and the sync points of
-//! their file, and a trace of each port. `RunData` holds it, but for the edits themselves, which `run_edits` holds. Boards,
-//! tables and threads each keep a part of the run, and all must speak of the same one. A `Case` is the name by which they do: `RunData<C>`, `Keyed<C>` and the types of the
-//! crates above are of the run `C.run`, and a contract tells what they hold without another word.
+//! their file, and a trace of each port. `RunData` holds it, but for the edits themselves, which `run_edits` holds.
+//! Boards, tables and threads each keep a part of the run, and all must speak of the same one. A `Case` is the name by
+//! which they do: `RunData<C>`, `Keyed<C>` and the types of the crates above are of the run `C.run`, and a contract
+//! tells what they hold without another word.
 //!
 //! # What is promised
 //!
@@ -21,8 +22,8 @@
 //!
 //! # How
 //!
-//! The function that has read the files calls one function under the name `Brand`, and picks there what the name
-//! means; below that call `C.run` is what was read. A name costs nothing when the program runs.
+//! The function that has read the files calls one function under the name `Brand`, and picks there what the name means;
+//! below that call `C.run` is what was read. A name costs nothing when the program runs.
 //!
 //! Where a port's blocks end is found once (`run_blocks`). A port's trace is found by going through the ports, of which
 //! there are few. Frames aren't copied, but lent from the bytes of their file.

@@ -6,27 +6,27 @@
 //!
 //! # What is promised
 //!
-//! The contract of `run_switch` says it by status, in the words of the specification crates, chiefly `spec_run`. What is
-//! said of names and bytes holds where the shelf, or the sink, tells them.
+//! The contract of `run_switch` says it by status, in the words of the specification crates, chiefly `spec_run`. What
+//! is said of names and bytes holds where the shelf, or the sink, tells them.
 //!
-//! - Where all is done, the verdict accepts the words and the files, and the files written are exactly those of the run:
-//!   one for each port, in the order of the words, and after them the one of the journals.
-//! - The journals are those of the run's schedule, one for each port, and each is legal and complete: each step is one that
-//!   may be taken where it stands and has the result that it has there, exactly one of them decides each frame of the port's
-//!   trace, and at the end a sweep of the last version is completed.
-//! - A frame is decided as a plain priority scan of one version of the tables decides it. That version is in the frame's
-//!   *window*: it is of the frame's block, which lies between two sync points, it is no older than the last sweep
-//!   completed before, and no newer than the newest version that the board had carried.
+//! - Where all is done, the verdict accepts the words and the files, and the files written are exactly those of the
+//!   run: one for each port, in the order of the words, and after them the one of the journals.
+//! - The journals are those of the run's schedule, one for each port, and each is legal and complete: each step is one
+//!   that may be taken where it stands and has the result that it has there, exactly one of them decides each frame of
+//!   the port's trace, and at the end a sweep of the last version is completed.
+//! - A frame is decided as a plain priority scan of one version of the tables decides it. That version is in the
+//!   frame's *window*: it is of the frame's block, which lies between two sync points, it is no older than the last
+//!   sweep completed before, and no newer than the newest version that the board had carried.
 //! - The bytes of a port's file are those of the frames that these decisions send there, in the order of time, ingress
 //!   port and place.
-//! - Every other status has its cause. An input is refused as the verdict refuses it. A fault in reading is told only where
-//!   calls of reading failed, and one in writing only where exactly one call of writing did; with every other status the
-//!   counts of the shelf stand. So no fault is passed over, and none is told where no call failed. That memory ran out is
-//!   no part of the proof.
-//! - Nothing is written before the run is accepted. Where writing fails or memory runs out, the files before are whole, one
-//!   has a prefix of its bytes, and none after it is written.
-//! - The text of the status is printed, and nothing else: all of it where the sink needs no memory and didn't fail, and else
-//!   a prefix.
+//! - Every other status has its cause. An input is refused as the verdict refuses it. A fault in reading is told only
+//!   where calls of reading failed, and one in writing only where exactly one call of writing did; with every other
+//!   status the counts of the shelf stand. So no fault is passed over, and none is told where no call failed. That
+//!   memory ran out is no part of the proof.
+//! - Nothing is written before the run is accepted. Where writing fails or memory runs out, the files before are whole,
+//!   one has a prefix of its bytes, and none after it is written.
+//! - The text of the status is printed, and nothing else: all of it where the sink needs no memory and didn't fail, and
+//!   else a prefix.
 //! - A run that is accepted and meets no fault is done, unless memory runs out.
 //!
 //! # How
@@ -34,16 +34,16 @@
 //! Reading comes first and whole (`switch_input`). What was read is one run, and `decide_and_write` has it as its type
 //! parameter: every board, and every fact of a board, speaks of it.
 //!
-//! All edits are applied first, to a store that answers for every version (`run_edits`). Then each port's board is run to its
-//! end, which decides every frame. Only then files are written (`switch_output`). So what takes memory by the size of the
-//! run is taken before the first file: between files there is but a name, and a line of the journal. Why a run was refused
-//! is told without memory (`switch_refusals`).
+//! All edits are applied first, to a store that answers for every version (`run_edits`). Then each port's board is run
+//! to its end, which decides every frame. Only then files are written (`switch_output`). So what takes memory by the
+//! size of the run is taken before the first file: between files there is but a name, and a line of the journal. Why a
+//! run was refused is told without memory (`switch_refusals`).
 //!
 //! # What is left to others
 //!
-//! Words and files to `switch_input`, edits and rules to `run_edits`, the run and its blocks to `run_case`, boards to `pmd_board`
-//! and `step_runner`, the order of arrivals to `frame_arrivals`, the files to `switch_output`, texts and statuses to
-//! `switch_refusals`, and all that touches the system to `edge_io`.
+//! Words and files to `switch_input`, edits and rules to `run_edits`, the run and its blocks to `run_case`, boards to
+//! `pmd_board` and `step_runner`, the order of arrivals to `frame_arrivals`, the files to `switch_output`, texts and
+//! statuses to `switch_refusals`, and all that touches the system to `edge_io`.
 #![tactic(auto)]
 
 mod refusal;

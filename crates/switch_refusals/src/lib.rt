@@ -2,19 +2,19 @@
 //!
 //! # What?
 //!
-//! Words and files can be refused, files can't be read or written, and memory may run out. `InputRefusal` is why nothing
-//! could be read. `spec_run` has a status and a text for each refusal; this crate gives the one and prints the other, to
-//! a sink.
+//! Words and files can be refused, files can't be read or written, and memory may run out. `InputRefusal` is why
+//! nothing could be read. `spec_run` has a status and a text for each refusal; this crate gives the one and prints the
+//! other, to a sink.
 //!
 //! # What is promised
 //!
-//! The statuses and the texts are those of `spec_run`. A sink that tells its bytes has got all of the text where it needs no
-//! memory and didn't fail, and else a prefix. Nothing else is printed, and no call takes memory or can fail.
+//! The statuses and the texts are those of `spec_run`. A sink that tells its bytes has got all of the text where it
+//! needs no memory and didn't fail, and else a prefix. Nothing else is printed, and no call takes memory or can fail.
 //!
 //! # How
 //!
-//! A refusal lends the names that it tells from the words. Texts are printed piece by piece, up to the first at which the
-//! sink fails, so that why a run was refused can be told without memory. Digits are those of `itoa`.
+//! A refusal lends the names that it tells from the words. Texts are printed piece by piece, up to the first at which
+//! the sink fails, so that why a run was refused can be told without memory. Digits are those of `itoa`.
 //!
 //! # What is left to others
 //!
