@@ -37,8 +37,8 @@ mod ethernet;
 mod ipv4;
 mod ipv6;
 mod network;
-mod transport;
+mod transport_header;
 
 pub use ethernet::{HEADER_SIZE, carried, is_tagged, tci_of};
 pub use network::network_at;
-pub use transport::transport;
+pub use transport_header::transport;
