@@ -51,5 +51,5 @@ mod run;
 mod say;
 mod status;
 
-pub use switch_refusals::OUT_OF_MEMORY;
 pub use run::run_switch;
+pub use switch_refusals::OUT_OF_MEMORY;

@@ -19,7 +19,6 @@ use crate::say::say_refusal;
 use crate::status::status_of;
 use edge_io::{Gate, Shelf, Sink};
 use frame_arrivals::arrivals_of;
-use switch_refusals::DONE;
 use run_case::{Case, Ports, RunData};
 use run_edits::{RunEdits, rules_of};
 use std::alloc::{AllocError, Global};
@@ -29,6 +28,7 @@ use std::thread::Threads;
 use step_runner::finish;
 use switch_input::{Inputs, PortWord, read_inputs};
 use switch_output::{WriteRefusal, write_files};
+use switch_refusals::DONE;
 
 // The ports of words, in their order.
 #[tactic(auto, using(crate::proofs::Lists::ports_in_view))]

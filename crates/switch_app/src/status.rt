@@ -3,8 +3,8 @@ ghost use Rattle.std.specs.Prelude.{◌≡◌};
 ghost use Rattle.switch_app.specs.Refused.{write_status, status_of};
 
 use crate::refusal::Refusal;
-use switch_refusals::{OUT_OF_MEMORY, WRITE_FAULT, input_status};
 use switch_output::WriteRefusal;
+use switch_refusals::{OUT_OF_MEMORY, WRITE_FAULT, input_status};
 
 fn write_status(refusal: &WriteRefusal) -> u8
     ensures { result ≡ write_status refusal.now }
