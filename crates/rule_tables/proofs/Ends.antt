@@ -1,7 +1,8 @@
 -- What stands at each place once a rule's life has ended.
-use Rattle.std.proofs.Common.{◌≡◌, ℕ, zero, suc, ◌<◌, List, [], ◌∷◌, ◌++◌, length, Option, Some, None, refl, sym, ap, arith, ◌⊎◌, inl, inr}
+use Rattle.std.proofs.Common.{◌≡◌, ℕ, zero, suc, ◌<◌, List, [], ◌∷◌, ◌++◌, length, take, drop, Option, Some, None, refl, sym, ap, ◌∙◌, arith, ◌⊎◌, inl, inr}
 use Rattle.std.specs.Prelude.{slice_get, slice_set}
 use Rattle.std.proofs.lemmas.Option.{none-some, same_Some}
+use Rattle.std.proofs.Math.Seq.{take-append_seam}
 use Rattle.rule_tables.specs.declared.stored.StoredRule.{StoredRule}
 use Rattle.rule_tables.specs.Stored.{ended, with_end}
 
@@ -9,7 +10,7 @@ use Rattle.rule_tables.specs.Stored.{ended, with_end}
 abbrev pub Follows : Option ℕ → ℕ → ℕ → StoredRule → StoredRule → Type 0
 Follows old gone i s t = ((old ≡ Some i) × (t ≡ record s { gone = Some gone })) ⊎ ((old ≡ Some i → ⊥) × (t ≡ s))
 
-length-ended : (place gone : ℕ) (xs : List StoredRule) → length (ended place gone xs) ≡ length xs
+pub length-ended : (place gone : ℕ) (xs : List StoredRule) → length (ended place gone xs) ≡ length xs
 length-ended place gone [] = refl
 length-ended zero gone (x ∷ xs) = refl
 length-ended (suc place) gone (x ∷ xs) = ap suc (length-ended place gone xs)
@@ -18,7 +19,7 @@ pub length-with_end : (old : Option ℕ) (gone : ℕ) (xs : List StoredRule) →
 length-with_end None gone xs = refl
 length-with_end (Some place) gone xs = length-ended place gone xs
 
-ended_cases : (place gone i : ℕ) (xs : List StoredRule) (t : StoredRule) → slice_get (ended place gone xs) i ≡ Some t
+pub ended_cases : (place gone i : ℕ) (xs : List StoredRule) (t : StoredRule) → slice_get (ended place gone xs) i ≡ Some t
     → (s : StoredRule) × (slice_get xs i ≡ Some s) × (((i ≡ place) × (t ≡ record s { gone = Some gone })) ⊎ ((i ≡ place → ⊥) × (t ≡ s)))
 ended_cases place gone i [] t at = absurd (none-some t at)
 ended_cases zero gone zero (x ∷ xs) t at = (x, refl, inl (refl, sym (same_Some (record x { gone = Some gone }) t at)))
@@ -56,3 +57,7 @@ with_end-push (Some place) gone xs x within = ended-push place gone xs x (within
     ended-push place gone [] x lt = absurd (omega arith)
     ended-push zero gone (y ∷ ys) x lt = refl
     ended-push (suc place) gone (y ∷ ys) x lt = ap (λ (rest : List StoredRule). y ∷ rest) (ended-push place gone ys x (omega arith))
+
+-- a slice of all of a vector's elements, once written
+pub written : (n : ℕ) (xs ys : List StoredRule) → n ≡ length xs → take n (xs ++ drop (length xs) ys) ≡ xs
+written n xs ys all = ap (λ (m : ℕ). take m (xs ++ drop (length xs) ys)) all ∙ take-append_seam xs (drop (length xs) ys)

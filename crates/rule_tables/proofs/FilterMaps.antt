@@ -1,7 +1,8 @@
 -- Lists by what stands at each place.
-use Rattle.std.proofs.Common.{◌≡◌, ℕ, zero, suc, ◌<◌, Bool, true, false, cond, List, [], ◌∷◌, ◌++◌, length, Option, Some, None, refl, sym, ap, ap₂, ◌∙◌, arith, ◌⊎◌, inl, inr}
-use Rattle.std.specs.Prelude.{slice_get, filter}
+use Rattle.std.proofs.Common.{◌≡◌, ℕ, zero, suc, ◌+◌, ◌<◌, Bool, true, false, cond, List, [], ◌∷◌, ◌++◌, length, map, Option, Some, None, refl, sym, ap, ap₂, ◌∙◌, arith, ◌⊎◌, inl, inr}
+use Rattle.std.specs.Prelude.{slice_get, slice_set, filter}
 use Rattle.std.specs.List.{filter_map, cons_option, list_any}
+use Rattle.std.specs.Option.{option_map}
 use Rattle.std.proofs.lemmas.Bool.{or_left, or_right, or_from}
 use Rattle.std.proofs.lemmas.Option.{none-some, same_Some}
 
@@ -13,6 +14,38 @@ filter_map_alike f g [] (y ∷ ys) len alike = absurd (omega arith)
 filter_map_alike f g (x ∷ xs) [] len alike = absurd (omega arith)
 filter_map_alike f g (x ∷ xs) (y ∷ ys) len alike =
     ap₂ cons_option (alike 0 x y refl refl) (filter_map_alike f g xs ys (omega arith) (λ i a b at bt. alike (suc i) a b at bt))
+
+-- what two functions give that are alike at each element
+pub filter_map_same : {A B : Type 0} (f g : A → Option B) (xs : List A) → ((i : ℕ) (x : A) → slice_get xs i ≡ Some x → f x ≡ g x) → filter_map f xs ≡ filter_map g xs
+filter_map_same f g [] alike = refl
+filter_map_same f g (x ∷ xs) alike = ap₂ cons_option (alike 0 x refl) (filter_map_same f g xs (λ i y at. alike (suc i) y at))
+
+pub filter_map-map : {A B C : Type 0} (f : B → Option C) (g : A → B) (xs : List A) → filter_map f (map g xs) ≡ filter_map (λ x. f (g x)) xs
+filter_map-map f g [] = refl
+filter_map-map f g (x ∷ xs) = ap (λ rest. cons_option (f (g x)) rest) (filter_map-map f g xs)
+
+map-cons_option : {A B : Type 0} (g : A → B) (o : Option A) (xs : List A) → map g (cons_option o xs) ≡ cons_option (option_map g o) (map g xs)
+map-cons_option g None xs = refl
+map-cons_option g (Some x) xs = refl
+
+pub map-filter_map : {A B C : Type 0} (g : B → C) (f : A → Option B) (xs : List A) → map g (filter_map f xs) ≡ filter_map (λ x. option_map g (f x)) xs
+map-filter_map g f [] = refl
+map-filter_map g f (x ∷ xs) = map-cons_option g (f x) (filter_map f xs) ∙ ap (λ rest. cons_option (option_map g (f x)) rest) (map-filter_map g f xs)
+
+-- what stands at a place of a mapped list
+pub from_map : {A B : Type 0} (f : A → B) (xs : List A) (i : ℕ) (y : B) → slice_get (map f xs) i ≡ Some y → (x : A) × (slice_get xs i ≡ Some x) × (y ≡ f x)
+from_map f [] i y at = absurd (none-some y at)
+from_map f (x ∷ xs) zero y at = (x, refl, sym (same_Some (f x) y at))
+from_map f (x ∷ xs) (suc i) y at = from_map f xs i y at
+
+-- a list whose elements are each what the other's are mapped to
+pub is_mapped : {A : Type 0} (f : A → A) (xs ys : List A) → length ys ≡ length xs
+    → ((i : ℕ) (x y : A) → slice_get xs i ≡ Some x → slice_get ys i ≡ Some y → y ≡ f x) → ys ≡ map f xs
+is_mapped f [] [] len each = refl
+is_mapped f [] (y ∷ ys) len each = absurd (omega arith)
+is_mapped f (x ∷ xs) [] len each = absurd (omega arith)
+is_mapped f (x ∷ xs) (y ∷ ys) len each =
+    ap₂ (λ z zs. z ∷ zs) (each 0 x y refl refl) (is_mapped f xs ys (omega arith) (λ i a b at bt. each (suc i) a b at bt))
 
 -- what an option has that passes a test
 abbrev pub passing : {A : Type 0} → (A → Bool) → Option A → Option A
@@ -68,3 +101,39 @@ push_cases [] x y (suc i) at = absurd (none-some y at)
 push_cases (z ∷ zs) x y zero at = inl at
 push_cases (z ∷ zs) x y (suc i) at =
     elim (push_cases zs x y i at) [ inl before ↦ inl before | inr (last, is) ↦ inr (ap suc last, is) ]
+
+-- ---- the first of a list, mapped
+
+-- a list of which the first n elements are mapped
+abbrev pub mapped_to : {A : Type 0} → ℕ → (A → A) → List A → List A
+mapped_to zero f xs = xs
+mapped_to (suc n) f [] = []
+mapped_to (suc n) f (x ∷ xs) = f x ∷ mapped_to n f xs
+
+pub mapped_to_all : {A : Type 0} (f : A → A) (n : ℕ) (xs : List A) → n ≡ length xs → mapped_to n f xs ≡ map f xs
+mapped_to_all f zero [] is = refl
+mapped_to_all f zero (x ∷ xs) is = absurd (omega arith)
+mapped_to_all f (suc n) [] is = refl
+mapped_to_all f (suc n) (x ∷ xs) is = ap (λ rest. f x ∷ rest) (mapped_to_all f n xs (omega arith))
+
+-- the next one isn't yet
+pub mapped_to_at : {A : Type 0} (f : A → A) (n : ℕ) (xs : List A) → slice_get (mapped_to n f xs) n ≡ slice_get xs n
+mapped_to_at f zero xs = refl
+mapped_to_at f (suc n) [] = refl
+mapped_to_at f (suc n) (x ∷ xs) = mapped_to_at f n xs
+
+pub mapped_to_set : {A : Type 0} (f : A → A) (n : ℕ) (xs : List A) (x : A) → slice_get xs n ≡ Some x → slice_set (mapped_to n f xs) n (f x) ≡ mapped_to (n + 1) f xs
+mapped_to_set {A} f n xs x at = let next : suc n ≡ n + 1 = omega arith in by n xs at ∙ ap (λ (k : ℕ). mapped_to k f xs) next
+  where
+    by : (k : ℕ) (ys : List A) → slice_get ys k ≡ Some x → slice_set (mapped_to k f ys) k (f x) ≡ mapped_to (suc k) f ys
+    by k [] at = absurd (none-some x at)
+    by zero (y ∷ ys) at = ap (λ z. f z ∷ ys) (sym (same_Some y x at))
+    by (suc k) (y ∷ ys) at = ap (λ rest. f y ∷ rest) (by k ys at)
+
+pub mapped_to_kept : {A : Type 0} (f : A → A) (n : ℕ) (xs : List A) (x : A) → slice_get xs n ≡ Some x → f x ≡ x → mapped_to n f xs ≡ mapped_to (n + 1) f xs
+mapped_to_kept {A} f n xs x at stays = let next : suc n ≡ n + 1 = omega arith in by n xs at ∙ ap (λ (k : ℕ). mapped_to k f xs) next
+  where
+    by : (k : ℕ) (ys : List A) → slice_get ys k ≡ Some x → mapped_to k f ys ≡ mapped_to (suc k) f ys
+    by k [] at = absurd (none-some x at)
+    by zero (y ∷ ys) at = let same : y ≡ x = same_Some y x at in ap (λ z. z ∷ ys) (same ∙ sym stays ∙ ap f (sym same))
+    by (suc k) (y ∷ ys) at = ap (λ rest. f y ∷ rest) (by k ys at)

@@ -8,6 +8,7 @@ use Rattle.std.proofs.lemmas.Bool.{cases_Bool, cases_lt, false≢true, eq-eqb, n
 use Rattle.std.proofs.lemmas.Option.{none-some, same_Some, slice_get_within, slice_get_cases, slice_get-get_or}
 use Rattle.spec_tables.specs.Rules as tables
 use Rattle.spec_tables.specs.Live.{is_live, rule_numbered}
+use Rattle.rule_tables.specs.declared.stored.Modification.{Modification}
 use Rattle.rule_tables.specs.declared.stored.StoredRule.{StoredRule}
 use Rattle.rule_tables.specs.Stored.{stored_in, is_alive, rule_at, rules_at, stored_numbered, AreInOrder}
 use Rattle.rule_tables.proofs.Lives.{rule_at-alive, rule_at-dead}
@@ -98,59 +99,59 @@ module _ (number place : ℕ) (xs : List StoredRule) (in_order : AreInOrder xs) 
 -- ---- in a version
 
 -- a rule of another number is passed over
-passed_over : (v number : ℕ) (s : StoredRule) (rest : List tables.Rule) → (s.rule.number ≡ number → ⊥) → rule_numbered number (cons_option (rule_at v s) rest) ≡ rule_numbered number rest
-passed_over v number s rest other =
+passed_over : (made : List Modification) (v number : ℕ) (s : StoredRule) (rest : List tables.Rule) → (s.rule.number ≡ number → ⊥) → rule_numbered number (cons_option (rule_at made v s) rest) ≡ rule_numbered number rest
+passed_over made v number s rest other =
     elim (cases_Bool (is_alive v s)) [
       | inl alive ↦
-          ap (λ (o : Option tables.Rule). rule_numbered number (cons_option o rest)) (rule_at-alive v s alive)
-          ∙ cond-false (s.rule.number == number) (Some (stored_in v s)) (rule_numbered number rest) (ne_eqb s.rule.number number other)
-      | inr dead ↦ ap (λ (o : Option tables.Rule). rule_numbered number (cons_option o rest)) (rule_at-dead v s dead)
+          ap (λ (o : Option tables.Rule). rule_numbered number (cons_option o rest)) (rule_at-alive made v s alive)
+          ∙ cond-false (s.rule.number == number) (Some (stored_in made v s)) (rule_numbered number rest) (ne_eqb s.rule.number number other)
+      | inr dead ↦ ap (λ (o : Option tables.Rule). rule_numbered number (cons_option o rest)) (rule_at-dead made v s dead)
     ]
 
-none_numbered : (v number : ℕ) (stored : List StoredRule) → ((i : ℕ) (s : StoredRule) → slice_get stored i ≡ Some s → s.rule.number ≡ number → ⊥) → rule_numbered number (rules_at v stored) ≡ None
-none_numbered v number [] others = refl
-none_numbered v number (s ∷ rest) others =
-    passed_over v number s (rules_at v rest) (others 0 s refl) ∙ none_numbered v number rest (λ i t at. others (suc i) t at)
+none_numbered : (made : List Modification) (v number : ℕ) (stored : List StoredRule) → ((i : ℕ) (s : StoredRule) → slice_get stored i ≡ Some s → s.rule.number ≡ number → ⊥) → rule_numbered number (rules_at made v stored) ≡ None
+none_numbered made v number [] others = refl
+none_numbered made v number (s ∷ rest) others =
+    passed_over made v number s (rules_at made v rest) (others 0 s refl) ∙ none_numbered made v number rest (λ i t at. others (suc i) t at)
 
-pub rule_numbered-rules_at : (v number : ℕ) (stored : List StoredRule) → AreInOrder stored → rule_numbered number (rules_at v stored) ≡ option_and_then (rule_at v) (stored_numbered number stored)
-rule_numbered-rules_at v number [] in_order = refl
-rule_numbered-rules_at v number (s ∷ rest) in_order =
+pub rule_numbered-rules_at : (made : List Modification) (v number : ℕ) (stored : List StoredRule) → AreInOrder stored → rule_numbered number (rules_at made v stored) ≡ option_and_then (rule_at made v) (stored_numbered number stored)
+rule_numbered-rules_at made v number [] in_order = refl
+rule_numbered-rules_at made v number (s ∷ rest) in_order =
     elim (cases_Bool (s.rule.number == number)) [
       | inl here ↦
           let is : s.rule.number ≡ number = eqb-true s.rule.number number here in
-          let later : rule_numbered number (rules_at v rest) ≡ None =
-          none_numbered v number rest (λ i t at same. let rises : s.rule.number < t.rule.number = in_order 0 (suc i) s t refl at (omega arith) in absurd (omega arith)) in
-          by_life is later ∙ sym (ap (option_and_then (rule_at v)) (cond-true (s.rule.number == number) (Some s) (stored_numbered number rest) here))
+          let later : rule_numbered number (rules_at made v rest) ≡ None =
+          none_numbered made v number rest (λ i t at same. let rises : s.rule.number < t.rule.number = in_order 0 (suc i) s t refl at (omega arith) in absurd (omega arith)) in
+          by_life is later ∙ sym (ap (option_and_then (rule_at made v)) (cond-true (s.rule.number == number) (Some s) (stored_numbered number rest) here))
       | inr other ↦
-          passed_over v number s (rules_at v rest) (λ is. absurd (both_ways (s.rule.number == number) other (eq-eqb s.rule.number number is)))
-          ∙ rule_numbered-rules_at v number rest (λ i j a b at bt lt. in_order (suc i) (suc j) a b at bt (omega arith))
-          ∙ sym (ap (option_and_then (rule_at v)) (cond-false (s.rule.number == number) (Some s) (stored_numbered number rest) other))
+          passed_over made v number s (rules_at made v rest) (λ is. absurd (both_ways (s.rule.number == number) other (eq-eqb s.rule.number number is)))
+          ∙ rule_numbered-rules_at made v number rest (λ i j a b at bt lt. in_order (suc i) (suc j) a b at bt (omega arith))
+          ∙ sym (ap (option_and_then (rule_at made v)) (cond-false (s.rule.number == number) (Some s) (stored_numbered number rest) other))
     ]
   where
-    by_life : s.rule.number ≡ number → rule_numbered number (rules_at v rest) ≡ None → rule_numbered number (cons_option (rule_at v s) (rules_at v rest)) ≡ rule_at v s
+    by_life : s.rule.number ≡ number → rule_numbered number (rules_at made v rest) ≡ None → rule_numbered number (cons_option (rule_at made v s) (rules_at made v rest)) ≡ rule_at made v s
     by_life is later =
         elim (cases_Bool (is_alive v s)) [
           | inl alive ↦
-              ap (λ (o : Option tables.Rule). rule_numbered number (cons_option o (rules_at v rest))) (rule_at-alive v s alive)
-              ∙ cond-true (s.rule.number == number) (Some (stored_in v s)) (rule_numbered number (rules_at v rest)) (eq-eqb s.rule.number number is)
-              ∙ sym (rule_at-alive v s alive)
+              ap (λ (o : Option tables.Rule). rule_numbered number (cons_option o (rules_at made v rest))) (rule_at-alive made v s alive)
+              ∙ cond-true (s.rule.number == number) (Some (stored_in made v s)) (rule_numbered number (rules_at made v rest)) (eq-eqb s.rule.number number is)
+              ∙ sym (rule_at-alive made v s alive)
           | inr dead ↦
-              ap (λ (o : Option tables.Rule). rule_numbered number (cons_option o (rules_at v rest))) (rule_at-dead v s dead) ∙ later ∙ sym (rule_at-dead v s dead)
+              ap (λ (o : Option tables.Rule). rule_numbered number (cons_option o (rules_at made v rest))) (rule_at-dead made v s dead) ∙ later ∙ sym (rule_at-dead made v s dead)
         ]
 
 -- the answer by what is found
-pub none_at_number : (v number : ℕ) (stored : List StoredRule) → AreInOrder stored → None ≡ stored_numbered number stored → None ≡ rule_numbered number (rules_at v stored)
-none_at_number v number stored in_order none = sym (rule_numbered-rules_at v number stored in_order ∙ sym (ap (option_and_then (rule_at v)) none))
+pub none_at_number : (made : List Modification) (v number : ℕ) (stored : List StoredRule) → AreInOrder stored → None ≡ stored_numbered number stored → None ≡ rule_numbered number (rules_at made v stored)
+none_at_number made v number stored in_order none = sym (rule_numbered-rules_at made v number stored in_order ∙ sym (ap (option_and_then (rule_at made v)) none))
 
-pub alive_at_number : (v number : ℕ) (stored : List StoredRule) (s : StoredRule) → AreInOrder stored → Some s ≡ stored_numbered number stored → is_alive v s ≡ true
-    → Some (stored_in v s) ≡ rule_numbered number (rules_at v stored)
-alive_at_number v number stored s in_order at alive =
-    sym (rule_numbered-rules_at v number stored in_order ∙ sym (ap (option_and_then (rule_at v)) at) ∙ rule_at-alive v s alive)
+pub alive_at_number : (made : List Modification) (v number : ℕ) (stored : List StoredRule) (s : StoredRule) → AreInOrder stored → Some s ≡ stored_numbered number stored → is_alive v s ≡ true
+    → Some (stored_in made v s) ≡ rule_numbered number (rules_at made v stored)
+alive_at_number made v number stored s in_order at alive =
+    sym (rule_numbered-rules_at made v number stored in_order ∙ sym (ap (option_and_then (rule_at made v)) at) ∙ rule_at-alive made v s alive)
 
-pub dead_at_number : (v number : ℕ) (stored : List StoredRule) (s : StoredRule) → AreInOrder stored → Some s ≡ stored_numbered number stored → is_alive v s ≡ false
-    → None ≡ rule_numbered number (rules_at v stored)
-dead_at_number v number stored s in_order at dead =
-    sym (rule_numbered-rules_at v number stored in_order ∙ sym (ap (option_and_then (rule_at v)) at) ∙ rule_at-dead v s dead)
+pub dead_at_number : (made : List Modification) (v number : ℕ) (stored : List StoredRule) (s : StoredRule) → AreInOrder stored → Some s ≡ stored_numbered number stored → is_alive v s ≡ false
+    → None ≡ rule_numbered number (rules_at made v stored)
+dead_at_number made v number stored s in_order at dead =
+    sym (rule_numbered-rules_at made v number stored in_order ∙ sym (ap (option_and_then (rule_at made v)) at) ∙ rule_at-dead made v s dead)
 
 -- ---- live rules
 

@@ -1,42 +1,82 @@
 -- Stored rules: the versions in which they are live, and what each of these has of them.
-use Rattle.std.specs.Prelude.{◌≡◌, ℕ, zero, suc, ◌*◌, ◌<◌, ◌≤◌, ◌^◌, Bool, ◌&&◌, ◌==◌, true, nat_lt, nat_le, if◌then◌else◌, List, [], ◌∷◌, length, slice_get, Option, Some, None}
+use Rattle.std.specs.Prelude.{◌≡◌, ℕ, zero, suc, ◌*◌, ◌<◌, ◌≤◌, ◌^◌, Bool, ◌&&◌, ◌==◌, true, false, not, nat_lt, nat_le, is_some, if◌then◌else◌, List, [], ◌∷◌, length, slice_get, Option, Some, None, unwrap_or}
 use Rattle.std.specs.List.{find, filter_map, fold}
 use Rattle.std.specs.Option.{option_map_or}
 use Rattle.spec_actions.specs.declared.action.OfAction.{OfAction}
+use Rattle.spec_tables.specs.declared.edit_word.EditWord.{EditWord}
+use Rattle.spec_tables.specs.declared.edit_word.EditWord.TheVariants.{Add, Modify, ModifyStrict, Delete, DeleteStrict}
 use Rattle.spec_tables.specs.Rules as tables
 use Rattle.spec_tables.specs.Rules.{is_same_match}
+use Rattle.spec_tables.specs.Edits.{Edit, is_named_by, is_reached_by}
 use Rattle.rule_tables.specs.declared.identity.RuleIdentity.{RuleIdentity}
 use Rattle.rule_tables.specs.declared.rule.Rule.{Rule}
-use Rattle.rule_tables.specs.declared.stored.Revision.{Revision}
+use Rattle.rule_tables.specs.declared.stored.Modification.{Modification}
 use Rattle.rule_tables.specs.declared.stored.StoredRule.{StoredRule}
-use Rattle.rule_tables.specs.Views.{match_view}
+use Rattle.rule_tables.specs.Views.{match_view, rule_view}
 
--- ---- revisions
+-- ---- what an edit acts on
 
--- the last of the revisions up to version v, where there is one
-abbrev pub revision_in : ℕ → List Revision → Option Revision
-revision_in v revisions = fold (λ last (r : Revision). if nat_le r.version v then Some r else last) None revisions
+-- whether edits of this kind give actions to rules that are there
+abbrev pub is_modify : EditWord → Bool
+is_modify Modify = true
+is_modify ModifyStrict = true
+is_modify Add = false
+is_modify Delete = false
+is_modify DeleteStrict = false
 
-abbrev pub cookie_in : ℕ → StoredRule → ℕ
-cookie_in v s = option_map_or (λ (r : Revision). r.cookie) (revision_in v s.revisions.items) s.rule.cookie
+-- whether an edit of this kind acts on a rule: a loose one on each that it reaches, another on the one that it names
+abbrev pub is_picked_by : EditWord → Edit → tables.Rule → Bool
+is_picked_by Add e r = is_named_by e r
+is_picked_by Modify e r = is_reached_by e r
+is_picked_by ModifyStrict e r = is_named_by e r
+is_picked_by Delete e r = is_reached_by e r
+is_picked_by DeleteStrict e r = is_named_by e r
 
-abbrev pub actions_in : ℕ → StoredRule → List OfAction
-actions_in v s = option_map_or (λ (r : Revision). r.actions) (revision_in v s.revisions.items) s.actions
+-- whether an edit picks a rule, whose actions don't count for that
+abbrev pub picks : Edit → Rule → Bool
+picks e r = is_picked_by e.word e (rule_view r [])
 
--- a stored rule with what this revision gives it, if there is one
-abbrev pub with_revision : StoredRule → Option Revision → tables.Rule
-with_revision s o = record {
+-- whether an edit acts on a stored rule: one that is live in the last version, and that it picks
+abbrev pub acts_on : Edit → StoredRule → Bool
+acts_on e s = not (is_some s.gone) && picks e s.rule
+
+-- ---- modifications
+
+-- whether a rule has been given the cookie and the actions of a modification by version v: it was there before, and is picked
+abbrev pub is_given : ℕ → StoredRule → Modification → Bool
+is_given v s m = nat_lt s.rule.number m.version && (nat_le m.version v && picks m.edit s.rule)
+
+abbrev pub given_cookie : ℕ → StoredRule → ℕ → Modification → ℕ
+given_cookie v s cookie m = if is_given v s m then unwrap_or m.edit.cookie cookie else cookie
+
+abbrev pub later_given : ℕ → StoredRule → Option Modification → Modification → Option Modification
+later_given v s last m = if is_given v s m then Some m else last
+
+-- the cookie of a rule in version v: the last one that it was given by then
+abbrev pub cookie_in : List Modification → ℕ → StoredRule → ℕ
+cookie_in modifications v s = fold (given_cookie v s) s.rule.cookie modifications
+
+-- the last modification that a rule was given by version v, if there is one
+abbrev pub last_given : List Modification → ℕ → StoredRule → Option Modification
+last_given modifications v s = fold (later_given v s) None modifications
+
+abbrev pub actions_in : List Modification → ℕ → StoredRule → List OfAction
+actions_in modifications v s = option_map_or (λ (m : Modification). m.edit.actions) (last_given modifications v s) s.actions
+
+-- a stored rule with this cookie, and the actions of this modification if there is one
+abbrev pub with_given : StoredRule → ℕ → Option Modification → tables.Rule
+with_given s cookie o = record {
   number = s.rule.number;
   table = s.rule.table;
   priority = s.rule.priority;
-  cookie = option_map_or (λ (r : Revision). r.cookie) o s.rule.cookie;
+  cookie = cookie;
   matching = match_view s.rule.matching;
-  actions = option_map_or (λ (r : Revision). r.actions) o s.actions;
+  actions = option_map_or (λ (m : Modification). m.edit.actions) o s.actions;
 }
 
 -- a stored rule as version v has it
-abbrev pub stored_in : ℕ → StoredRule → tables.Rule
-stored_in v s = with_revision s (revision_in v s.revisions.items)
+abbrev pub stored_in : List Modification → ℕ → StoredRule → tables.Rule
+stored_in modifications v s = with_given s (cookie_in modifications v s) (last_given modifications v s)
 
 -- ---- lives
 
@@ -50,11 +90,11 @@ abbrev pub is_alive : ℕ → StoredRule → Bool
 is_alive v s = nat_le s.rule.number v && is_before v s.gone
 
 -- the rule in version v, where it is live there
-abbrev pub rule_at : ℕ → StoredRule → Option tables.Rule
-rule_at v s = if is_alive v s then Some (stored_in v s) else None
+abbrev pub rule_at : List Modification → ℕ → StoredRule → Option tables.Rule
+rule_at modifications v s = if is_alive v s then Some (stored_in modifications v s) else None
 
-abbrev pub rules_at : ℕ → List StoredRule → List tables.Rule
-rules_at v stored = filter_map (rule_at v) stored
+abbrev pub rules_at : List Modification → ℕ → List StoredRule → List tables.Rule
+rules_at modifications v stored = filter_map (rule_at modifications v) stored
 
 -- the stored rule of this number
 abbrev pub stored_numbered : ℕ → List StoredRule → Option StoredRule
@@ -70,6 +110,10 @@ ended (suc place) gone (s ∷ rest) = s ∷ ended place gone rest
 abbrev pub with_end : Option ℕ → ℕ → List StoredRule → List StoredRule
 with_end None gone stored = stored
 with_end (Some place) gone stored = ended place gone stored
+
+-- a stored rule, which is gone from a version on if an edit acts on it
+abbrev pub ended_by : Edit → ℕ → StoredRule → StoredRule
+ended_by e gone s = if acts_on e s then record s { gone = Some gone } else s
 
 -- ---- identities
 
@@ -92,13 +136,14 @@ AreInOrder stored =
 abbrev pub AreNumbered : List StoredRule → ℕ → Type 0
 AreNumbered stored last = (i : ℕ) (s : StoredRule) → slice_get stored i ≡ Some s → (i < s.rule.number) × (s.rule.number ≤ last)
 
--- A rule is live in the version that added it, where nothing has revised it yet; and neither its life nor a revision is of
--- a version after the last.
+-- A rule is live in the version that added it, and its life doesn't end after the last version.
 pub record AreLives (stored : List StoredRule) (last : ℕ) : Type 0 where
   pub begun : (i gone : ℕ) (s : StoredRule) → slice_get stored i ≡ Some s → s.gone ≡ Some gone → s.rule.number < gone
   pub ended : (i gone : ℕ) (s : StoredRule) → slice_get stored i ≡ Some s → s.gone ≡ Some gone → gone ≤ last
-  pub unrevised : (i : ℕ) (s : StoredRule) → slice_get stored i ≡ Some s → revision_in s.rule.number s.revisions.items ≡ None
-  pub settled : (i v : ℕ) (s : StoredRule) → slice_get stored i ≡ Some s → last ≤ v → revision_in v s.revisions.items ≡ revision_in last s.revisions.items
+
+-- No modification is of a version after the last.
+abbrev pub AreMade : List Modification → ℕ → Type 0
+AreMade modifications last = (i : ℕ) (m : Modification) → slice_get modifications i ≡ Some m → m.version ≤ last
 
 -- By each identity the place of the live rule that has it is found, and no other.
 pub record AreFound (stored : List StoredRule) (find : RuleIdentity → Option ℕ) : Type 0 where
@@ -107,12 +152,13 @@ pub record AreFound (stored : List StoredRule) (find : RuleIdentity → Option �
   pub own : (identity : RuleIdentity) (i : ℕ) (s : StoredRule) → find identity ≡ Some i → slice_get stored i ≡ Some s
       → (s.gone ≡ None) × (is_same_identity identity (identity_of s.rule) ≡ true)
 
--- What holds of the stored rules, of the place that is found by each identity, of the last version, and of the count
--- of changes: an edit changes no more rules than there are numbers.
-pub record IsSound (stored : List StoredRule) (find : RuleIdentity → Option ℕ) (last changes : ℕ) : Type 0 where
+-- What holds of the modifications, of the stored rules, of the place that is found by each identity, of the last version,
+-- and of the count of changes: an edit changes no more rules than there are numbers.
+pub record IsSound (modifications : List Modification) (stored : List StoredRule) (find : RuleIdentity → Option ℕ) (last changes : ℕ) : Type 0 where
   pub fits : last < 2 ^ 32
   pub in_order : AreInOrder stored
   pub numbered : AreNumbered stored last
   pub lives : AreLives stored last
+  pub made : AreMade modifications last
   pub found : AreFound stored find
   pub few_changes : changes ≤ 2 ^ 32 * last

@@ -1,6 +1,13 @@
+ghost use Rattle.std.specs.Prelude.{◌≡◌, IfOk, []};
+ghost use Rattle.spec_tables.specs.Edits.{is_in_table, is_named_by, is_reached_by};
+ghost use Rattle.rule_tables.specs.Views.{rule_view};
+ghost use Rattle.rule_tables.specs.Stored.{picks};
+
 use crate::actions::Actions;
 use crate::matching::Match;
+use crate::rule::Rule;
 use spec_tables::EditWord;
+use std::alloc::{AllocError, Global};
 use std::marker::Model;
 
 /// An edit of the tables (ovs-ofctl(8), `add-flow`, `mod-flows` and `del-flows`).
@@ -25,4 +32,57 @@ impl Model for Edit {
     ghost use Rattle.rule_tables.specs.Views.{match_view};
 
     ghost view = { λ e. record { word = e.word; table = e.table; priority = e.priority; cookie = e.cookie; matching = match_view e.matching; actions = e.actions } };
+}
+
+impl Edit {
+    /// The same edit again.
+    pub(crate) fn copy(&self, alloc: Global) -> Result<Edit, AllocError>
+        ensures { IfOk result (λ e. e ≡ self.now) }
+    {
+        let actions = Vec::from_slice(alloc, self.actions.as_slice())?;
+        Ok(Edit {
+            word: self.word,
+            table: self.table,
+            priority: self.priority,
+            cookie: self.cookie,
+            matching: self.matching,
+            actions: Actions::new(actions),
+        })
+    }
+
+    /// Whether the edit acts on a rule that is live: a loose word on each that it reaches, another on the one that it names.
+    pub(crate) fn picks(&self, rule: &Rule) -> bool
+        ensures { result ≡ picks self.now rule.now }
+    {
+        match self.word {
+            EditWord::Modify | EditWord::Delete => self.reaches(rule),
+            EditWord::Add | EditWord::ModifyStrict | EditWord::DeleteStrict => self.names(rule),
+        }
+    }
+
+    /// Whether a rule's match is the edit's or one more specific, in the edit's table or in any where it names none.
+    pub(crate) fn reaches(&self, rule: &Rule) -> bool
+        ensures { result ≡ is_reached_by self.now (rule_view rule.now []) }
+    {
+        is_in_table(self.table, rule) && rule.matching.is_within(&self.matching)
+    }
+
+    /// Whether a rule has the edit's table, priority and match.
+    fn names(&self, rule: &Rule) -> bool
+        ensures { result ≡ is_named_by self.now (rule_view rule.now []) }
+    {
+        rule.table == self.table.unwrap_or(0)
+            && rule.priority == self.priority
+            && rule.matching == self.matching
+    }
+}
+
+/// Whether a rule stands in a table, or in any where none is given.
+fn is_in_table(table: Option<u8>, rule: &Rule) -> bool
+    ensures { result ≡ is_in_table table (rule_view rule.now []) }
+{
+    match table {
+        None => true,
+        Some(table) => rule.table == table,
+    }
 }

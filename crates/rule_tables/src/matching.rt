@@ -4,7 +4,7 @@ ghost use Rattle.ovs_fields.specs.Packed.{numbers, bits};
 ghost use Rattle.std.specs.List.{fold};
 ghost use Rattle.rule_tables.specs.HashInput.{mask_writes};
 
-use ovs_fields::{FieldId, Key, Mask, all_fields, key_hash};
+use ovs_fields::{FieldId, Key, Mask, agree, all_fields, covers, key_hash};
 use std::hash::{Hash, Hasher};
 
 /// What a rule states of a packet: the numbers of the key, at the bits of the mask.
@@ -20,6 +20,7 @@ pub struct Match {
 impl Match {
     ghost use Rattle.rule_tables.specs.Views.{match_view};
     ghost use Rattle.spec_tables.specs.Rules as tables;
+    ghost use Rattle.spec_tables.specs.Rules.{is_within};
     ghost use Rattle.spec_keys.specs.Keys.{none};
 
     /// The match of every packet.
@@ -31,6 +32,13 @@ impl Match {
             key: Key::zero(),
             mask: Mask::none(),
         }
+    }
+
+    /// Whether it is the other match or one more specific: it states every bit that the other states, alike.
+    pub(crate) fn is_within(&self, other: &Match) -> bool
+        ensures { result ≡ is_within (match_view self.now) (match_view other.now) }
+    {
+        covers(&self.mask, &other.mask) && agree(&self.key, &other.key, &other.mask)
     }
 }
 

@@ -1,8 +1,9 @@
-ghost use Rattle.std.specs.Prelude.{◌≡◌, ℕ, Option, Some, None, slice_get};
+ghost use Rattle.std.specs.Prelude.{◌≡◌, ℕ, List, Option, Some, None, slice_get};
 ghost use Rattle.std.specs.Option.{option_map};
 ghost use Rattle.spec_tables.specs.Rules.{is_beaten, better, rules_in, winner};
 ghost use Rattle.spec_tables.specs.Live.{rule_numbered};
 ghost use Rattle.ovs_fields.specs.Packed.{numbers};
+ghost use Rattle.rule_tables.specs.declared.stored.Modification.{Modification};
 ghost use Rattle.rule_tables.specs.Candidates.{is_candidate};
 ghost use Rattle.rule_tables.specs.Stored.{stored_in, stored_numbered, rules_at, AreInOrder};
 
@@ -33,7 +34,7 @@ pub(crate) fn stored_at(rules: &[StoredRule], number: u32) -> Option<&StoredRule
 /// The stored rule of a number, if it is live in a version.
 pub(crate) fn find_live(rules: &[StoredRule], version: u32, number: u32) -> Option<&StoredRule>
     requires { AreInOrder rules.now }
-    ensures { option_map (λ s. stored_in version s.now) result ≡ rule_numbered number (rules_at version rules.now) }
+    ensures { (made : List Modification) → option_map (λ s. stored_in made version s.now) result ≡ rule_numbered number (rules_at made version rules.now) }
 {
     let stored = stored_at(rules, number)?;
     if stored.is_live(version) {
@@ -44,14 +45,14 @@ pub(crate) fn find_live(rules: &[StoredRule], version: u32, number: u32) -> Opti
 }
 
 fn is_beaten_by(rule: &StoredRule, other: &StoredRule) -> bool
-    ensures { (v : ℕ) → result ≡ is_beaten (stored_in v rule.now) (stored_in v other.now) }
+    ensures { (made : List Modification) (v : ℕ) → result ≡ is_beaten (stored_in made v rule.now) (stored_in made v other.now) }
 {
     rule.rule.priority < other.rule.priority
         || (rule.rule.priority == other.rule.priority && other.rule.number < rule.rule.number)
 }
 
 fn better_of<'a>(rule: &'a StoredRule, best: Option<&'a StoredRule>) -> &'a StoredRule
-    ensures { (v : ℕ) → better (stored_in v rule.now) (option_map (λ s. stored_in v s.now) best.entry) ≡ Some (stored_in v result.now) }
+    ensures { (made : List Modification) (v : ℕ) → better (stored_in made v rule.now) (option_map (λ s. stored_in made v s.now) best.entry) ≡ Some (stored_in made v result.now) }
 {
     match best {
         None => rule,
@@ -82,7 +83,7 @@ pub(crate) fn winner_of<'a>(
     table: u8,
     key: &Key,
 ) -> Option<&'a StoredRule>
-    ensures { option_map (λ s. stored_in version s.now) result ≡ winner (rules_in table (rules_at version rules.now)) (numbers key.now) }
+    ensures { (made : List Modification) → option_map (λ s. stored_in made version s.now) result ≡ winner (rules_in table (rules_at made version rules.now)) (numbers key.now) }
 {
     let mut best = None;
     'rules: for i in (0..rules.len()).rev() {

@@ -1,6 +1,6 @@
-ghost use Rattle.std.specs.Prelude.{◌≡◌, ◌+◌, ◌<◌, ◌≤◌, ◌^◌, ◌↔◌, IsTrue, IsNone, IfSome, IfOk, OnOk, OnErr, Some, None, [], is_some, if◌then◌else◌};
+ghost use Rattle.std.specs.Prelude.{◌≡◌, ◌+◌, ◌<◌, ◌≤◌, ◌^◌, ◌↔◌, IsTrue, IsNone, IfSome, IfOk, OnOk, OnErr, Some, None, is_some, if◌then◌else◌};
 ghost use Rattle.std.specs.Option.{option_map};
-ghost use Rattle.spec_tables.specs.declared.edit_word.EditWord.TheVariants.{Add};
+ghost use Rattle.spec_tables.specs.declared.edit_word.EditWord.TheVariants.{Add, Delete, DeleteStrict};
 ghost use Rattle.spec_tables.specs.Rules.{rules_in, winner};
 ghost use Rattle.spec_tables.specs.Live.{is_live, rule_numbered};
 ghost use Rattle.ovs_fields.specs.Packed.{numbers};
@@ -12,9 +12,10 @@ use crate::edit::Edit;
 use crate::identity::RuleIdentity;
 use crate::rule::Rule;
 use crate::search::{find_live, stored_at, winner_of};
-use crate::stored::{StoredRule, end_rule};
+use crate::stored::{Modification, StoredRule, count_acted_on, end_rule, end_rules};
 use ovs_fields::Key;
 use spec_actions::OfAction;
+use spec_tables::EditWord;
 use std::alloc::{AllocError, Global};
 use std::collections::HashMap;
 use std::marker::Model;
@@ -25,6 +26,8 @@ pub struct VersionedRules {
     alloc: Global,
     /// Every rule that was ever added, in the order of their numbers.
     rules: Vec<StoredRule>,
+    /// What the modifies made, in the order of their versions.
+    modifications: Vec<Modification>,
     /// The place among these of the live rule of each identity.
     places: HashMap<RuleIdentity, u32>,
     /// The last version: how many edits were applied.
@@ -45,9 +48,11 @@ impl Model for VersionedRules {
 }
 
 impl VersionedRules {
+    ghost use Rattle.std.specs.Prelude.{true, count_by};
     ghost use Rattle.spec_tables.specs.Edits.{rule_of};
     ghost use Rattle.rule_tables.specs.History.{no_edits};
-    ghost use Rattle.rule_tables.specs.Stored.{stored_in};
+    ghost use Rattle.rule_tables.specs.Views.{rule_view};
+    ghost use Rattle.rule_tables.specs.Stored.{is_modify, is_picked_by};
 
     /// No rules, and no version but version 0. It takes no memory.
     pub fn new(alloc: Global) -> VersionedRules
@@ -56,6 +61,7 @@ impl VersionedRules {
         VersionedRules {
             alloc,
             rules: Vec::new(alloc),
+            modifications: Vec::new(alloc),
             places: HashMap::new(alloc),
             last: 0,
             changes: 0,
@@ -78,19 +84,20 @@ impl VersionedRules {
 
     /// Makes the next version, and answers it.
     ///
-    /// The only error is out of memory, and then nothing changed.
+    /// An add puts its rule in place of a live one of the same table, priority and match. A modify gives its actions, and
+    /// its cookie where it has one, to every live rule whose match is the given one or more specific, and a delete removes
+    /// those; the strict words act on the one live rule of the given table, priority and match. A word that finds no rule
+    /// changes none.
+    ///
+    /// The only error is out of memory, and then nothing changed. A delete takes no memory.
     pub fn apply(&mut self, edit: &Edit) -> Result<u32, AllocError>
-        requires add { edit.now.word ≡ Add }
-        requires room { newest self.old + 1 < 2 ^ 32 }
+        requires { newest self.old + 1 < 2 ^ 32 }
         ensures edited { OnOk result (self.new ≡ edited_by edit.now self.old) }
         ensures version { IfOk result (λ v. v ≡ newest self.new) }
         ensures err { OnErr result (self.new ≡ self.old) }
     {
-        let actions = Vec::from_slice(self.alloc, edit.actions.as_slice())?;
-        let number = self.version() + 1;
-        let stored = StoredRule::new(self.alloc, number, edit, Actions::new(actions));
-        self.add(edit, stored)?;
-        Ok(number)
+        self.edit(edit)?;
+        Ok(self.version())
     }
 
     /// The number of the rule that wins for a key in a table of a version.
@@ -126,7 +133,7 @@ impl VersionedRules {
         ensures { option_map (λ r. r.cookie) (rule_numbered number (rules_of self.now v)) ≡ Some result }
     {
         match find_live(&self.rules, v, number) {
-            Some(stored) => stored.cookie_in(v),
+            Some(stored) => stored.cookie_in(&self.modifications, v),
             None => unreachable!(),
         }
     }
@@ -138,19 +145,51 @@ impl VersionedRules {
         ensures { option_map (λ r. r.actions) (rule_numbered number (rules_of self.now v)) ≡ Some result.now }
     {
         match find_live(&self.rules, v, number) {
-            Some(stored) => stored.actions_in(v),
+            Some(stored) => stored.actions_in(&self.modifications, v),
             None => unreachable!(),
         }
     }
 
-    /// Adds the rule of an edit, and ends the life of the one whose identity it has.
-    fn add(&mut self, edit: &Edit, stored: StoredRule) -> Result<(), AllocError>
+    /// Makes the next version.
+    fn edit(&mut self, edit: &Edit) -> Result<(), AllocError>
+        requires { newest self.old + 1 < 2 ^ 32 }
+        ensures edited { OnOk result (self.new ≡ edited_by edit.now self.old) }
+        ensures err { OnErr result (self.new ≡ self.old) }
+    {
+        match edit.word {
+            EditWord::Add => self.add(edit),
+            EditWord::Modify | EditWord::ModifyStrict => self.modify(edit),
+            EditWord::Delete => {
+                self.delete(edit);
+                Ok(())
+            }
+            EditWord::DeleteStrict => {
+                self.delete_strict(edit);
+                Ok(())
+            }
+        }
+    }
+
+    /// Adds the rule of an edit.
+    fn add(&mut self, edit: &Edit) -> Result<(), AllocError>
+        requires add { edit.now.word ≡ Add }
+        requires room { newest self.old + 1 < 2 ^ 32 }
+        ensures edited { OnOk result (self.new ≡ edited_by edit.now self.old) }
+        ensures err { OnErr result (self.new ≡ self.old) }
+    {
+        let actions = Vec::from_slice(self.alloc, edit.actions.as_slice())?;
+        let number = self.version() + 1;
+        let stored = StoredRule::new(number, edit, Actions::new(actions));
+        self.put(edit, stored)
+    }
+
+    /// Puts the rule of an edit into the store, and ends the life of the one whose identity it has.
+    fn put(&mut self, edit: &Edit, stored: StoredRule) -> Result<(), AllocError>
         requires add { edit.now.word ≡ Add }
         requires room { newest self.old + 1 < 2 ^ 32 }
         requires on { stored.gone ≡ None }
-        requires unrevised { stored.revisions.items ≡ [] }
         requires number { stored.rule.number ≡ newest self.old + 1 }
-        requires rule { stored_in stored.rule.number stored ≡ rule_of stored.rule.number edit.now }
+        requires rule { rule_view stored.rule stored.actions ≡ rule_of (newest self.old + 1) edit.now }
         ensures edited { OnOk result (self.new ≡ edited_by edit.now self.old) }
         ensures err { OnErr result (self.new ≡ self.old) }
     {
@@ -164,6 +203,62 @@ impl VersionedRules {
         self.last = number;
         self.changes += count_changes(replaced);
         Ok(())
+    }
+
+    /// Gives the actions of an edit to the rules that it acts on.
+    fn modify(&mut self, edit: &Edit) -> Result<(), AllocError>
+        requires modify { is_modify edit.now.word ≡ true }
+        requires room { newest self.old + 1 < 2 ^ 32 }
+        ensures edited { OnOk result (self.new ≡ edited_by edit.now self.old) }
+        ensures err { OnErr result (self.new ≡ self.old) }
+    {
+        let version = self.last + 1;
+        let count = self.count(edit);
+        if count == 0 {
+            self.last = version;
+            return Ok(());
+        }
+        let edit = edit.copy(self.alloc)?;
+        self.modifications.push(Modification { version, edit })?;
+        self.last = version;
+        self.changes += count;
+        Ok(())
+    }
+
+    /// Removes the rules that a loose edit reaches.
+    fn delete(&mut self, edit: &Edit)
+        requires delete { edit.now.word ≡ Delete }
+        requires room { newest self.old + 1 < 2 ^ 32 }
+        ensures { self.new ≡ edited_by edit.now self.old }
+    {
+        let version = self.last + 1;
+        let count = end_rules(&mut self.rules, &mut self.places, edit, version);
+        self.last = version;
+        self.changes += count as u64;
+    }
+
+    /// Removes the rule that an edit names.
+    fn delete_strict(&mut self, edit: &Edit)
+        requires delete { edit.now.word ≡ DeleteStrict }
+        requires room { newest self.old + 1 < 2 ^ 32 }
+        ensures { self.new ≡ edited_by edit.now self.old }
+    {
+        let version = self.last + 1;
+        let place = self.places.remove(&RuleIdentity::named_by(edit));
+        end_rule(&mut self.rules, place, version);
+        self.last = version;
+        self.changes += u64::from(place.is_some());
+    }
+
+    /// On how many rules an edit acts. Of a strict word it is known from the map of identities.
+    fn count(&self, edit: &Edit) -> u64
+        requires { is_modify edit.now.word ≡ true }
+        ensures { result ≡ count_by (is_picked_by edit.now.word edit.now) (rules_of self.now (newest self.now)) }
+    {
+        match edit.word {
+            EditWord::Modify => count_acted_on(&self.rules, edit) as u64,
+            _ => u64::from(self.places.contains_key(&RuleIdentity::named_by(edit))),
+        }
     }
 }
 

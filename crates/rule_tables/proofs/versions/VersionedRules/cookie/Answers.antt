@@ -1,6 +1,7 @@
 use Rattle.std.proofs.Common.{Some, sym, ap, ◌∙◌}
 use Rattle.std.specs.Option.{option_map}
 use Rattle.spec_tables.specs.Live.{rule_numbered}
+use Rattle.rule_tables.specs.Stored.{cookie_in}
 use Rattle.rule_tables.proofs.Numbered.{not_live}
 use Rattle.rule_tables.proofs.Seen.{in_order_there, seen_rules}
 use Rattle.rule_tables.proofs.versions.VersionedRules.cookie.Goals as goal
@@ -10,9 +11,9 @@ find_live-requires c = in_order_there c.self.inside.rules.items c.deref.result.n
 
 pub unreachable-requires : goal.unreachable-requires
 unreachable-requires c =
-    not_live c.args.number _ (c.in-None.ensures ∙ ap (rule_numbered c.args.number) (seen_rules c.self.inside.rules.items c.deref.result.now c.self.inside.last c.self.inside.changes c.args.self.now c.deref.ensures.value c.self.view_is c.args.v c.requires.made)) c.requires.live
+    not_live c.args.number _ (c.in-None.ensures c.self.inside.modifications.items ∙ ap (rule_numbered c.args.number) (seen_rules c.self.inside.modifications.items c.self.inside.rules.items c.deref.result.now c.self.inside.last c.self.inside.changes c.args.self.now c.deref.ensures.value c.self.view_is c.args.v c.requires.made)) c.requires.live
 
 pub returns : goal.returns
 returns c =
-    ap (option_map (λ r. r.cookie)) (ap (rule_numbered c.args.number) (sym (seen_rules c.self.inside.rules.items c.deref.result.now c.self.inside.last c.self.inside.changes c.args.self.now c.deref.ensures.value c.self.view_is c.args.v c.requires.made)) ∙ sym c.in-Some.ensures)
-    ∙ ap (λ x. Some x) (sym c.cookie_in.ensures)
+    ap (option_map (λ r. r.cookie)) (ap (rule_numbered c.args.number) (sym (seen_rules c.self.inside.modifications.items c.self.inside.rules.items c.deref.result.now c.self.inside.last c.self.inside.changes c.args.self.now c.deref.ensures.value c.self.view_is c.args.v c.requires.made)) ∙ sym (c.in-Some.ensures c.self.inside.modifications.items))
+    ∙ ap (λ x. Some x) (sym (c.cookie_in.ensures ∙ ap (λ made. cookie_in made c.args.v c.in-Some.stored.now) c.deref-in-Some.ensures.value))

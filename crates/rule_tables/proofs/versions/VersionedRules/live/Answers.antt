@@ -10,5 +10,5 @@ find_live-requires c = in_order_there c.self.inside.rules.items c.deref.result.n
 
 pub returns : goal.returns
 returns c =
-    c.is_some.ensures ∙ live_if_found (λ s. stored_in c.args.v s.now) c.find_live.result c.args.number _ c.find_live.ensures
-    ∙ ap (is_live c.args.number) (seen_rules c.self.inside.rules.items c.deref.result.now c.self.inside.last c.self.inside.changes c.args.self.now c.deref.ensures.value c.self.view_is c.args.v c.requires)
+    c.is_some.ensures ∙ live_if_found (λ s. stored_in c.self.inside.modifications.items c.args.v s.now) c.find_live.result c.args.number _ (c.find_live.ensures c.self.inside.modifications.items)
+    ∙ ap (is_live c.args.number) (seen_rules c.self.inside.modifications.items c.self.inside.rules.items c.deref.result.now c.self.inside.last c.self.inside.changes c.args.self.now c.deref.ensures.value c.self.view_is c.args.v c.requires)

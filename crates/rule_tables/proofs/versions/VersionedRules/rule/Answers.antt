@@ -11,7 +11,7 @@ stored_at-requires c = in_order_there c.self.inside.rules.items c.deref.result.n
 pub returns-in_err-stored-clause-none : goal.returns-in_err-stored-clause-none
 returns-in_err-stored-clause-none c = (
   λ none.
-      none_added c.self.inside.rules.items c.deref.result.now c.self.inside.last c.self.inside.changes c.args.self.now c.deref.ensures.value c.self.view_is
+      none_added c.self.inside.modifications.items c.self.inside.rules.items c.deref.result.now c.self.inside.last c.self.inside.changes c.args.self.now c.deref.ensures.value c.self.view_is
       c.self.invariant.in_order c.self.invariant.numbered c.self.invariant.lives c.args.number c.in_err-stored.ensures,
   λ none. ap is_some c.from_residual.ensures,
 )
@@ -21,13 +21,13 @@ returns-clause-none c = (
   λ none. absurd (false≢true (sym none)),
   λ none.
       absurd (none-some _ (sym none
-      ∙ is_added c.self.inside.rules.items c.deref.result.now c.self.inside.last c.self.inside.changes c.args.self.now c.deref.ensures.value c.self.view_is
+      ∙ is_added c.self.inside.modifications.items c.self.inside.rules.items c.deref.result.now c.self.inside.last c.self.inside.changes c.args.self.now c.deref.ensures.value c.self.view_is
       c.self.invariant.in_order c.self.invariant.numbered c.self.invariant.lives c.args.number c.in_ok-stored.stored.now c.in_ok-stored.ensures)),
 )
 
 pub returns-clause-some : goal.returns-clause-some
 returns-clause-some c = (
   c.in_ok-stored.stored.now.actions,
-  is_added c.self.inside.rules.items c.deref.result.now c.self.inside.last c.self.inside.changes c.args.self.now c.deref.ensures.value c.self.view_is
+  is_added c.self.inside.modifications.items c.self.inside.rules.items c.deref.result.now c.self.inside.last c.self.inside.changes c.args.self.now c.deref.ensures.value c.self.view_is
       c.self.invariant.in_order c.self.invariant.numbered c.self.invariant.lives c.args.number c.in_ok-stored.stored.now c.in_ok-stored.ensures,
 )

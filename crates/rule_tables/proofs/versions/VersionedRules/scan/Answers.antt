@@ -8,8 +8,8 @@ use Rattle.rule_tables.proofs.versions.VersionedRules.scan.Goals as goal
 pub returns-in_err-stored : goal.returns-in_err-stored
 returns-in_err-stored c =
     c.from_residual.ensures
-    ∙ ap (option_map (λ r. r.number)) (c.in_err-stored.ensures ∙ ap (λ rules. winner (rules_in c.args.table rules) (numbers c.args.key.now)) (seen_rules c.self.inside.rules.items c.deref.result.now c.self.inside.last c.self.inside.changes c.args.self.now c.deref.ensures.value c.self.view_is c.args.v c.requires))
+    ∙ ap (option_map (λ r. r.number)) (c.in_err-stored.ensures c.self.inside.modifications.items ∙ ap (λ rules. winner (rules_in c.args.table rules) (numbers c.args.key.now)) (seen_rules c.self.inside.modifications.items c.self.inside.rules.items c.deref.result.now c.self.inside.last c.self.inside.changes c.args.self.now c.deref.ensures.value c.self.view_is c.args.v c.requires))
 
 pub returns : goal.returns
 returns c =
-    ap (option_map (λ r. r.number)) (c.in_ok-stored.ensures ∙ ap (λ rules. winner (rules_in c.args.table rules) (numbers c.args.key.now)) (seen_rules c.self.inside.rules.items c.deref.result.now c.self.inside.last c.self.inside.changes c.args.self.now c.deref.ensures.value c.self.view_is c.args.v c.requires))
+    ap (option_map (λ r. r.number)) (c.in_ok-stored.ensures c.self.inside.modifications.items ∙ ap (λ rules. winner (rules_in c.args.table rules) (numbers c.args.key.now)) (seen_rules c.self.inside.modifications.items c.self.inside.rules.items c.deref.result.now c.self.inside.last c.self.inside.changes c.args.self.now c.deref.ensures.value c.self.view_is c.args.v c.requires))

@@ -1,22 +1,26 @@
 use Rattle.std.proofs.Common.{◌≡◌, ℕ, ◌+◌, ◌<◌, cond, Some, ◌≤◌, ◌^◌, length, List, [], ◌∷◌, ◌++◌, refl, sym, ap, ◌∙◌, subst, arith, take, drop, length-append}
 use Rattle.std.specs.Map.{lookup}
 use Rattle.std.specs.HashMap.{get}
-use Rattle.std.proofs.Math.Seq.{take-append_seam}
+use Rattle.spec_tables.specs.Edits.{rule_of}
 use Rattle.rule_tables.specs.declared.identity.RuleIdentity.{RuleIdentity}
 use Rattle.rule_tables.specs.declared.stored.StoredRule.{StoredRule}
 use Rattle.rule_tables.specs.History.{newest, edited_by}
 use Rattle.rule_tables.specs.Stored.{is_same_identity, with_end}
-use Rattle.rule_tables.proofs.Adding.{length_within, sound_moved, sound_added, lookup_respects}
+use Rattle.rule_tables.proofs.Adding.{sound_added}
+use Rattle.rule_tables.proofs.Ends.{written}
+use Rattle.rule_tables.proofs.Finds.{lookup_respects}
+use Rattle.rule_tables.proofs.Lives.{length_within}
 use Rattle.rule_tables.proofs.Seen.{seen_newest, same_history, on_err}
-use Rattle.rule_tables.proofs.versions.VersionedRules.add.Goals as goal
+use Rattle.rule_tables.proofs.Sound.{sound_moved}
+use Rattle.rule_tables.proofs.versions.VersionedRules.put.Goals as goal
 
 pub invariant_of-self : goal.invariant_of-self
 invariant_of-self c =
-    sound_moved c.self.inside.rules.items _ _ _ _ _ c.in_err-reserve.ensures.items (λ q. refl) c.self.invariant
+    sound_moved c.self.inside.modifications.items c.self.inside.modifications.items c.self.inside.rules.items _ _ _ _ _ refl c.in_err-reserve.ensures.items (λ q. refl) c.self.invariant
 
 pub returns-in_err-reserve-clause-err : goal.returns-in_err-reserve-clause-err
 returns-in_err-reserve-clause-err c =
-    on_err c.from_residual.result (same_history c.reserve.new.self.items c.self.inside.rules.items c.self.inside.last c.self.inside.changes _ c.in_err-reserve.ensures.items c.self.view_is)
+    on_err c.from_residual.result (same_history c.self.inside.modifications.items c.self.inside.modifications.items c.self.inside.rules.items c.reserve.new.self.items c.self.inside.last c.self.inside.changes _ refl c.in_err-reserve.ensures.items c.self.view_is)
 
 pub overflow_cast-place : goal.overflow_cast-place
 overflow_cast-place c =
@@ -26,7 +30,7 @@ overflow_cast-place c =
 
 pub invariant_of-self-in_err-replaced : goal.invariant_of-self-in_err-replaced
 invariant_of-self-in_err-replaced c =
-    sound_moved c.self.inside.rules.items _ _ _ _ _ c.reserve.ensures.items (λ q. ap (λ (es : List (RuleIdentity × ℕ)). lookup (is_same_identity q) es) c.in_err-replaced.ensures.err) c.self.invariant
+    sound_moved c.self.inside.modifications.items c.self.inside.modifications.items c.self.inside.rules.items _ _ _ _ _ refl c.reserve.ensures.items (λ q. ap (λ (es : List (RuleIdentity × ℕ)). lookup (is_same_identity q) es) c.in_err-replaced.ensures.err) c.self.invariant
 
 pub end_rule-requires : goal.end_rule-requires
 end_rule-requires c = λ place is.
@@ -36,24 +40,19 @@ end_rule-requires c = λ place is.
     let here : length c.deref_mut.result.now ≡ length c.push.new.self.items = ap length c.deref_mut.ensures.value in
     omega arith
 
--- a slice of all of a vector's elements, once written
-written : (n : ℕ) (xs ys : List StoredRule) → n ≡ length xs → take n (xs ++ drop (length xs) ys) ≡ xs
-written n xs ys all = ap (λ (m : ℕ). take m (xs ++ drop (length xs) ys)) all ∙ take-append_seam xs (drop (length xs) ys)
-
 pub invariant_of-self-2 : goal.invariant_of-self-2
 invariant_of-self-2 c =
-    let newest_is : newest c.args.self.now ≡ c.self.inside.last = seen_newest c.self.inside.rules.items c.self.inside.rules.items c.self.inside.last c.self.inside.changes c.args.self.now refl c.self.view_is in
+    let newest_is : newest c.args.self.now ≡ c.self.inside.last = seen_newest c.self.inside.modifications.items c.self.inside.rules.items c.self.inside.rules.items c.self.inside.last c.self.inside.changes c.args.self.now refl c.self.view_is in
     let place_is : c.len-place.result ≡ length c.self.inside.rules.items = grind (arith, ap length c.reserve.ensures.items) in
     let made =
-    sound_added c.self.inside.rules.items (λ q. get is_same_identity c.self.inside.places q) (λ q. get is_same_identity c.insert.new.self q) c.self.inside.last c.self.inside.changes c.self.invariant
+    sound_added c.self.inside.modifications.items c.self.inside.rules.items (λ q. get is_same_identity c.self.inside.places q) (λ q. get is_same_identity c.insert.new.self q) c.self.inside.last c.self.inside.changes c.self.invariant
     (lookup_respects c.self.inside.places.entries) c.args.edit.now c.args.stored
     (record {
       room = subst (λ (n : ℕ). n + 1 < 2 ^ 32) newest_is c.requires.room;
       adds = c.requires.add;
       on = c.requires.on;
-      unrevised = c.requires.unrevised;
       number = c.requires.number ∙ ap (λ (n : ℕ). n + 1) newest_is;
-      rule = c.requires.rule;
+      rule = c.requires.rule ∙ ap (λ (n : ℕ). rule_of (n + 1) c.args.edit.now) newest_is;
     })
     c.of.result c.of.ensures c.in_ok-replaced.replaced c.in_ok-replaced.ensures.old
     (λ q. c.in_ok-replaced.ensures.updates.0 q ∙ ap (λ (n : ℕ). cond (is_same_identity c.of.result q) (Some n) (get is_same_identity c.self.inside.places q)) place_is)
@@ -66,18 +65,17 @@ invariant_of-self-2 c =
 
 pub returns-clause-edited : goal.returns-clause-edited
 returns-clause-edited c =
-    let newest_is : newest c.args.self.now ≡ c.self.inside.last = seen_newest c.self.inside.rules.items c.self.inside.rules.items c.self.inside.last c.self.inside.changes c.args.self.now refl c.self.view_is in
+    let newest_is : newest c.args.self.now ≡ c.self.inside.last = seen_newest c.self.inside.modifications.items c.self.inside.rules.items c.self.inside.rules.items c.self.inside.last c.self.inside.changes c.args.self.now refl c.self.view_is in
     let place_is : c.len-place.result ≡ length c.self.inside.rules.items = grind (arith, ap length c.reserve.ensures.items) in
     let made =
-    sound_added c.self.inside.rules.items (λ q. get is_same_identity c.self.inside.places q) (λ q. get is_same_identity c.insert.new.self q) c.self.inside.last c.self.inside.changes c.self.invariant
+    sound_added c.self.inside.modifications.items c.self.inside.rules.items (λ q. get is_same_identity c.self.inside.places q) (λ q. get is_same_identity c.insert.new.self q) c.self.inside.last c.self.inside.changes c.self.invariant
     (lookup_respects c.self.inside.places.entries) c.args.edit.now c.args.stored
     (record {
       room = subst (λ (n : ℕ). n + 1 < 2 ^ 32) newest_is c.requires.room;
       adds = c.requires.add;
       on = c.requires.on;
-      unrevised = c.requires.unrevised;
       number = c.requires.number ∙ ap (λ (n : ℕ). n + 1) newest_is;
-      rule = c.requires.rule;
+      rule = c.requires.rule ∙ ap (λ (n : ℕ). rule_of (n + 1) c.args.edit.now) newest_is;
     })
     c.of.result c.of.ensures c.in_ok-replaced.replaced c.in_ok-replaced.ensures.old
     (λ q. c.in_ok-replaced.ensures.updates.0 q ∙ ap (λ (n : ℕ). cond (is_same_identity c.of.result q) (Some n) (get is_same_identity c.self.inside.places q)) place_is)
