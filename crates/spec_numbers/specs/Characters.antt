@@ -1,5 +1,6 @@
--- The characters that part texts, as their bytes in ASCII (RFC 20).
-use Rattle.std.specs.Prelude.{ℕ}
+-- The characters that part texts, as their bytes in ASCII (RFC 20), and those of values.
+use Rattle.std.specs.Prelude.{ℕ, Bool, ◌||◌, ◌==◌}
+use Rattle.std.specs.Char.{is_ascii_alphanumeric}
 
 abbrev pub tab : ℕ
 tab = 9
@@ -33,3 +34,7 @@ equals_sign = 61
 
 abbrev pub letter_x : ℕ
 letter_x = 120
+
+-- the characters of a printed number or address: digits, letters, colons and dots
+abbrev pub is_value_character : ℕ → Bool
+is_value_character c = is_ascii_alphanumeric c || (c == colon || c == dot)

@@ -1,2 +1,4 @@
 pub mod Characters
 pub mod Numbers
+pub mod Addresses
+pub mod Printed

@@ -1,5 +1,5 @@
--- Numbers and addresses as texts, as ovs-ofctl(8) writes them. Leading zeros are no part of a decimal number: this
--- profile doesn't guess at octal.
+-- Numbers and Ethernet addresses as texts, as ovs-ofctl(8) writes them. Leading zeros are no part of a decimal number:
+-- this profile doesn't guess at octal. Hexadecimal digits may begin with any number of them.
 use Rattle.std.specs.Prelude.{ℕ, ◌+◌, ◌*◌, ◌==◌, nat_le, nat_eq, Bool, false, not, ◌&&◌, if◌then◌else◌, List, length, take, drop, position, slice_index, Option, Some, None}
 use Rattle.std.specs.List.{list_all, starts_with}
 use Rattle.std.specs.Option.{option_map, option_map_or, option_and_then}
