@@ -1,0 +1,12 @@
+use Rattle.std.proofs.Common.{◌≡◌, ◌≤◌}
+use Rattle.spec_numbers.specs.Printed.{prefix_length_up_to, prefix_length_of}
+use Rattle.text_numbers.proofs.printing.ipv6_prefix_length.Given as goal
+
+abbrev pub invariant-lengths : goal.invariant-lengths
+invariant-lengths l = record {
+  within : l.length ≤ 128;
+  same : prefix_length_up_to 128 l.mask l.length ≡ prefix_length_of 128 l.mask;
+}
+
+abbrev pub decreases-lengths : goal.decreases-lengths
+decreases-lengths l = l.length

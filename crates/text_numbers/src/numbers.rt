@@ -1,0 +1,163 @@
+ghost use Rattle.std.specs.Prelude.{◌≡◌, ◌^◌, ◌<◌, ◌≤◌, ◌==◌, position, IfSome, length};
+ghost use Rattle.std.specs.Option.{option_map};
+ghost use Rattle.std.specs.List.{list_all};
+ghost use Rattle.std.specs.Char.{is_digit};
+ghost use Rattle.spec_numbers.specs.Numbers.{split_once, strip_prefix, are_digits, digits_upto, is_hexadecimal, has_leading_zero, decimal_upto, number_upto, last_port, nonzero, octet, octet_before_colon, mac};
+
+use std::str;
+
+/// The greatest number of a port of a switch.
+pub const LAST_PORT: u16 = 65_279;
+
+// The place of the first byte of this value.
+fn place_of(text: &[u8], byte: u8) -> Option<usize>
+    ensures { result ≡ position (λ c. c == byte) text.now }
+{
+    text.iter().position(|c| *c == byte)
+}
+
+/// The parts of a text round the first place of a byte.
+pub fn cut_at(text: &[u8], byte: u8) -> Option<(&[u8], &[u8])>
+    ensures { option_map (λ p. (p.0.now, p.1.now)) result ≡ split_once byte text.now }
+{
+    match place_of(text, byte) {
+        None => None,
+        Some(i) => {
+            let (front, _) = text.split_at(i);
+            let (_, rest) = text.split_at(i + 1);
+            Some((front, rest))
+        }
+    }
+}
+
+/// A text without its start.
+pub fn after_start<'a>(start: &[u8], text: &'a [u8]) -> Option<&'a [u8]>
+    ensures { option_map (λ rest. rest.now) result ≡ strip_prefix start.now text.now }
+{
+    text.strip_prefix(start)
+}
+
+fn all_digits(text: &[u8], base: u32) -> bool
+    requires low { 2 ≤ base }
+    requires high { base ≤ 16 }
+    ensures { result ≡ list_all (λ c. is_digit c base) text.now }
+{
+    text.iter().all(|c| char::from(*c).is_digit(base))
+}
+
+fn has_digits(text: &[u8], base: u32) -> bool
+    requires low { 2 ≤ base }
+    requires high { base ≤ 16 }
+    ensures { result ≡ are_digits base text.now }
+{
+    !text.is_empty() && all_digits(text, base)
+}
+
+/// The number that digits of a base write, where it is at most so much. The digits above 9 may be of either case.
+#[tactic(auto, unfolding(spec_numbers::specs::Numbers::digits_upto))]
+pub fn read_digits(text: &[u8], base: u32, most: u128) -> Option<u128>
+    requires low { 2 ≤ base }
+    requires high { base ≤ 16 }
+    ensures value { result ≡ digits_upto base most text.now }
+    ensures fits { IfSome result (λ n. n ≤ most) }
+{
+    if !has_digits(text, base) {
+        return None;
+    }
+    let Ok(text) = str::from_utf8(text) else {
+        return None;
+    };
+    match u128::from_str_radix(text, base) {
+        Err(_) => None,
+        Ok(value) => { if value <= most { Some(value) } else { None } }
+    }
+}
+
+fn starts_hexadecimal(text: &[u8]) -> bool
+    ensures { result ≡ is_hexadecimal text.now }
+{
+    text.len() >= 2 && text[0] == b'0' && text[1] == b'x'
+}
+
+fn leads_with_zero(text: &[u8]) -> bool
+    ensures { result ≡ has_leading_zero text.now }
+{
+    !text.is_empty() && text[0] == b'0' && text.len() != 1
+}
+
+/// A number in decimal, without leading zeros, at most so much.
+#[tactic(auto, unfolding(spec_numbers::specs::Numbers::decimal_upto))]
+pub fn read_decimal(text: &[u8], most: u128) -> Option<u128>
+    ensures value { result ≡ decimal_upto most text.now }
+    ensures fits { IfSome result (λ n. n ≤ most) }
+{
+    if leads_with_zero(text) {
+        return None;
+    }
+    read_digits(text, 10, most)
+}
+
+/// A number in decimal, or in hexadecimal after `0x`, at most so much.
+#[tactic(auto, unfolding(spec_numbers::specs::Numbers::number_upto))]
+pub fn read_number(text: &[u8], most: u128) -> Option<u128>
+    ensures value { result ≡ number_upto most text.now }
+    ensures fits { IfSome result (λ n. n ≤ most) }
+{
+    if starts_hexadecimal(text) {
+        let (_, digits) = text.split_at(2);
+        return read_digits(digits, 16, most);
+    }
+    read_decimal(text, most)
+}
+
+/// A number that is one of a port, from 1 to `LAST_PORT`.
+pub fn as_port(number: u128) -> Option<u16>
+    requires { number ≤ last_port }
+    ensures value { result ≡ nonzero number }
+    ensures fits { IfSome result (λ n. n ≤ last_port) }
+{
+    if number == 0 {
+        None
+    } else {
+        Some(number as u16)
+    }
+}
+
+#[tactic(auto, unfolding(spec_numbers::specs::Numbers::octet))]
+fn read_octet(text: &[u8]) -> Option<u64>
+    ensures value { result ≡ octet text.now }
+    ensures fits { IfSome result (λ n. n < 256) }
+{
+    if text.len() > 2 {
+        return None;
+    }
+    match read_digits(text, 16, 255) {
+        None => None,
+        Some(n) => Some(n as u64),
+    }
+}
+
+#[tactic(auto, unfolding(spec_numbers::specs::Numbers::octet_before_colon))]
+fn read_octet_before_colon(text: &[u8]) -> Option<(u64, &[u8])>
+    ensures value { option_map (λ p. (p.0, p.1.now)) result ≡ octet_before_colon text.now }
+    ensures fits { IfSome result (λ p. p.0 < 256) }
+{
+    let (group, rest) = cut_at(text, b':')?;
+    let n = read_octet(group)?;
+    Some((n, rest))
+}
+
+/// An Ethernet address of 48 bits: six octets in hexadecimal, of one or two digits, with colons between them.
+#[tactic(auto, unfolding(spec_numbers::specs::Numbers::mac))]
+pub fn read_mac(text: &[u8]) -> Option<u64>
+    ensures value { result ≡ mac text.now }
+    ensures fits { IfSome result (λ n. n < 2 ^ 48) }
+{
+    let (a, rest) = read_octet_before_colon(text)?;
+    let (b, rest) = read_octet_before_colon(rest)?;
+    let (c, rest) = read_octet_before_colon(rest)?;
+    let (d, rest) = read_octet_before_colon(rest)?;
+    let (e, rest) = read_octet_before_colon(rest)?;
+    let f = read_octet(rest)?;
+    Some(((((a * 256 + b) * 256 + c) * 256 + d) * 256 + e) * 256 + f)
+}
