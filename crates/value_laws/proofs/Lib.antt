@@ -1,0 +1,7 @@
+mod Lists
+mod Cuts
+mod DigitLaws
+mod GroupLaws
+mod AddressLaws
+mod MaskLaws
+mod CharacterLaws
