@@ -1,3 +1,21 @@
-//! Flows as text, after ovs-ofctl(8): the edit that a line spells. A line is its bytes. `FlowText` says which form is built
-//! so far.
+//! Flows as text, after ovs-ofctl(8), ovs-fields(7) and ovs-actions(7). A line is its bytes.
+//!
+//! - `Names`: the names of fields, shorthands, other items and actions, and those that are known and left out.
+//! - `Values`: what a value states of a named field: its form, its range, its mask, and what it needs.
+//! - `Items`: a line as words with separators between them; what the items of a match state, one after the other, and
+//!   the first fault.
+//! - `Matches`: which of the stated bits are kept, and the match that they make; what a line says before its actions.
+//! - `Actions`: the actions of a list, one after the other, and the first fault.
+//! - `Printed`: the one text of a match and of an action list.
+//! - `FlowText`: the edit that a line of the first built form spells; what is built above it stands on it for now.
 #![tactic(auto)]
+
+mod fault;
+mod names;
+mod part;
+mod shorthand;
+
+pub use fault::TextFault;
+pub use names::{ActionName, ItemName};
+pub use part::{MatchPrerequisite, Part, TagPart, ValueForm};
+pub use shorthand::Shorthand;

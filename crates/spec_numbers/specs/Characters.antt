@@ -14,6 +14,15 @@ carriage_return = 13
 abbrev pub space : ℕ
 space = 32
 
+abbrev pub number_sign : ℕ
+number_sign = 35
+
+abbrev pub left_parenthesis : ℕ
+left_parenthesis = 40
+
+abbrev pub right_parenthesis : ℕ
+right_parenthesis = 41
+
 abbrev pub comma : ℕ
 comma = 44
 
@@ -23,6 +32,9 @@ hyphen = 45
 abbrev pub dot : ℕ
 dot = 46
 
+abbrev pub slash : ℕ
+slash = 47
+
 abbrev pub digit_zero : ℕ
 digit_zero = 48
 
@@ -31,6 +43,15 @@ colon = 58
 
 abbrev pub equals_sign : ℕ
 equals_sign = 61
+
+abbrev pub greater_than : ℕ
+greater_than = 62
+
+abbrev pub left_bracket : ℕ
+left_bracket = 91
+
+abbrev pub right_bracket : ℕ
+right_bracket = 93
 
 abbrev pub letter_x : ℕ
 letter_x = 120
