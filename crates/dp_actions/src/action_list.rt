@@ -1,6 +1,7 @@
-ghost use Rattle.std.specs.Prelude.{◌≡◌};
+ghost use Rattle.std.specs.Prelude.{◌≡◌, ◌==◌, [], ◌∷◌, ◌++◌, length, take, OnOk, OnErr};
 
 use spec_actions::DpAction;
+use std::alloc::AllocError;
 use std::marker::Model;
 
 /// Datapath actions, in order.
@@ -24,10 +25,38 @@ impl ActionList {
         ActionList(list)
     }
 
+    pub fn len(&self) -> usize
+        ensures { result ≡ length self.now }
+    {
+        self.0.len()
+    }
+
+    pub fn is_empty(&self) -> bool
+        ensures { result ≡ (length self.now == 0) }
+    {
+        self.0.is_empty()
+    }
+
     pub fn as_slice(&self) -> &[DpAction]
         ensures { result.now ≡ self.now }
     {
         self.0.as_slice()
+    }
+
+    /// Adds an action at the end. The only error is out of memory, and then the list is as before.
+    pub fn push(&mut self, action: DpAction) -> Result<(), AllocError>
+        ensures ok { OnOk result (self.new ≡ self.old ++ action ∷ []) }
+        ensures err { OnErr result (self.new ≡ self.old) }
+    {
+        self.0.push(action)?;
+        Ok(())
+    }
+
+    /// Keeps so many actions from the front.
+    pub fn truncate(&mut self, count: usize)
+        ensures { self.new ≡ take count self.old }
+    {
+        self.0.truncate(count);
     }
 
     /// The vector again. It takes no memory.

@@ -1,0 +1,2 @@
+mod CommitSteps
+mod Growing
