@@ -1,0 +1,7 @@
+mod Acting
+mod Emitting
+mod InOrder
+mod Looking
+mod Moving
+pub mod Versions
+mod Winners

@@ -1,0 +1,62 @@
+//! Lookups and the actions that they lead to, which may lead to further lookups.
+ghost use Rattle.std.specs.Prelude.{◌≡◌, OnOk, IsTrue};
+ghost use Rattle.spec_actions.specs.Sound.{is_sound, AreSound};
+ghost use Rattle.spec_xlate.specs.Translation.{act, run, look};
+ghost use Rattle.pipe_model.specs.States.{state_of};
+ghost use Rattle.pipe_model.specs.Switches.{switch_in, CanRun};
+
+use crate::mode::Mode;
+use crate::state::State;
+use crate::switch::{Switch, find_winner};
+use rule_tables::OfAction;
+use std::alloc::AllocError;
+
+/// What one action does. So many depths are left for the lookup that it may lead to.
+#[cycle(look)]
+fn act(state: &mut State, sw: &Switch, action: OfAction, depths: u32) -> Result<(), AllocError>
+    requires can_run { CanRun sw.now }
+    requires sound { IsTrue (is_sound action) }
+    ensures { OnOk result (state_of state.new ≡ act (switch_in sw.now) (look (switch_in sw.now) depths) action (state_of state.old)) }
+{
+    match action {
+        OfAction::Resubmit(table) => look(state, sw, table, depths),
+        OfAction::Goto(table) => look(state, sw, table, depths),
+        _ => state.step(sw, action),
+    }
+}
+
+/// What a list of actions does, as far as it goes.
+#[cycle(look)]
+fn run(state: &mut State, sw: &Switch, actions: &[OfAction], depths: u32) -> Result<(), AllocError>
+    requires can_run { CanRun sw.now }
+    requires sound { AreSound actions.now }
+    ensures { OnOk result (state_of state.new ≡ run (switch_in sw.now) (look (switch_in sw.now) depths) actions.now (state_of state.old)) }
+{
+    'actions: for action in actions {
+        act(state, sw, *action, depths)?;
+        match state.mode {
+            Mode::Going => {}
+            _ => return Ok(()),
+        }
+    }
+    Ok(())
+}
+
+/// A lookup in a table, and all that it leads to. So many depths are left, its own among them.
+#[cycle(look)]
+pub(crate) fn look(state: &mut State, sw: &Switch, table: u8, depths: u32) -> Result<(), AllocError>
+    requires can_run { CanRun sw.now }
+    ensures { OnOk result (state_of state.new ≡ look (switch_in sw.now) depths table (state_of state.old)) }
+{
+    if depths == 0 || state.lookups_left == 0 {
+        state.stop();
+        return Ok(());
+    }
+    state.lookups_left -= 1;
+    if let Some(found) = find_winner(sw, table, &state.current) {
+        state.visits.push(found.number)?;
+        run(state, sw, found.actions, depths - 1)?;
+        state.resume();
+    }
+    Ok(())
+}
