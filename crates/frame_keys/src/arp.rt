@@ -2,8 +2,9 @@
 ghost use Rattle.std.specs.Prelude.{◌≡◌, ◌+◌, ◌≤◌, length};
 ghost use Rattle.spec_frames.specs.Arp.{packet_size, key_operation};
 ghost use Rattle.spec_frames.specs.Key.{with_arp};
-ghost use Rattle.ovs_fields.specs.Packed.{numbers};
+ghost use Rattle.frame_keys.specs.Folded.{folded};
 
+use crate::field::set_field;
 use net_bytes::{be16, be32, be48};
 use ovs_fields::{FieldId, Key};
 
@@ -30,25 +31,30 @@ fn key_operation(operation: u16) -> u8
 #[inline]
 pub(crate) fn set_arp(key: &mut Key, frame: &[u8], at: usize)
     requires { at + packet_size ≤ length frame.now }
-    ensures { numbers key.new ≡ with_arp frame.now at (numbers key.old) }
+    ensures { folded key.new ≡ with_arp frame.now at (folded key.old) }
 {
-    key.set(
+    set_field(
+        key,
         FieldId::NwSrc,
         u128::from(be32(frame, at + SENDER_PROTOCOL_AT)),
     );
-    key.set(
+    set_field(
+        key,
         FieldId::NwDst,
         u128::from(be32(frame, at + TARGET_PROTOCOL_AT)),
     );
-    key.set(
+    set_field(
+        key,
         FieldId::NwProto,
         u128::from(key_operation(be16(frame, at + OPERATION_AT))),
     );
-    key.set(
+    set_field(
+        key,
         FieldId::ArpSha,
         u128::from(be48(frame, at + SENDER_HARDWARE_AT)),
     );
-    key.set(
+    set_field(
+        key,
         FieldId::ArpTha,
         u128::from(be48(frame, at + TARGET_HARDWARE_AT)),
     );

@@ -2,8 +2,9 @@
 ghost use Rattle.std.specs.Prelude.{◌≡◌, ◌≤◌, length};
 ghost use Rattle.spec_frames.specs.Ethernet.{header_size, is_tagged, carried};
 ghost use Rattle.spec_frames.specs.Key.{with_ethernet};
-ghost use Rattle.ovs_fields.specs.Packed.{numbers};
+ghost use Rattle.frame_keys.specs.Folded.{folded};
 
+use crate::field::set_field;
 use frame_headers::tci_of;
 use net_bytes::be48;
 use ovs_fields::{FieldId, Key};
@@ -19,12 +20,12 @@ pub(crate) fn set_ethernet(key: &mut Key, frame: &[u8], tagged: bool, dl_type: u
     requires whole { header_size ≤ length frame.now }
     requires tag { tagged ≡ is_tagged frame.now }
     requires payload { dl_type ≡ (carried frame.now).dl_type }
-    ensures { numbers key.new ≡ with_ethernet frame.now (numbers key.old) }
+    ensures { folded key.new ≡ with_ethernet frame.now (folded key.old) }
 {
-    key.set(FieldId::DlDst, u128::from(be48(frame, DESTINATION_AT)));
-    key.set(FieldId::DlSrc, u128::from(be48(frame, SOURCE_AT)));
+    set_field(key, FieldId::DlDst, u128::from(be48(frame, DESTINATION_AT)));
+    set_field(key, FieldId::DlSrc, u128::from(be48(frame, SOURCE_AT)));
     if tagged {
-        key.set(FieldId::VlanTci, u128::from(tci_of(frame)));
+        set_field(key, FieldId::VlanTci, u128::from(tci_of(frame)));
     }
-    key.set(FieldId::DlType, u128::from(dl_type));
+    set_field(key, FieldId::DlType, u128::from(dl_type));
 }

@@ -2,8 +2,9 @@
 ghost use Rattle.std.specs.Prelude.{◌≡◌, ◌+◌, ◌≤◌, length};
 ghost use Rattle.spec_frames.specs.Ipv4.{least_header_size};
 ghost use Rattle.spec_frames.specs.Key.{with_ipv4};
-ghost use Rattle.ovs_fields.specs.Packed.{numbers};
+ghost use Rattle.frame_keys.specs.Folded.{folded};
 
+use crate::field::set_field;
 use net_bytes::be32;
 use ovs_fields::{FieldId, Key};
 
@@ -15,8 +16,12 @@ const DESTINATION_AT: usize = 16;
 #[inline]
 pub(crate) fn set_ipv4(key: &mut Key, frame: &[u8], at: usize)
     requires { at + least_header_size ≤ length frame.now }
-    ensures { numbers key.new ≡ with_ipv4 frame.now at (numbers key.old) }
+    ensures { folded key.new ≡ with_ipv4 frame.now at (folded key.old) }
 {
-    key.set(FieldId::NwSrc, u128::from(be32(frame, at + SOURCE_AT)));
-    key.set(FieldId::NwDst, u128::from(be32(frame, at + DESTINATION_AT)));
+    set_field(key, FieldId::NwSrc, u128::from(be32(frame, at + SOURCE_AT)));
+    set_field(
+        key,
+        FieldId::NwDst,
+        u128::from(be32(frame, at + DESTINATION_AT)),
+    );
 }

@@ -2,8 +2,9 @@
 ghost use Rattle.std.specs.Prelude.{◌≡◌, ◌+◌, ◌≤◌, length};
 ghost use Rattle.spec_frames.specs.Ipv6.{header_size};
 ghost use Rattle.spec_frames.specs.Key.{with_ipv6};
-ghost use Rattle.ovs_fields.specs.Packed.{numbers};
+ghost use Rattle.frame_keys.specs.Folded.{folded};
 
+use crate::field::set_field;
 use net_bytes::be128;
 use ovs_fields::{FieldId, Key};
 
@@ -15,8 +16,8 @@ const DESTINATION_AT: usize = 24;
 #[inline]
 pub(crate) fn set_ipv6(key: &mut Key, frame: &[u8], at: usize)
     requires { at + header_size ≤ length frame.now }
-    ensures { numbers key.new ≡ with_ipv6 frame.now at (numbers key.old) }
+    ensures { folded key.new ≡ with_ipv6 frame.now at (folded key.old) }
 {
-    key.set(FieldId::Ipv6Src, be128(frame, at + SOURCE_AT));
-    key.set(FieldId::Ipv6Dst, be128(frame, at + DESTINATION_AT));
+    set_field(key, FieldId::Ipv6Src, be128(frame, at + SOURCE_AT));
+    set_field(key, FieldId::Ipv6Dst, be128(frame, at + DESTINATION_AT));
 }

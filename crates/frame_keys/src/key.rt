@@ -5,10 +5,12 @@ ghost use Rattle.spec_frames.specs.Ethernet.{header_size};
 ghost use Rattle.spec_frames.specs.Network.{network};
 ghost use Rattle.spec_frames.specs.Key.{with_ethernet, port_size, with_ports, with_icmp, with_transport, shown, ip_frag, with_datagram, with_network, key_of as key_numbers};
 ghost use Rattle.ovs_fields.specs.Packed.{numbers};
+ghost use Rattle.frame_keys.specs.Folded.{folded};
 ghost use Rattle.frame_headers.specs.Within.{IsWithin, IsBefore};
 
 use crate::arp::set_arp;
 use crate::ethernet::set_ethernet;
+use crate::field::{key_at, set_field};
 use crate::ipv4::set_ipv4;
 use crate::ipv6::set_ipv6;
 use frame_headers::{HEADER_SIZE, carried, is_tagged, network_at, transport};
@@ -31,10 +33,11 @@ const LATER: u8 = 3;
 #[inline]
 fn set_ports(key: &mut Key, frame: &[u8], at: usize)
     requires { at + 2 * port_size ≤ length frame.now }
-    ensures { numbers key.new ≡ with_ports frame.now at (numbers key.old) }
+    ensures { folded key.new ≡ with_ports frame.now at (folded key.old) }
 {
-    key.set(FieldId::TpSrc, u128::from(be16(frame, at)));
-    key.set(
+    set_field(key, FieldId::TpSrc, u128::from(be16(frame, at)));
+    set_field(
+        key,
         FieldId::TpDst,
         u128::from(be16(frame, at + DESTINATION_PORT_AT)),
     );
@@ -43,17 +46,17 @@ fn set_ports(key: &mut Key, frame: &[u8], at: usize)
 #[inline]
 fn set_icmp(key: &mut Key, frame: &[u8], at: usize)
     requires { at + 2 ≤ length frame.now }
-    ensures { numbers key.new ≡ with_icmp frame.now at (numbers key.old) }
+    ensures { folded key.new ≡ with_icmp frame.now at (folded key.old) }
 {
-    key.set(FieldId::TpSrc, u128::from(frame[at]));
-    key.set(FieldId::TpDst, u128::from(frame[at + CODE_AT]));
+    set_field(key, FieldId::TpSrc, u128::from(frame[at]));
+    set_field(key, FieldId::TpDst, u128::from(frame[at + CODE_AT]));
 }
 
 #[inline]
 #[tactic(auto, unfolding(spec_frames::specs::Key::with_transport))]
 fn set_transport(key: &mut Key, frame: &[u8], header: L4)
     requires { IsBefore (length frame.now) header }
-    ensures { numbers key.new ≡ with_transport frame.now header (numbers key.old) }
+    ensures { folded key.new ≡ with_transport frame.now header (folded key.old) }
 {
     match header {
         L4::None => {}
@@ -88,12 +91,13 @@ fn ip_frag(fragment: Fragment) -> u8
 /// Gives a key what both versions of IP say.
 #[inline]
 fn set_datagram(key: &mut Key, datagram: &Datagram)
-    ensures { numbers key.new ≡ with_datagram datagram.now (numbers key.old) }
+    ensures { folded key.new ≡ with_datagram datagram.now (folded key.old) }
 {
-    key.set(FieldId::NwProto, u128::from(datagram.upper.protocol));
-    key.set(FieldId::NwTos, u128::from(datagram.tos));
-    key.set(FieldId::NwTtl, u128::from(datagram.ttl));
-    key.set(
+    set_field(key, FieldId::NwProto, u128::from(datagram.upper.protocol));
+    set_field(key, FieldId::NwTos, u128::from(datagram.tos));
+    set_field(key, FieldId::NwTtl, u128::from(datagram.ttl));
+    set_field(
+        key,
         FieldId::IpFrag,
         u128::from(ip_frag(datagram.upper.fragment)),
     );
@@ -104,7 +108,7 @@ fn set_datagram(key: &mut Key, datagram: &Datagram)
 #[tactic(auto, unfolding(spec_frames::specs::Key::with_network))]
 fn set_network(key: &mut Key, frame: &[u8], network: &Network)
     requires { IsWithin frame.now network.now }
-    ensures { numbers key.new ≡ with_network frame.now network.now (numbers key.old) }
+    ensures { folded key.new ≡ with_network frame.now network.now (folded key.old) }
 {
     match network {
         Network::Nothing => {}
@@ -134,7 +138,7 @@ fn set_network(key: &mut Key, frame: &[u8], network: &Network)
 #[inline]
 fn set_headers(key: &mut Key, frame: &[u8])
     requires { header_size ≤ length frame.now }
-    ensures { numbers key.new ≡ with_network frame.now (network frame.now) (with_ethernet frame.now (numbers key.old)) }
+    ensures { folded key.new ≡ with_network frame.now (network frame.now) (with_ethernet frame.now (folded key.old)) }
 {
     let tagged = is_tagged(frame);
     let payload = carried(frame, tagged);
@@ -146,13 +150,12 @@ fn set_headers(key: &mut Key, frame: &[u8])
 ///
 /// Ports are numbers of 16 bits, as in OpenFlow 1.0. The frame is the bytes that were captured, from the destination
 /// address on. Metadata and registers, which no frame carries, are 0. It takes no memory.
-#[tactic(auto, unfolding(spec_frames::specs::Key::key_of))]
+#[tactic(auto, unfolding(spec_frames::specs::Key::key_of, crate::specs::Folded::folded))]
 pub fn key_of(port: u16, frame: &[u8]) -> Key
     ensures numbers { numbers result ≡ key_numbers port frame.now }
     ensures clean { IsClean (numbers result) }
 {
-    let mut key = Key::zero();
-    key.set(FieldId::InPort, u128::from(port));
+    let mut key = key_at(port);
     if frame.len() >= HEADER_SIZE {
         set_headers(&mut key, frame);
     }

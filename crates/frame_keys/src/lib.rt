@@ -25,6 +25,7 @@
 
 mod arp;
 mod ethernet;
+mod field;
 mod ipv4;
 mod ipv6;
 mod key;

@@ -7,6 +7,7 @@ use Rattle.spec_frames.specs.Network.{network}
 use Rattle.spec_frames.specs.Key.{with_value, with_ethernet, with_network, key_of}
 use Rattle.key_laws.proofs.KeyLaws.{key_of-IsClean}
 use Rattle.ovs_fields.specs.Packed.{numbers}
+use Rattle.frame_keys.specs.Folded.{folded}
 use Rattle.frame_keys.proofs.key.key_of.Goals as goal
 
 key_of-whole : (port : ℕ) (frame : List ℕ) → header_size ≤ length frame → key_of port frame ≡ with_network frame (network frame) (with_ethernet frame (with_value InPort port none))
@@ -14,10 +15,12 @@ unfolding key_of
 key_of-whole port frame whole = rw (le-ltb (length frame) header_size whole) refl
 
 pub returns-then-frame-ge-HEADER_SIZE-clause-numbers : goal.returns-then-frame-ge-HEADER_SIZE-clause-numbers
+unfolding folded
 returns-then-frame-ge-HEADER_SIZE-clause-numbers c =
     let frame = c.args.frame.now in
-    let of_port : numbers c.set.new.self ≡ with_value InPort c.args.port none = cc in
-    c.set_headers.ensures ∙ (ap (λ key. with_network frame (network frame) (with_ethernet frame key)) of_port
+    let headers : numbers c.set_headers.new.key ≡ with_network frame (network frame) (with_ethernet frame (numbers c.key_at-key.result)) = c.set_headers.ensures in
+    let of_port : numbers c.key_at-key.result ≡ with_value InPort c.args.port none = c.key_at-key.ensures in
+    headers ∙ (ap (λ key. with_network frame (network frame) (with_ethernet frame key)) of_port
     ∙ sym (key_of-whole c.args.port frame (omega arith)))
 
 -- what is a frame's key is clean
@@ -33,6 +36,7 @@ returns-then-frame-ge-HEADER_SIZE-clause-clean c =
     clean_as (numbers c.set_headers.new.key) c.args.port c.args.frame.now (returns-then-frame-ge-HEADER_SIZE-clause-numbers c)
 
 pub returns-else-frame-ge-HEADER_SIZE-clause-clean : goal.returns-else-frame-ge-HEADER_SIZE-clause-clean
+unfolding folded
 returns-else-frame-ge-HEADER_SIZE-clause-clean c =
-    let of_port : numbers c.set.new.self ≡ with_value InPort c.args.port none = cc in
-    clean_as (numbers c.set.new.self) c.args.port [] (of_port ∙ sym (key_of-short c.args.port))
+    let of_port : numbers c.key_at-key.result ≡ with_value InPort c.args.port none = c.key_at-key.ensures in
+    clean_as (numbers c.key_at-key.result) c.args.port [] (of_port ∙ sym (key_of-short c.args.port))
