@@ -61,7 +61,7 @@ impl Edit {
     }
 
     /// Whether a rule's match is the edit's or one more specific, in the edit's table or in any where it names none.
-    pub(crate) fn reaches(&self, rule: &Rule) -> bool
+    fn reaches(&self, rule: &Rule) -> bool
         ensures { result ≡ is_reached_by self.now (rule_view rule.now []) }
     {
         is_in_table(self.table, rule) && rule.matching.is_within(&self.matching)

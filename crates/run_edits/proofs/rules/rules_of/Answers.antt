@@ -8,12 +8,12 @@ use Rattle.run_edits.proofs.rules.rules_of.Goals as goal
 pub edits-init : goal.edits-init
 edits-init c = c.new-rules.ensures ∙ history-none
 
-pub apply-requires-clause-room : goal.apply-requires-clause-room
-apply-requires-clause-room c =
+pub apply-requires : goal.apply-requires
+apply-requires c =
     let so_far = take c.edits.edit-index c.args.edits.now in
     let last : newest c.edits.rules ≡ length so_far = ap newest c.edits.invariant ∙ newest-history so_far in
     let count : length so_far ≡ c.edits.edit-index = length-take-le c.edits.edit-index c.args.edits.now (omega (arith, c.edits-test.true)) in
-    omega (arith, c.edits-test.true, c.requires.few)
+    omega (arith, c.edits-test.true, c.requires)
 
 pub edits-preserved : goal.edits-preserved
 edits-preserved c =
