@@ -47,7 +47,7 @@
 //! - An add or a strict word takes the same time whatever rules there are, but for the growth of the tables, which double.
 //! - A loose word passes once over the stored rules. Of one that is gone it reads the end of its life alone.
 //! - `cookie` and `actions` find the rule by binary search, and test each modification. `scan` tests each stored rule.
-//! - A rule takes 368 bytes and 336 more for its identity in the map, and a modification takes 384, besides their actions.
+//! - A rule takes 368 bytes and 336 more for its identity in the map, and a modification takes 400, besides their actions.
 //!
 //! # What is left to others
 //!
