@@ -5,7 +5,7 @@ ghost use Rattle.spec_actions.specs.declared.named_field.Prerequisite.TheVariant
 ghost use Rattle.spec_actions.specs.Sound.{fits_name, is_sound};
 ghost use Rattle.spec_xlate.specs.Needs.{is_met};
 ghost use Rattle.spec_xlate.specs.Tags.{is_full, pushed, popped};
-ghost use Rattle.spec_xlate.specs.Translation.{start, in_port_of, emit_all, committed, stopped, with_current, resumed, output, output_all, other_ports, slice_of, slice_bits, write, write_tag, lower_ttl, act};
+ghost use Rattle.spec_xlate.specs.Translation.{start, in_port_of, emit_all, committed, stopped, with_current, resumed, output, output_all, other_ports, slice_of, slice_bits, write, write_tag, lower_ttl, act, action_limit};
 ghost use Rattle.ovs_fields.specs.Packed.{numbers};
 ghost use Rattle.pipe_model.specs.Switches.{switch_in};
 
@@ -48,7 +48,7 @@ pub(crate) struct State {
     pub(crate) visits: Vec<u32>,
     pub(crate) lookups_left: u32,
     pub(crate) mode: Mode,
-    ghost few: { length actions ≤ 128 },
+    ghost few: { length actions ≤ action_limit },
 }
 
 impl State {
@@ -221,8 +221,8 @@ impl State {
 
     /// Writes bits of the VLAN tag, and adds one where there is none.
     fn write_tag(&mut self, value: u16, bits: u16)
-        requires value { value + 4096 < 2 ^ 16 }
-        requires bits { bits + 4096 < 2 ^ 16 }
+        requires value { value + TAG_BIT < 2 ^ 16 }
+        requires bits { bits + TAG_BIT < 2 ^ 16 }
         ensures { state_of self.new ≡ write_tag value bits (state_of self.old) }
     {
         let (value, bits) = (value + TAG_BIT, bits + TAG_BIT);
