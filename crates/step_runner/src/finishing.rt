@@ -7,7 +7,7 @@ ghost use Rattle.spec_board.specs.Schedules as schedules;
 ghost use Rattle.run_blocks.specs.Places.{HasPlace, IsInBlock, place_before};
 ghost use Rattle.pmd_board.specs.BoardView.{state_of};
 ghost use Rattle.rule_tables.specs.History.{history_of};
-ghost use Rattle.step_runner.specs.Outputs.{emits_outputs_only};
+ghost use Rattle.pipe_model.specs.Runnable.{has_sound_actions};
 ghost use Rattle.step_runner.specs.Progress.{ArePlanned, AreDecided, IsAt, IsSwept, IsSameBoard};
 ghost use Rattle.step_runner.specs.Scheduled.{under_way, schedule_of, finished_in, IsDue};
 
@@ -44,7 +44,7 @@ fn decide_next<C: Case>(
     place: u32,
 ) -> Result<(), AllocError>
     requires rules { rules.now ≡ history_of C.run.edits }
-    requires plain { IsTrue (list_all emits_outputs_only C.run.edits) }
+    requires sound { IsTrue (list_all has_sound_actions C.run.edits) }
     requires limit { board.old.flow_limit ≡ C.run.flow_limit }
     requires version { version ≡ hi C.run block }
     requires swept { IsSwept C.run board.old.port (state_of C.run board.old) block place }
@@ -74,7 +74,7 @@ fn decide_all<C: Case>(
     version: u32,
 ) -> Result<(), AllocError>
     requires rules { rules.now ≡ history_of C.run.edits }
-    requires plain { IsTrue (list_all emits_outputs_only C.run.edits) }
+    requires sound { IsTrue (list_all has_sound_actions C.run.edits) }
     requires limit { board.old.flow_limit ≡ C.run.flow_limit }
     requires version { version ≡ hi C.run block }
     requires there { block ≤ last_block C.run }
@@ -118,7 +118,7 @@ fn finish_board<C: Case>(
     version: u32,
 ) -> Result<(), AllocError>
     requires rules { rules.now ≡ history_of C.run.edits }
-    requires plain { IsTrue (list_all emits_outputs_only C.run.edits) }
+    requires sound { IsTrue (list_all has_sound_actions C.run.edits) }
     requires version { version ≡ hi C.run block }
     requires there { block ≤ last_block C.run }
     requires due { IsDue C.run block board.old }
@@ -159,7 +159,7 @@ fn finish_block<C: Case>(
     version: u32,
 ) -> Result<(), AllocError>
     requires rules { rules.now ≡ history_of C.run.edits }
-    requires plain { IsTrue (list_all emits_outputs_only C.run.edits) }
+    requires sound { IsTrue (list_all has_sound_actions C.run.edits) }
     requires version { version ≡ hi C.run block }
     requires there { block ≤ last_block C.run }
     requires due { All (IsDue C.run block) boards.old.items }
@@ -196,7 +196,7 @@ pub fn finish<C: Case>(
     rules: &VersionedRules,
 ) -> Result<Vec<Board<C>>, AllocError>
     requires rules { rules.now ≡ history_of C.run.edits }
-    requires plain { IsTrue (list_all emits_outputs_only C.run.edits) }
+    requires sound { IsTrue (list_all has_sound_actions C.run.edits) }
     requires limit { C.run.flow_limit ≡ 0 }
     requires steps { C.run.steps ≡ [] }
     ensures ports { IfOk result (λ boards. map (λ b. b.port) boards.items ≡ C.run.ports) }

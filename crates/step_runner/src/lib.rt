@@ -16,14 +16,15 @@
 //!
 //! All boards go through a block before one goes through the next: the least block of all boards is finished in turn. In
 //! each block a board makes a sweep of the block's last version, where none was completed, and then looks up each
-//! frame of the block and settles it at once under that version. The translation is a plain scan for the winning rule of
-//! table 0, whose actions are outputs (`translation`); the rules answer for every version, so none has to be published.
+//! frame of the block and settles it at once under that version. The translation is that of the plain interpreter
+//! (`pipe_model`); the rules answer for every version, so none has to be published.
 //! No call of a board can be refused here, which is proved call by call (`steps`).
 //!
 //! # What is left to others
 //!
-//! Given schedules of steps, tables that are published to threads, and translations through several tables: none is
-//! built yet. What is written of the boards, `egress_merge` and `flow_dump` write.
+//! Given schedules of steps, and tables that are published to threads: neither is built yet. What is written of the boards,
+//! `egress_merge` and `flow_dump` write. Of datapath actions only outputs are carried out so far, so whoever reads the edits
+//! lets no others in.
 #![tactic(auto)]
 
 mod finishing;

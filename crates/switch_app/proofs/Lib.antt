@@ -1,5 +1,5 @@
 pub mod Lists
-pub mod Plainness
+pub mod Soundness
 pub mod Journals
 pub mod Leaving
 pub mod Texts

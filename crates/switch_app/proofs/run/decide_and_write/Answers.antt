@@ -3,15 +3,15 @@ use Rattle.std.specs.Prelude.{IsTrue}
 use Rattle.std.specs.List.{list_all}
 use Rattle.spec_case.specs.Run.{Run}
 use Rattle.pmd_board.specs.BoardView.{journals_view}
-use Rattle.step_runner.specs.Outputs.{emits_outputs_only}
-use Rattle.switch_app.proofs.Plainness.{plain_edits}
+use Rattle.pipe_model.specs.Runnable.{has_sound_actions}
+use Rattle.switch_app.proofs.Soundness.{sound_edits}
 use Rattle.switch_app.proofs.Leaving.{if_err_map, on_ok_map}
 use Rattle.switch_app.proofs.Journals.{are_journals}
 use Rattle.switch_app.proofs.run.decide_and_write.Goals as goal
 
-pub finish-requires-clause-plain : goal.finish-requires-clause-plain
-finish-requires-clause-plain g c =
-    subst (λ (run : Run). IsTrue (list_all emits_outputs_only run.edits)) (sym c.requires.run) (plain_edits c.args.inputs.script.edits.items c.requires.built.outputs_only c.requires.built.few_actions)
+pub finish-requires-clause-sound : goal.finish-requires-clause-sound
+finish-requires-clause-sound g c =
+    subst (λ (run : Run). IsTrue (list_all has_sound_actions run.edits)) (sym c.requires.run) (sound_edits c.args.inputs.script.edits.items c.requires.built.outputs_only)
 
 pub returns-clause-ok : goal.returns-clause-ok
 returns-clause-ok g c = λ t.
