@@ -25,9 +25,9 @@ table_3 = record { word = Add; table = Some 3; priority = default_priority; cook
 
 lines_and_their_words :
     map edit_in (codes "table=3,actions=2" ∷ codes " add  table=3 actions=2 # 3" ∷ codes "modify table=3,actions=2" ∷ codes "modify_strict table=3,actions=2"
-        ∷ codes "delete table=3" ∷ codes "delete_strict table=3#" ∷ [])
+    ∷ codes "delete table=3" ∷ codes "delete_strict table=3#" ∷ [])
     ≡ (Ok table_3 ∷ Ok table_3 ∷ Ok (record table_3 { word = Modify }) ∷ Ok (record table_3 { word = ModifyStrict })
-        ∷ Ok (record table_3 { word = Delete; actions = [] }) ∷ Ok (record table_3 { word = DeleteStrict; actions = [] }) ∷ [])
+    ∷ Ok (record table_3 { word = Delete; actions = [] }) ∷ Ok (record table_3 { word = DeleteStrict; actions = [] }) ∷ [])
 unfolding field_named is_field_left_out shorthand_named keyword_named item_named reserved_port_named is_action_left_out action_named value_in whole_value value_of bits_stated field_stated number_upto decimal_upto digits_upto words with_part with_shorthand number_once with_valued with_bare with_item items.read_items kept match_of none joined only_at read_match up_to_end items is_closed argument_of port_of output actions_of_item read_items read_actions edit_from edit_in
 lines_and_their_words = refl
 
@@ -47,7 +47,7 @@ lines_and_their_faults =
     (codes "delete_strict cookie=1", Unsupported 15) ∷
     (codes "actions=ct(commit),2", Unsupported 9) ∷
     (codes "in_port=0,actions=foo", BadValue 9) ∷
-    (codes "foo=1,actions=2\u{e9}", Syntax 16) ∷
+    (codes "foo=1,actions=2é", Syntax 16) ∷
     (codes ",,", Syntax 3) ∷ []
 
 the_first_fault_is_told : map (λ row. fault_of row.0) lines_and_their_faults ≡ map (λ row. Some row.1) lines_and_their_faults

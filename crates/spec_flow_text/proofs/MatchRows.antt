@@ -52,7 +52,7 @@ flows_and_their_matches =
     (codes "arp,nw_proto=17,udp_dst=53,actions=", codes "arp,arp_op=17") ∷
     (codes "ip,nw_src=1.2.3.4/0,actions=", codes "ip") ∷
     (codes "duration=1s,n_packets=x,n_bytes=0,idle_age=1,hard_age=2,in_port=1,actions=", codes "in_port=1") ∷
-    (codes " ,ip,, nw_ttl=1\u{9},actions=", codes "ip,nw_ttl=1") ∷ []
+    (codes " ,ip,, nw_ttl=1\t,actions=", codes "ip,nw_ttl=1") ∷ []
 
 matches_are_normalised_and_printed : map (λ row. printed row.0) flows_and_their_matches ≡ map (λ row. Ok row.1) flows_and_their_matches
 unfolding number_upto decimal_upto digits_upto mac octet octet_before_colon ipv4 decimal_octet_before_dot ipv4_mask prefix_length ipv6 ipv6_mask eight_groups elided_groups split_at_elision groups_round_zeros groups last_groups group groups_of_ipv4 field_named is_field_left_out shorthand_named keyword_named item_named value_in mask_in whole_value masked_value value_of bits_stated field_stated vlan_stated words with_part with_shorthand number_once with_valued with_bare with_item read_items kept match_of read_match value_in_text shorthand_of shown match_printed hexadecimal hexadecimal4 mac_text ipv4_text ipv6_text prefix_length_up_to ipv4_mask_text ipv6_mask_text digits none joined only_at

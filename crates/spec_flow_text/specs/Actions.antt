@@ -108,7 +108,7 @@ before_place n w = record { at = w.at; text = take n w.text }
 unfoldable pub ends_of_arrow : Word → Option (Word × Word)
 ends_of_arrow w =
     option_and_then (λ i. option_and_then (λ source. option_map (λ target. (source, target)) (filled (skipping (i + 2) w)))
-        (filled (before_place i w)))
+    (filled (before_place i w)))
     (arrow_place w.text)
 
 -- the value of an item, with an arrow in it

@@ -1,0 +1,9 @@
+pub mod Arrows
+pub mod Prefixes
+pub mod ItemBytes
+pub mod ItemLists
+pub mod NamedBits
+pub mod Loads
+pub mod ArgumentLists
+pub mod Mods
+pub mod ListSteps

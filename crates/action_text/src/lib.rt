@@ -1,0 +1,49 @@
+//! Lists of actions of flows, as ovs-actions(7) writes them.
+//!
+//! # What?
+//!
+//! The actions of a flow stand at the end of its line, as `set_field:1->reg0,output:2` or `drop`. `read_actions` makes
+//! the list of `rule_tables` of what stands in a line from a place on.
+//!
+//! # What is promised
+//!
+//! `spec_flow_text` says which texts are lists of actions and what they say (`Actions`), and this crate answers just
+//! that.
+//!
+//! - Where a list is read, it is the one that the text says. Where a fault is answered, it is the first fault of the
+//!   text, with its column in the line. Memory that runs out is the one other answer.
+//! - What is read is sound: tables, slices, values and masks are within their ranges, and only fields that can be written
+//!   are written. It has at most 64 actions.
+//!
+//! # How
+//!
+//! The items of a list are cut off one after the other. An item ends at a separator outside of brackets; the brackets
+//! that are open stand in a small stack, and an item without brackets takes no memory for it. Whether all of them close
+//! comes from the same walk. An item is its place in the line and its bytes, so that every fault knows its column, and
+//! nothing is copied but numbers. Each byte is looked at a few times.
+//!
+//! Each function reads what one definition says, and has its name.
+//!
+//! # What is left to others
+//!
+//! Names, values and words of a line (`field_text`), numbers (`text_numbers`), what named fields are (`named_fields`),
+//! what stands before the list, and what actions do.
+#![tactic(auto)]
+
+mod actions;
+mod brackets;
+mod fields;
+mod items;
+mod list;
+mod ports;
+mod resubmit;
+mod slices;
+#[cfg(test)]
+mod tests;
+mod words;
+mod writes;
+
+pub use actions::read_actions;
+pub use field_text::TextFault;
+pub use rule_tables::Actions;
+pub use spec_actions::OfAction;

@@ -1,0 +1,4 @@
+pub mod Bits
+pub mod WordLists
+pub mod Filters
+pub mod Steps
