@@ -13,7 +13,7 @@ use Rattle.spec_tables.specs.Edits.{Edit, edited, rule_of, without}
 use Rattle.rule_tables.specs.declared.identity.RuleIdentity.{RuleIdentity}
 use Rattle.rule_tables.specs.declared.stored.Modification.{Modification}
 use Rattle.rule_tables.specs.declared.stored.StoredRule.{StoredRule}
-use Rattle.rule_tables.specs.Changes.{changes_by}
+use Rattle.spec_tables.specs.Changes.{changes_by}
 use Rattle.rule_tables.specs.History.{edited_by, versions_to}
 use Rattle.rule_tables.specs.Views.{rule_view}
 use Rattle.rule_tables.specs.Stored.{is_picked_by, stored_in, rule_at, rules_at, ended_by, with_end, identity_of, is_same_identity, AreInOrder, AreNumbered, AreLives, AreFound, IsSound}

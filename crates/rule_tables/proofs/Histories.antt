@@ -6,7 +6,7 @@ use Rattle.std.proofs.lemmas.List.{get_or_past}
 use Rattle.std.proofs.lemmas.List.FromFn.{length-map-range_with_len, get_or-map-range_with_len, map-range_with_len_more}
 use Rattle.spec_tables.specs.Rules.{Rule}
 use Rattle.spec_tables.specs.Edits.{Edit, edited, version}
-use Rattle.rule_tables.specs.Changes.{changes_by, changes_to}
+use Rattle.spec_tables.specs.Changes.{changes_by, changes_to}
 use Rattle.rule_tables.specs.History.{History, no_edits, newest, rules_of, edited_by, versions_to, history_of}
 use Rattle.rule_tables.proofs.FilterMaps.{slice_get-append, slice_get-push}
 

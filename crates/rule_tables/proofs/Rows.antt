@@ -9,7 +9,7 @@ use Rattle.spec_tables.specs.declared.edit_word.EditWord.TheVariants.{Add, Modif
 use Rattle.spec_tables.specs.Rules.{Rule}
 use Rattle.spec_tables.specs.Edits.{Edit, version}
 use Rattle.spec_tables.proofs.Packets.{Stated, is, key_of, mask_of, match_of}
-use Rattle.rule_tables.specs.Changes.{changes_to}
+use Rattle.spec_tables.specs.Changes.{changes_to}
 use Rattle.rule_tables.specs.History.{rules_of, history_of}
 
 abbrev edit : EditWord → List Stated → ℕ → Edit

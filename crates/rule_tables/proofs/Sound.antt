@@ -11,7 +11,7 @@ use Rattle.spec_tables.specs.Edits.{Edit, edited, modified, with_actions, withou
 use Rattle.rule_tables.specs.declared.identity.RuleIdentity.{RuleIdentity}
 use Rattle.rule_tables.specs.declared.stored.Modification.{Modification}
 use Rattle.rule_tables.specs.declared.stored.StoredRule.{StoredRule}
-use Rattle.rule_tables.specs.Changes.{changes_by}
+use Rattle.spec_tables.specs.Changes.{changes_by}
 use Rattle.rule_tables.specs.History.{History, edited_by, versions_to}
 use Rattle.rule_tables.specs.Stored.{is_modify, is_picked_by, acts_on, rules_at, ended_by, with_end, is_same_identity, AreInOrder, AreNumbered, AreLives, AreMade, AreFound, IsSound}
 use Rattle.rule_tables.proofs.Counts.{count_by-cons}

@@ -4,7 +4,7 @@ use Rattle.std.specs.List.{range_with_len}
 use Rattle.spec_tables.specs.Rules.{Rule}
 use Rattle.spec_tables.specs.Edits.{Edit, edited, version}
 use Rattle.spec_tables.specs.Live.{rule_numbered}
-use Rattle.rule_tables.specs.Changes.{changes_by, changes_to}
+use Rattle.spec_tables.specs.Changes.{changes_by, changes_to}
 
 -- the rules of each version, version 0 first, and how many rules the edits changed
 pub record History : Type 0 where

@@ -1,6 +1,5 @@
 pub mod Added
 pub mod Candidates
-pub mod Changes
 pub mod HashInput
 pub mod Hashing
 pub mod History

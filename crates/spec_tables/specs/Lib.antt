@@ -2,3 +2,4 @@ pub mod Rules
 pub mod Edits
 pub mod Live
 pub mod Outputs
+pub mod Changes
