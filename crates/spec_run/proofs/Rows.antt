@@ -1,5 +1,5 @@
 -- Worked rows: words and small files, the verdict on them, what is opened, and the files that come out.
-use Rattle.std.specs.Prelude.{◌≡◌, ℕ, zero, suc, true, false, nat_eq, if◌then◌else◌, List, [], ◌∷◌, ◌++◌, take, replicate, slice_get, slice_index, Option, Some, None, Result, Ok, Err, codes, refl}
+use Rattle.std.specs.Prelude.{◌≡◌, ℕ, zero, suc, true, false, nat_eq, if◌then◌else◌, List, [], ◌∷◌, ◌++◌, take, map, replicate, slice_get, slice_index, Option, Some, None, Result, Ok, Err, codes, refl}
 use Rattle.std.proofs.Common.{ap, inl, inr, arith}
 use Rattle.std.specs.Cmp.Lexicographic.{pointwise}
 use Rattle.std.specs.Fmt.{digits}
@@ -9,9 +9,19 @@ use Rattle.spec_pcap.specs.declared.fault.PcapFault.TheVariants.{ShortHeader, Ma
 use Rattle.spec_pcap.specs.Pcap.{Frame, format_of, record_fault, capture_of, frames_from, header, record_header, file_of}
 use Rattle.spec_tables.specs.Rules.{winner}
 use Rattle.spec_tables.specs.Edits.{version}
+use Rattle.spec_tables.specs.Changes.{changes_to}
 use Rattle.spec_numbers.specs.Numbers.{digits_upto, decimal_upto, number_upto, octet, octet_before_colon, mac}
 use Rattle.spec_words.specs.Words.{port_number, port_word, new_port, port_words, command_of}
-use Rattle.spec_flow_text.specs.FlowText.{flow_port, with_priority, with_in_port, with_dl_dst, with_item, output_of, outputs_of, actions_of, flow_of, edit_of}
+use Rattle.spec_flow_text.specs.declared.fault.TextFault.TheVariants as text
+use Rattle.spec_flow_text.specs.Names.{field_named, is_field_left_out, shorthand_named, keyword_named, item_named, reserved_port_named, is_action_left_out, action_named}
+use Rattle.spec_flow_text.specs.Values.{value_in, whole_value, value_of, bits_stated, field_stated}
+use Rattle.spec_flow_text.specs.Items as items
+use Rattle.spec_flow_text.specs.Items.{words, with_part, with_shorthand, number_once, with_valued, with_bare, with_item}
+use Rattle.spec_flow_text.specs.Matches.{kept, match_of, read_match}
+use Rattle.spec_flow_text.specs.Actions as actions
+use Rattle.spec_flow_text.specs.Actions.{up_to_end, items, is_closed, argument_of, port_of, drop_item, actions_of_item, read_items, read_actions}
+use Rattle.spec_flow_text.specs.Lines.{edit_from, edit_in}
+use Rattle.spec_script.specs.declared.fault.ScriptFault.TheVariants as script
 use Rattle.spec_script.specs.Script.{with_line, with_lines, script_of, with_edit, with_sync, sync_time, time_of, seconds_with_fraction, seconds_of, fraction_of}
 use Rattle.spec_frames.specs.Ethernet.{is_tagged, tci_of, carried, carried_by}
 use Rattle.spec_frames.specs.Network.{network_at}
@@ -25,16 +35,17 @@ use Rattle.spec_exec.specs.Sent.{sent}
 use Rattle.spec_case.specs.Blocks.{ends_after}
 use Rattle.spec_board.specs.Decisions.{decisions_from}
 use Rattle.spec_board.specs.Schedules.{finish, finish_board, least_block, with_given_steps}
-use Rattle.spec_run.specs.declared.quantity.Quantity.TheVariants.{TraceBytes, Frames}
-use Rattle.spec_run.specs.Verdict.{Files, Refusal, NotBuilt, Missing, Trace, Limit, TraceFile, Accepted, command_in, script_in, file_in, traces_after, verdict, traces_opened, files_opened}
+use Rattle.spec_run.specs.declared.quantity.Quantity.{Quantity}
+use Rattle.spec_run.specs.declared.quantity.Quantity.TheVariants.{EditsBytes, Line, Edits, Syncs, Actions, Changes, TraceBytes, Frames}
+use Rattle.spec_run.specs.Verdict.{Files, Refusal, NotBuilt, Missing, Text, Trace, Limit, TraceFile, Accepted, command_in, script_in, file_in, traces_after, verdict, traces_opened, files_opened}
 use Rattle.spec_base.specs.Files.{File, IsPrefixOf}
 use Rattle.spec_run.specs.Journals.{scheduled_journals}
 use Rattle.spec_run.specs.Outputs.{files_of}
 use Rattle.spec_run.specs.CutShort.{IsCutShort}
-use Rattle.spec_run.specs.Statuses.{read_fault_text, trace_text, limit_text, Prints}
+use Rattle.spec_run.specs.Statuses.{read_fault_text, script_text, trace_text, limit_text, Prints}
 
-abbrev words : List (List ℕ)
-words = codes "e" ∷ codes "o" ∷ codes "1=a" ∷ codes "2=" ∷ []
+abbrev said : List (List ℕ)
+said = codes "e" ∷ codes "o" ∷ codes "1=a" ∷ codes "2=" ∷ []
 
 -- 60 bytes from 00:00:00:00:00:01 to 00:00:00:00:00:02, of the type 0x88b5 for local experiments (IEEE 802)
 abbrev frame : Frame
@@ -49,8 +60,8 @@ files e a name = if pointwise nat_eq name (codes "e") then e else (if pointwise 
 
 -- what becomes of a run with such files
 unfoldable outcome : List (List ℕ) → Option (List ℕ) → Option (List ℕ) → Result (List File) Refusal
-unfolding command_in script_in file_in traces_after verdict capture_of format_of record_fault frames_from little_endian_at digits_upto decimal_upto number_upto octet octet_before_colon mac port_number port_word new_port port_words command_of flow_port with_priority with_in_port with_dl_dst with_item output_of outputs_of actions_of flow_of edit_of with_line with_lines script_of with_edit with_sync sync_time time_of seconds_with_fraction seconds_of fraction_of version winner none masked same joined big_endian_at key_of is_tagged tci_of carried carried_by network_at with_network frames_in arrivals_at arrivals_in put_in_order in_order sent pipe last_state look run act output committed emit emit_all commit commit_fields commit_field commit_tags outer_tags header record_header only_at digits finish finish_board least_block with_given_steps decisions_from ends_after
-outcome words e a = files_in (verdict words (files e a))
+unfolding command_in script_in file_in traces_after verdict capture_of format_of record_fault frames_from little_endian_at digits_upto decimal_upto number_upto octet octet_before_colon mac port_number port_word new_port port_words command_of field_named is_field_left_out shorthand_named keyword_named item_named reserved_port_named is_action_left_out action_named value_in whole_value value_of bits_stated field_stated words with_part with_shorthand number_once with_valued with_bare with_item items.read_items kept match_of read_match up_to_end items is_closed argument_of port_of actions.output drop_item actions_of_item read_items read_actions edit_from edit_in changes_to with_line with_lines script_of with_edit with_sync sync_time time_of seconds_with_fraction seconds_of fraction_of version winner none masked same joined big_endian_at key_of is_tagged tci_of carried carried_by network_at with_network frames_in arrivals_at arrivals_in put_in_order in_order sent pipe last_state look run act output committed emit emit_all commit commit_fields commit_field commit_tags outer_tags header record_header only_at digits finish finish_board least_block with_given_steps decisions_from ends_after
+outcome command e a = files_in (verdict command (files e a))
   where
     files_in : Result Accepted Refusal → Result (List File) Refusal
     files_in (Ok accepted) = Ok (files_of accepted.command.out accepted.run (scheduled_journals accepted.run))
@@ -63,7 +74,7 @@ port_files (Err refusal) = Err refusal
 
 -- what the edits `e` make of that frame
 abbrev done_with : List ℕ → Result (List File) Refusal
-done_with e = port_files (outcome words (Some e) (Some trace))
+done_with e = port_files (outcome said (Some e) (Some trace))
 
 -- the files of the two ports
 abbrev sends : List Frame → List Frame → Result (List File) Refusal
@@ -105,7 +116,7 @@ unfolding outcome
 an_add_replaces_the_rule_of_its_match_and_priority = refl
 
 a_rule_changes_between_two_frames :
-    outcome words (Some (codes "in_port=1,actions=2\nsync 2\npriority=40000,actions=drop\n")) (Some (file_of false (frame ∷ record frame { time = 2000000000 } ∷ [])))
+    outcome said (Some (codes "in_port=1,actions=2\nsync 2\npriority=40000,actions=drop\n")) (Some (file_of false (frame ∷ record frame { time = 2000000000 } ∷ [])))
     ≡ Ok ((codes "o.p1.pcap", file_of false []) ∷ (codes "o.p2.pcap", file_of false (frame ∷ []))
     ∷ (codes "o.journal", codes "port 1\nbegin 1\nend\nlook 1 miss\nsettle 1 1 full\nopen 1\nbegin 2\nend\nlook 2 miss\nsettle 2 2 full\nport 2\nbegin 1\nend\nopen 1\nbegin 2\nend\n") ∷ [])
 unfolding outcome
@@ -118,12 +129,12 @@ unfolding outcome
 refused_words_come_first = refl
 
 the_edits_come_before_the_traces :
-    (outcome words None None ≡ Err (Missing (codes "e"))) × (outcome words (Some (codes "actions")) None ≡ Err (NotBuilt (codes "e")))
+    (outcome said None None ≡ Err (Missing (codes "e"))) × (outcome said (Some (codes "actions")) None ≡ Err (Text (codes "e") (script.Line 1 (text.Syntax 1))))
 unfolding outcome
 the_edits_come_before_the_traces = (refl, refl)
 
 a_trace_that_is_missing_or_cut_is_refused :
-    (outcome words (Some []) None ≡ Err (Missing (codes "a"))) × (outcome words (Some []) (Some (take 99 trace)) ≡ Err (Trace (codes "a") (ShortRecord 24)))
+    (outcome said (Some []) None ≡ Err (Missing (codes "a"))) × (outcome said (Some []) (Some (take 99 trace)) ≡ Err (Trace (codes "a") (ShortRecord 24)))
 unfolding outcome
 a_trace_that_is_missing_or_cut_is_refused = (refl, refl)
 
@@ -142,8 +153,8 @@ bytes_above_the_limit_come_before_frames = (refl, refl)
 -- ---- what is opened
 
 unfoldable opened : Option (List ℕ) → Option (List ℕ) → List (List ℕ)
-unfolding files_opened traces_opened command_in script_in file_in traces_after verdict capture_of format_of record_fault frames_from little_endian_at digits_upto decimal_upto number_upto octet octet_before_colon mac port_number port_word new_port port_words command_of flow_port with_priority with_in_port with_dl_dst with_item output_of outputs_of actions_of flow_of edit_of with_line with_lines script_of with_edit with_sync sync_time time_of seconds_with_fraction seconds_of fraction_of
-opened e a = files_opened words (files e a)
+unfolding files_opened traces_opened command_in script_in file_in traces_after verdict capture_of format_of record_fault frames_from little_endian_at digits_upto decimal_upto number_upto octet octet_before_colon mac port_number port_word new_port port_words command_of field_named is_field_left_out shorthand_named keyword_named item_named reserved_port_named is_action_left_out action_named value_in whole_value value_of bits_stated field_stated words with_part with_shorthand number_once with_valued with_bare with_item items.read_items kept match_of read_match up_to_end items is_closed argument_of port_of actions.output drop_item actions_of_item read_items read_actions edit_from edit_in changes_to with_line with_lines script_of with_edit with_sync sync_time time_of seconds_with_fraction seconds_of fraction_of
+opened e a = files_opened said (files e a)
 
 nothing_is_opened_after_a_refusal :
     (opened None (Some trace) ≡ codes "e" ∷ []) × ((opened (Some (codes "actions")) (Some trace) ≡ codes "e" ∷ [])
@@ -167,10 +178,25 @@ the_texts_of_faulty_traces :
 unfolding digits
 the_texts_of_faulty_traces = (refl, (refl, (refl, (refl, (refl, (refl, refl))))))
 
-the_texts_of_limits :
-    (limit_text TraceBytes ≡ codes "limit: trace-bytes 268435456\n") × (limit_text Frames ≡ codes "limit: frames 131072\n")
+abbrev limits_and_their_texts : List (Quantity × List ℕ)
+limits_and_their_texts =
+    (EditsBytes, codes "limit: edits-bytes 33554432\n") ∷ (Line, codes "limit: line 4096\n") ∷ (Edits, codes "limit: edits 32768\n") ∷
+    (Syncs, codes "limit: syncs 63\n") ∷ (Actions, codes "limit: actions 64\n") ∷ (Changes, codes "limit: changes 1048576\n") ∷
+    (TraceBytes, codes "limit: trace-bytes 268435456\n") ∷ (Frames, codes "limit: frames 131072\n") ∷ []
+
+the_texts_of_limits : map (λ row. limit_text row.0) limits_and_their_texts ≡ map (λ row. row.1) limits_and_their_texts
 unfolding digits
-the_texts_of_limits = (refl, refl)
+the_texts_of_limits = refl
+
+the_texts_of_faulty_edits :
+    (script_text (codes "edits") (script.Line 3 (text.BadValue 11)) ≡ codes "edits:3:11: bad value\n")
+    × ((script_text (codes "edits") (script.Line 1 (text.UnknownName 1)) ≡ codes "edits:1:1: unknown name\n")
+    × ((script_text (codes "edits") (script.Line 1 (text.Unsupported 9)) ≡ codes "edits:1:9: unsupported\n")
+    × ((script_text (codes "edits") (script.Line 1 (text.Repeated 11)) ≡ codes "edits:1:11: repeated\n")
+    × ((script_text (codes "edits") (script.Line 1 (text.Syntax 10)) ≡ codes "edits:1:10: syntax\n")
+    × (script_text (codes "edits") (script.SyncOrder 2) ≡ codes "edits:2:1: sync order\n")))))
+unfolding digits
+the_texts_of_faulty_edits = (refl, (refl, (refl, (refl, (refl, refl)))))
 
 -- ---- what is cut short
 

@@ -6,13 +6,22 @@ use Rattle.spec_pcap.specs.declared.fault.PcapFault.{PcapFault}
 use Rattle.spec_pcap.specs.declared.fault.PcapFault.TheVariants.{ShortHeader, Magic, Version, LinkType, ShortRecord, TooLong, Fraction, TooManyFrames, OutOfMemory}
 use Rattle.spec_numbers.specs.Characters.{dot}
 use Rattle.spec_board.specs.Texts.{line_of}
+use Rattle.spec_flow_text.specs.declared.fault.TextFault.{TextFault}
+use Rattle.spec_flow_text.specs.declared.fault.TextFault.TheVariants as text
+use Rattle.spec_script.specs.declared.fault.ScriptFault.{ScriptFault}
+use Rattle.spec_script.specs.declared.fault.ScriptFault.TheVariants as script
 use Rattle.spec_run.specs.declared.quantity.Quantity.{Quantity}
+use Rattle.spec_run.specs.declared.quantity.Quantity.TheVariants.{Line, Edits, Syncs}
 use Rattle.spec_run.specs.Limits.{limit_of, quantity_name}
-use Rattle.spec_run.specs.Verdict.{Files, Refusal, NotBuilt, Missing, Trace, Limit, verdict}
+use Rattle.spec_run.specs.Verdict.{Files, Refusal, NotBuilt, Missing, Text, Trace, Limit, verdict}
 
 -- all is done
 abbrev pub done_status : ℕ
 done_status = 0
+
+-- the file of edits is wrong
+abbrev pub text_status : ℕ
+text_status = 3
 
 -- a trace is no capture file that is read
 abbrev pub trace_status : ℕ
@@ -61,11 +70,44 @@ reason (Fraction at) = codes "fraction at " ++ decimal at
 reason TooManyFrames = codes "too many frames"
 reason OutOfMemory = codes "out of memory"
 
-abbrev pub trace_text : List ℕ → PcapFault → List ℕ
-trace_text name fault = name ++ line_of (codes ": " ++ reason fault)
-
 abbrev pub limit_text : Quantity → List ℕ
 limit_text q = line_of (codes "limit: " ++ (quantity_name q ++ (codes " " ++ decimal (limit_of q))))
+
+-- what is wrong with a line of text
+abbrev pub line_reason : TextFault → List ℕ
+line_reason (text.Syntax col) = codes "syntax"
+line_reason (text.UnknownName col) = codes "unknown name"
+line_reason (text.Unsupported col) = codes "unsupported"
+line_reason (text.BadValue col) = codes "bad value"
+line_reason (text.Repeated col) = codes "repeated"
+line_reason text.TooManyActions = codes "too many actions"
+line_reason text.OutOfMemory = codes "out of memory"
+
+-- the column at which it is found
+abbrev pub column_of : TextFault → ℕ
+column_of (text.Syntax col) = col
+column_of (text.UnknownName col) = col
+column_of (text.Unsupported col) = col
+column_of (text.BadValue col) = col
+column_of (text.Repeated col) = col
+column_of text.TooManyActions = 1
+column_of text.OutOfMemory = 1
+
+-- a place in a file, and what is wrong there
+abbrev pub place_text : List ℕ → ℕ → ℕ → List ℕ → List ℕ
+place_text name line col reason =
+    name ++ (codes ":" ++ (decimal line ++ (codes ":" ++ (decimal col ++ line_of (codes ": " ++ reason)))))
+
+abbrev pub script_text : List ℕ → ScriptFault → List ℕ
+script_text name (script.Line line why) = place_text name line (column_of why) (line_reason why)
+script_text name (script.SyncOrder line) = place_text name line 1 (codes "sync order")
+script_text name script.LineTooLong = limit_text Line
+script_text name script.TooManyEdits = limit_text Edits
+script_text name script.TooManySyncs = limit_text Syncs
+script_text name script.OutOfMemory = out_of_memory_text
+
+abbrev pub trace_text : List ℕ → PcapFault → List ℕ
+trace_text name fault = name ++ line_of (codes ": " ++ reason fault)
 
 -- ---- refusals
 
@@ -73,6 +115,7 @@ limit_text q = line_of (codes "limit: " ++ (quantity_name q ++ (codes " " ++ dec
 abbrev pub status_of : Refusal → ℕ
 status_of (NotBuilt what) = not_built_status
 status_of (Missing name) = read_fault_status
+status_of (Text name fault) = text_status
 status_of (Trace name fault) = trace_status
 status_of (Limit q) = limit_status
 
@@ -80,12 +123,14 @@ status_of (Limit q) = limit_status
 abbrev pub text_of : Refusal → List ℕ
 text_of (NotBuilt what) = not_built_text what
 text_of (Missing name) = read_fault_text name
+text_of (Text name fault) = script_text name fault
 text_of (Trace name fault) = trace_text name fault
 text_of (Limit q) = limit_text q
 
 -- whether a status tells that the words or the files are refused
 abbrev pub is_refusal : ℕ → Bool
-is_refusal status = (status == trace_status) || ((status == limit_status) || (status == not_built_status))
+is_refusal status =
+    (status == text_status) || ((status == trace_status) || ((status == limit_status) || (status == not_built_status)))
 
 -- The verdict is a refusal that ends with this status.
 pub record IsRefused (words : List (List ℕ)) (files : Files) (status : ℕ) : Type 0 where

@@ -1,26 +1,33 @@
 -- What becomes of a run before anything is written. The words come first, then the file of edits, then the traces in the
 -- order of the words; the first input that is refused decides.
 use Rattle.std.specs.Prelude.{ℕ, ◌-◌, nat_lt, false, if◌then◌else◌, List, [], ◌∷◌, ◌++◌, length, map, Option, Result, Ok, Err, codes}
+use Rattle.std.specs.List.{list_all}
 use Rattle.std.specs.Option.{ok_or}
 use Rattle.spec_pcap.specs.declared.fault.PcapFault.{PcapFault}
 use Rattle.spec_pcap.specs.declared.fault.PcapFault.TheVariants.{TooManyFrames}
 use Rattle.spec_pcap.specs.Pcap.{Capture, capture_of}
 use Rattle.spec_case.specs.Run.{Run}
 use Rattle.spec_words.specs.Words.{PortWord, Command, command_of, has_trace}
+use Rattle.spec_tables.specs.Changes.{changes_to}
+use Rattle.spec_tables.specs.Outputs.{only_sends}
+use Rattle.spec_flow_text.specs.declared.fault.TextFault.TheVariants as text
+use Rattle.spec_script.specs.declared.fault.ScriptFault.{ScriptFault}
+use Rattle.spec_script.specs.declared.fault.ScriptFault.TheVariants as script
 use Rattle.spec_script.specs.Script.{Script, script_of}
 use Rattle.spec_run.specs.declared.quantity.Quantity.{Quantity}
-use Rattle.spec_run.specs.declared.quantity.Quantity.TheVariants.{TraceBytes, Frames}
-use Rattle.spec_run.specs.Limits.{most_trace_bytes, most_frames}
+use Rattle.spec_run.specs.declared.quantity.Quantity.TheVariants.{EditsBytes, Line, Edits, Syncs, Actions, Changes, TraceBytes, Frames}
+use Rattle.spec_run.specs.Limits.{most_edits_bytes, most_changes, most_trace_bytes, most_frames}
 
 -- the bytes of a file by its name, where there is one
 abbrev pub Files : Type 0
 Files = List ℕ → Option (List ℕ)
 
--- Why there is no run: an input, by name, whose form isn't built, a file that isn't there, a trace by its name and fault,
--- or a quantity that is above its limit.
+-- Why there is no run: an input, by name, whose form isn't built, a file that isn't there, the file of edits by its name
+-- and what is wrong with it, a trace likewise, or a quantity that is above its limit.
 pub data Refusal : Type 0 where
   NotBuilt : List ℕ → Refusal
   Missing : List ℕ → Refusal
+  Text : List ℕ → ScriptFault → Refusal
   Trace : List ℕ → PcapFault → Refusal
   Limit : Quantity → Refusal
 
@@ -47,8 +54,33 @@ command_in words = ok_or (command_of words) (NotBuilt words_name)
 abbrev pub bytes_in : Files → List ℕ → Result (List ℕ) Refusal
 bytes_in files name = ok_or (files name) (Missing name)
 
+-- a file of edits with this fault is refused
+abbrev pub refused_script : List ℕ → ScriptFault → Refusal
+refused_script name (script.Line line text.TooManyActions) = Limit Actions
+refused_script name script.LineTooLong = Limit Line
+refused_script name script.TooManyEdits = Limit Edits
+refused_script name script.TooManySyncs = Limit Syncs
+refused_script name fault = Text name fault
+
+abbrev pub script_or_refusal : List ℕ → Result Script ScriptFault → Result Script Refusal
+script_or_refusal name (Ok s) = Ok s
+script_or_refusal name (Err fault) = Err (refused_script name fault)
+
+-- a file of so many bytes at most
+abbrev pub script_within : List ℕ → List ℕ → Result Script Refusal
+script_within name bytes =
+    if nat_lt most_edits_bytes (length bytes) then Err (Limit EditsBytes) else script_or_refusal name (script_of bytes)
+
+-- the edits change no more rules than they may
+abbrev pub with_few_changes : Script → Result Script Refusal
+with_few_changes s = if nat_lt most_changes (changes_to s.edits (length s.edits)) then Err (Limit Changes) else Ok s
+
+-- actions that rewrite frames or look up again aren't built yet
+abbrev pub with_built_actions : List ℕ → Script → Result Script Refusal
+with_built_actions name s = if list_all only_sends s.edits then Ok s else Err (NotBuilt name)
+
 unfoldable pub script_in : Files → List ℕ → Result Script Refusal
-script_in files name = bytes_in files name >>= (λ bytes. ok_or (script_of bytes) (NotBuilt name))
+script_in files name = bytes_in files name >>= script_within name >>= with_few_changes >>= with_built_actions name
 
 -- ---- the traces
 

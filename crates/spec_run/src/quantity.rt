@@ -1,6 +1,18 @@
 /// A quantity that has a limit.
 #[derive(Clone, Copy, Debug, PartialEq, Eq)]
 pub enum Quantity {
+    /// The bytes of the file of edits.
+    EditsBytes,
+    /// The bytes of a line of the file of edits, without its line feed.
+    Line,
+    /// The edits of the file.
+    Edits,
+    /// The sync lines of the file.
+    Syncs,
+    /// The actions of a flow.
+    Actions,
+    /// The rules that all edits together add, give actions to and remove.
+    Changes,
     /// The bytes of all traces.
     TraceBytes,
     /// The frames of all traces.

@@ -1,36 +1,51 @@
 -- Worked rows: files of edits, and sync lines.
-use Rattle.std.specs.Prelude.{◌≡◌, ℕ, List, [], ◌∷◌, ◌++◌, replicate, Some, None, codes, refl}
+use Rattle.std.specs.Prelude.{◌≡◌, ℕ, List, [], ◌∷◌, ◌++◌, map, replicate, Option, Some, None, Ok, Err, codes, refl}
+use Rattle.std.specs.Result.{result_err}
+use Rattle.spec_keys.specs.Keys.{none, joined, only_at}
 use Rattle.spec_actions.specs.declared.action.OfAction.TheVariants.{Output}
+use Rattle.spec_tables.specs.declared.edit_word.EditWord.TheVariants.{Add}
 use Rattle.spec_tables.specs.declared.sync_point.SyncPoint.{SyncPoint}
 use Rattle.spec_tables.specs.Edits.{Edit}
-use Rattle.spec_numbers.specs.Numbers.{digits_upto, decimal_upto, number_upto, octet, octet_before_colon, mac}
-use Rattle.spec_flow_text.specs.FlowText.{nothing_stated, flow_port, with_priority, with_in_port, with_dl_dst, with_item, output_of, outputs_of, actions_of, added, flow_of, edit_of}
-use Rattle.spec_script.specs.Script.{seconds_of, fraction_of, seconds_with_fraction, time_of, sync_time, nothing_said, with_edit, with_sync, with_line, with_lines, script_of, Script}
+use Rattle.spec_numbers.specs.Numbers.{digits_upto, decimal_upto, number_upto}
+use Rattle.spec_flow_text.specs.declared.fault.TextFault.TheVariants.{Syntax, UnknownName, BadValue, Repeated, TooManyActions}
+use Rattle.spec_flow_text.specs.Names.{field_named, is_field_left_out, shorthand_named, keyword_named, item_named, reserved_port_named, is_action_left_out, action_named}
+use Rattle.spec_flow_text.specs.Values.{value_in, whole_value, value_of, bits_stated, field_stated}
+use Rattle.spec_flow_text.specs.Items as items
+use Rattle.spec_flow_text.specs.Items.{words, with_part, with_shorthand, number_once, with_valued, with_bare, with_item}
+use Rattle.spec_flow_text.specs.Matches.{default_priority, kept, match_of, read_match}
+use Rattle.spec_flow_text.specs.Actions.{up_to_end, items, is_closed, argument_of, port_of, output, actions_of_item, read_items, read_actions}
+use Rattle.spec_flow_text.specs.Lines.{edit_from, edit_in}
+use Rattle.spec_script.specs.declared.fault.ScriptFault.{ScriptFault}
+use Rattle.spec_script.specs.declared.fault.ScriptFault.TheVariants.{Line, SyncOrder, LineTooLong, TooManyEdits, TooManySyncs}
+use Rattle.spec_script.specs.Script.{Script, seconds_of, fraction_of, seconds_with_fraction, time_of, sync_time, nothing_said, with_edit, with_sync, with_line, with_lines, script_of}
 
 -- ---- files
 
 abbrev to_port : ℕ → Edit
-to_port port = added nothing_stated (Output port ∷ [])
+to_port port = record { word = Add; table = None; priority = default_priority; cookie = None; matching = match_of []; actions = Output port ∷ [] }
 
 abbrev says : List ℕ → List Edit → List SyncPoint → Type 0
-says bytes edits syncs = script_of bytes ≡ Some (record { edits = edits; syncs = syncs })
+says bytes edits syncs = script_of bytes ≡ Ok (record { edits = edits; syncs = syncs })
+
+abbrev fails : List ℕ → ScriptFault → Type 0
+fails bytes fault = script_of bytes ≡ Err fault
 
 lines_may_be_blank_and_the_last_may_lack_its_line_feed :
-    says (codes "actions=2" ++ 10 ∷ 32 ∷ 9 ∷ 13 ∷ 10 ∷ 10 ∷ codes "actions=3") (to_port 2 ∷ to_port 3 ∷ []) []
-unfolding script_of with_lines with_line with_edit edit_of flow_of with_item with_priority with_in_port with_dl_dst actions_of outputs_of output_of flow_port number_upto decimal_upto digits_upto mac octet octet_before_colon
+    says (codes "actions=2" ++ 10 ∷ 32 ∷ 9 ∷ 13 ∷ 10 ∷ 10 ∷ codes " # 5" ++ 10 ∷ codes "actions=3#4") (to_port 2 ∷ to_port 3 ∷ []) []
+unfolding script_of with_lines with_line with_edit with_sync sync_time time_of seconds_with_fraction seconds_of fraction_of field_named is_field_left_out shorthand_named keyword_named item_named reserved_port_named is_action_left_out action_named value_in whole_value value_of bits_stated field_stated number_upto decimal_upto digits_upto words with_part with_shorthand number_once with_valued with_bare with_item items.read_items kept match_of none joined only_at read_match up_to_end items is_closed argument_of port_of output actions_of_item read_items read_actions edit_from edit_in
 lines_may_be_blank_and_the_last_may_lack_its_line_feed = refl
 
-abbrev is_no_script : List ℕ → Type 0
-is_no_script bytes = script_of bytes ≡ None
-
-a_bad_line_refuses_the_file : is_no_script (codes "actions=2" ++ 10 ∷ codes "actions")
-unfolding script_of with_lines with_line with_edit edit_of flow_of with_item with_priority with_in_port with_dl_dst actions_of outputs_of output_of flow_port number_upto decimal_upto digits_upto mac octet octet_before_colon
-a_bad_line_refuses_the_file = refl
+the_first_line_with_a_fault_decides :
+    (fails (codes "actions=2" ++ 10 ∷ 10 ∷ codes "actions" ++ 10 ∷ codes "foo") (Line 3 (Syntax 1)))
+    × (fails (codes "sync 1" ++ 10 ∷ codes "in_port=1,in_port=1,actions=2") (Line 2 (Repeated 11)))
+unfolding script_of with_lines with_line with_edit with_sync sync_time time_of seconds_with_fraction seconds_of fraction_of field_named is_field_left_out shorthand_named keyword_named item_named reserved_port_named is_action_left_out action_named value_in whole_value value_of bits_stated field_stated number_upto decimal_upto digits_upto words with_part with_shorthand number_once with_valued with_bare with_item items.read_items kept match_of none joined only_at read_match up_to_end items is_closed argument_of port_of output actions_of_item read_items read_actions edit_from edit_in
+the_first_line_with_a_fault_decides = (refl, refl)
 
 a_line_has_at_most_4096_bytes :
-    (with_line nothing_said (replicate 4096 32) ≡ Some nothing_said) × (with_line nothing_said (replicate 4097 32) ≡ None)
+    (with_line 1 (replicate 4096 32) nothing_said ≡ Ok nothing_said)
+    × ((with_line 1 (replicate 4097 32) nothing_said ≡ Err LineTooLong) × (with_line 1 (replicate 4097 35) nothing_said ≡ Err LineTooLong))
 unfolding with_line
-a_line_has_at_most_4096_bytes = (refl, refl)
+a_line_has_at_most_4096_bytes = (refl, (refl, refl))
 
 -- ---- sync lines
 
@@ -38,47 +53,53 @@ a_line_has_at_most_4096_bytes = (refl, refl)
 abbrev sync : ℕ → ℕ → SyncPoint
 sync time after = record { time = time; after = after }
 
-abbrev is_sync_at : List ℕ → ℕ → Type 0
-is_sync_at line time = says line [] (sync time 0 ∷ [])
+abbrev times_of_sync_lines : List (List ℕ × ℕ)
+times_of_sync_lines =
+    (codes "sync 2", 2000000000) ∷ (codes "sync 0", 0) ∷ (codes "sync 2.5", 2500000000) ∷ (codes "sync 1.000000001", 1000000001) ∷
+    (codes "sync 4294967295.999999999", 4294967295999999999) ∷ (32 ∷ 9 ∷ codes "sync" ++ 9 ∷ 32 ∷ codes "2" ++ 32 ∷ 13 ∷ [], 2000000000) ∷
+    (codes "sync 2#3", 2000000000) ∷ []
 
 a_sync_time_is_in_seconds :
-    (is_sync_at (codes "sync 2") 2000000000) × ((is_sync_at (codes "sync 0") 0) × ((is_sync_at (codes "sync 2.5") 2500000000)
-    × ((is_sync_at (codes "sync 1.000000001") 1000000001)
-    × (is_sync_at (codes "sync 4294967295.999999999") 4294967295999999999))))
-unfolding script_of with_lines with_line with_sync sync_time time_of seconds_with_fraction seconds_of fraction_of decimal_upto digits_upto
-a_sync_time_is_in_seconds = (refl, (refl, (refl, (refl, refl))))
+    map (λ row. script_of row.0) times_of_sync_lines ≡ map (λ row. Ok (record { edits = []; syncs = sync row.1 0 ∷ [] })) times_of_sync_lines
+unfolding script_of with_lines with_line with_sync sync_time time_of seconds_with_fraction seconds_of fraction_of words decimal_upto digits_upto
+a_sync_time_is_in_seconds = refl
 
-white_space_may_stand_round_the_words_of_a_sync_line : is_sync_at (32 ∷ 9 ∷ codes "sync" ++ 9 ∷ 32 ∷ codes "2" ++ 32 ∷ 13 ∷ []) 2000000000
-unfolding script_of with_lines with_line with_sync sync_time time_of seconds_with_fraction seconds_of fraction_of decimal_upto digits_upto
-white_space_may_stand_round_the_words_of_a_sync_line = refl
+abbrev faults_of_sync_lines : List (List ℕ × ScriptFault)
+faults_of_sync_lines =
+    (codes " sync", Line 1 (Syntax 2)) ∷ (codes "sync 1 2", Line 1 (Syntax 1)) ∷ (codes "sync 5. 3", Line 1 (Syntax 1)) ∷
+    (codes "sync 01", Line 1 (BadValue 6)) ∷ (codes "sync 1.", Line 1 (BadValue 6)) ∷ (codes "sync  .5", Line 1 (BadValue 7)) ∷
+    (codes "sync 1.0123456789", Line 1 (BadValue 6)) ∷ (codes "sync 4294967296", Line 1 (BadValue 6)) ∷ (codes "sync 1.2.3", Line 1 (BadValue 6)) ∷
+    (codes "sync 5,", Line 1 (BadValue 6)) ∷ (codes "sync 5" ++ 128 ∷ [], Line 1 (Syntax 7)) ∷
+    (codes "sync 2" ++ 10 ∷ codes "sync 1.9", SyncOrder 2) ∷ []
 
-no_sync_line :
-    (is_no_script (codes "sync")) × ((is_no_script (codes "sync 1 2")) × ((is_no_script (codes "sync 01"))
-    × ((is_no_script (codes "sync 1.")) × ((is_no_script (codes "sync .5")) × ((is_no_script (codes "sync 1.0123456789"))
-    × ((is_no_script (codes "sync 4294967296")) × ((is_no_script (codes "sync 1.2.3")) × (is_no_script (codes "sync actions=2")))))))))
-unfolding script_of with_lines with_line with_sync sync_time time_of seconds_with_fraction seconds_of fraction_of decimal_upto digits_upto
-no_sync_line = (refl, (refl, (refl, (refl, (refl, (refl, (refl, (refl, refl))))))))
+a_faulty_sync_line : map (λ row. result_err (script_of row.0)) faults_of_sync_lines ≡ map (λ row. Some row.1) faults_of_sync_lines
+unfolding script_of with_lines with_line with_sync sync_time time_of seconds_with_fraction seconds_of fraction_of words decimal_upto digits_upto
+a_faulty_sync_line = refl
 
-a_longer_word_is_no_sync : is_no_script (codes "sync2 3")
-unfolding script_of with_lines with_line with_edit with_sync sync_time time_of seconds_with_fraction seconds_of fraction_of edit_of flow_of with_item with_priority with_in_port with_dl_dst actions_of outputs_of output_of flow_port number_upto decimal_upto digits_upto mac octet octet_before_colon
-a_longer_word_is_no_sync = refl
+a_longer_word_is_no_sync : (fails (codes "sync2 3") (Line 1 (UnknownName 1))) × (fails (codes "sync,5") (Line 1 (UnknownName 1)))
+unfolding script_of with_lines with_line with_edit with_sync sync_time time_of seconds_with_fraction seconds_of fraction_of field_named is_field_left_out shorthand_named keyword_named item_named reserved_port_named is_action_left_out action_named value_in whole_value value_of bits_stated field_stated number_upto decimal_upto digits_upto words with_part with_shorthand number_once with_valued with_bare with_item items.read_items kept match_of none joined only_at read_match up_to_end items is_closed argument_of port_of output actions_of_item read_items read_actions edit_from edit_in
+a_longer_word_is_no_sync = (refl, refl)
 
-sync_times_may_be_equal_and_never_fall :
-    (says (codes "sync 2" ++ 10 ∷ codes "sync 2") [] (sync 2000000000 0 ∷ sync 2000000000 0 ∷ []))
-    × (is_no_script (codes "sync 2" ++ 10 ∷ codes "sync 1.9"))
-unfolding script_of with_lines with_line with_sync sync_time time_of seconds_with_fraction seconds_of fraction_of decimal_upto digits_upto
-sync_times_may_be_equal_and_never_fall = (refl, refl)
+sync_times_may_be_equal : says (codes "sync 2" ++ 10 ∷ codes "sync 2") [] (sync 2000000000 0 ∷ sync 2000000000 0 ∷ [])
+unfolding script_of with_lines with_line with_sync sync_time time_of seconds_with_fraction seconds_of fraction_of words decimal_upto digits_upto
+sync_times_may_be_equal = refl
 
 edits_are_counted_before_a_sync_point :
     says (codes "sync 1" ++ 10 ∷ codes "actions=2" ++ 10 ∷ codes "sync 2" ++ 10 ∷ codes "actions=3")
     (to_port 2 ∷ to_port 3 ∷ []) (sync 1000000000 0 ∷ sync 2000000000 1 ∷ [])
-unfolding script_of with_lines with_line with_edit with_sync sync_time time_of seconds_with_fraction seconds_of fraction_of edit_of flow_of with_item with_priority with_in_port with_dl_dst actions_of outputs_of output_of flow_port number_upto decimal_upto digits_upto mac octet octet_before_colon
+unfolding script_of with_lines with_line with_edit with_sync sync_time time_of seconds_with_fraction seconds_of fraction_of field_named is_field_left_out shorthand_named keyword_named item_named reserved_port_named is_action_left_out action_named value_in whole_value value_of bits_stated field_stated number_upto decimal_upto digits_upto words with_part with_shorthand number_once with_valued with_bare with_item items.read_items kept match_of none joined only_at read_match up_to_end items is_closed argument_of port_of output actions_of_item read_items read_actions edit_from edit_in
 edits_are_counted_before_a_sync_point = refl
 
 -- so many sync points at time 0
 abbrev syncs_at_0 : ℕ → Script
 syncs_at_0 n = record { edits = []; syncs = replicate n (sync 0 0) }
 
-a_file_has_at_most_63_sync_lines : (with_sync (syncs_at_0 62) 0 ≡ Some (syncs_at_0 63)) × (with_sync (syncs_at_0 63) 0 ≡ None)
-unfolding with_sync
+a_file_has_at_most_63_sync_lines :
+    (with_sync 64 (codes "sync 0") (syncs_at_0 62) ≡ Ok (syncs_at_0 63)) × (with_sync 64 (codes "sync") (syncs_at_0 63) ≡ Err TooManySyncs)
+unfolding with_sync sync_time time_of seconds_with_fraction seconds_of fraction_of words decimal_upto digits_upto
 a_file_has_at_most_63_sync_lines = (refl, refl)
+
+a_file_has_at_most_32768_edits :
+    with_edit 1 (codes "foo") (record { edits = replicate 32768 (to_port 1); syncs = [] }) ≡ Err TooManyEdits
+unfolding with_edit
+a_file_has_at_most_32768_edits = refl

@@ -1,21 +1,24 @@
--- The file of edits: a line adds a rule to table 0 (`spec_flow_text` has its form), or is a sync line:
+-- The file of edits: a line is an edit (`spec_flow_text`), or blank, or a sync line:
 --
 --     sync SECONDS [. FRACTION]
 --
--- A sync line has two words with white space round them, and gives a time: the edits after it begin a new block then.
-use Rattle.std.specs.Prelude.{ℕ, ◌+◌, ◌-◌, ◌*◌, ◌^◌, ◌==◌, nat_lt, nat_le, Bool, ◌&&◌, ◌||◌, if◌then◌else◌, List, [], ◌∷◌, ◌++◌, length, drop, slice_get, Option, Some, None, codes}
-use Rattle.std.specs.List.{list_all, slice_split, prefix_len, before_first, after_first}
-use Rattle.std.specs.Option.{option_map, option_map_or}
-use Rattle.spec_numbers.specs.Characters.{tab, line_feed, carriage_return, space, dot}
-use Rattle.spec_numbers.specs.Numbers.{◌>>=◌, where_found, is_text, split_once, digits_upto, decimal_upto}
+-- A sync line has two words, and gives a time: the edits after it begin a new block then. From `#` on a line is comment.
+use Rattle.std.specs.Prelude.{ℕ, ◌+◌, ◌-◌, ◌*◌, ◌^◌, ◌==◌, nat_lt, nat_le, Bool, true, false, if◌then◌else◌, List, [], ◌∷◌, ◌++◌, length, slice_get, Option, Some, None, Result, Ok, Err, codes, bytes_eq}
+use Rattle.std.specs.List.{list_all, slice_split}
+use Rattle.std.specs.Option.{ok_or, option_map, option_map_or, option_and_then}
+use Rattle.spec_numbers.specs.Characters.{line_feed, dot}
+use Rattle.spec_numbers.specs.Numbers.{where_found, split_once, digits_upto, decimal_upto}
 use Rattle.spec_tables.specs.declared.sync_point.SyncPoint.{SyncPoint}
 use Rattle.spec_tables.specs.Edits.{Edit}
-use Rattle.spec_flow_text.specs.FlowText.{edit_of}
+use Rattle.spec_flow_text.specs.declared.fault.TextFault.{TextFault}
+use Rattle.spec_flow_text.specs.declared.fault.TextFault.TheVariants.{Syntax, BadValue}
+use Rattle.spec_flow_text.specs.Items.{Word, column, is_white, words}
+use Rattle.spec_flow_text.specs.Matches.{uncommented, ascii_from}
+use Rattle.spec_flow_text.specs.Lines.{first_word, edit_in}
+use Rattle.spec_script.specs.declared.fault.ScriptFault.{ScriptFault}
+use Rattle.spec_script.specs.declared.fault.ScriptFault.TheVariants.{Line, SyncOrder, LineTooLong, TooManyEdits, TooManySyncs}
 
 -- ---- limits
-
-abbrev pub most_bytes : ℕ
-most_bytes = 33554432
 
 -- the most bytes of a line, without its line feed
 abbrev pub most_line_bytes : ℕ
@@ -32,18 +35,6 @@ abbrev pub most_seconds : ℕ
 most_seconds = 4294967295
 
 -- ---- sync lines
-
--- space, tab or carriage return
-abbrev pub is_white : ℕ → Bool
-is_white c = (c == space) || ((c == tab) || (c == carriage_return))
-
--- a text without the white space at its start
-abbrev pub unindented : List ℕ → List ℕ
-unindented text = drop (prefix_len is_white text) text
-
--- the first word of a text, and what stands after it
-abbrev pub first_word : List ℕ → List ℕ × List ℕ
-first_word text = (before_first is_white (unindented text), after_first is_white (unindented text))
 
 -- the decimal digits of a fraction of a second in nanoseconds
 abbrev pub nanosecond_digits : ℕ
@@ -62,18 +53,25 @@ fraction_of digits =
 
 -- seconds with a fraction, in nanoseconds
 unfoldable pub seconds_with_fraction : List ℕ × List ℕ → Option ℕ
-seconds_with_fraction parts = do
-  whole ← seconds_of parts.0
-  part ← fraction_of parts.1
-  Some (whole + part)
+seconds_with_fraction parts = option_and_then (λ whole. option_map (λ part. whole + part) (fraction_of parts.1)) (seconds_of parts.0)
 
 -- a time of one word, in nanoseconds
 unfoldable pub time_of : List ℕ → Option ℕ
 time_of word = where_found (split_once dot word) seconds_with_fraction (seconds_of word)
 
--- the time of what stands after `sync`: one word
-unfoldable pub sync_time : List ℕ → Option ℕ
-sync_time text = if list_all is_white (first_word text).1 then time_of (first_word text).0 else None
+-- the time of a sync line's words: the first is `sync`, and one follows it
+abbrev pub time_in_words : List Word → Result ℕ TextFault
+time_in_words (w ∷ time ∷ []) = ok_or (time_of time.text) (BadValue (column time))
+time_in_words (w ∷ ws) = Err (Syntax (column w))
+time_in_words [] = Err (Syntax 1)
+
+abbrev pub time_in_text : Result (List ℕ) TextFault → Result ℕ TextFault
+time_in_text (Ok text) = time_in_words (words is_white true 0 text)
+time_in_text (Err e) = Err e
+
+-- the time of a sync line
+unfoldable pub sync_time : List ℕ → Result ℕ TextFault
+sync_time line = time_in_text (ascii_from 0 (uncommented line))
 
 -- ---- files
 
@@ -85,9 +83,26 @@ pub record Script : Type 0 where
 abbrev pub nothing_said : Script
 nothing_said = record { edits = []; syncs = [] }
 
--- the script with one more edit
-unfoldable pub with_edit : Script → Edit → Option Script
-with_edit s e = if nat_lt (length s.edits) most_edits then Some (record s { edits = s.edits ++ e ∷ [] }) else None
+infixl 10 ◌>>=◌
+abbrev pub ◌>>=◌ : {A B : Type 0} → Result A ScriptFault → (A → Result B ScriptFault) → Result B ScriptFault
+(Ok a) >>= f = f a
+(Err e) >>= f = Err e
+
+abbrev pub unless : Bool → ScriptFault → Result Bool ScriptFault
+unless true e = Ok true
+unless false e = Err e
+
+-- what is wrong with a line is told with its number
+abbrev pub in_line : {A : Type 0} → ℕ → Result A TextFault → Result A ScriptFault
+in_line number (Ok a) = Ok a
+in_line number (Err why) = Err (Line number why)
+
+-- the script with the edit of one more line
+unfoldable pub with_edit : ℕ → List ℕ → Script → Result Script ScriptFault
+with_edit number line s = do
+  room ← unless (nat_lt (length s.edits) most_edits) TooManyEdits
+  e ← in_line number (edit_in line)
+  Ok (record s { edits = s.edits ++ e ∷ [] })
 
 -- the time of the last sync point so far; there is none before time 0
 abbrev pub last_time : List SyncPoint → ℕ
@@ -98,31 +113,36 @@ abbrev pub sync_at : List Edit → ℕ → SyncPoint
 sync_at edits time = record { time = time; after = length edits }
 
 -- the script with a sync point more, which is no earlier than the one before it
-unfoldable pub with_sync : Script → ℕ → Option Script
-with_sync s time =
-    if nat_lt (length s.syncs) most_syncs && nat_le (last_time s.syncs) time
-    then Some (record s { syncs = s.syncs ++ sync_at s.edits time ∷ [] })
-    else None
+unfoldable pub with_sync : ℕ → List ℕ → Script → Result Script ScriptFault
+with_sync number line s = do
+  room ← unless (nat_lt (length s.syncs) most_syncs) TooManySyncs
+  time ← in_line number (sync_time line)
+  order ← unless (nat_le (last_time s.syncs) time) (SyncOrder number)
+  Ok (record s { syncs = s.syncs ++ sync_at s.edits time ∷ [] })
+
+-- whether a line has nothing but white space before its comment
+abbrev pub is_blank : List ℕ → Bool
+is_blank line = list_all is_white (uncommented line)
 
 -- whether a line's first word is `sync`
 abbrev pub is_sync : List ℕ → Bool
-is_sync line = is_text (codes "sync") (first_word line).0
+is_sync line = bytes_eq (codes "sync") (first_word (uncommented line)).text
 
--- the script with that of one more line, which may be blank
-unfoldable pub with_line : Script → List ℕ → Option Script
-with_line s line =
-    if nat_lt most_line_bytes (length line) then None
-    else (if list_all is_white line then Some s
-    else (if is_sync line then sync_time (first_word line).1 >>= with_sync s else edit_of line >>= with_edit s))
+-- the script with that of one more line
+unfoldable pub with_line : ℕ → List ℕ → Script → Result Script ScriptFault
+with_line number line s =
+    if nat_lt most_line_bytes (length line) then Err LineTooLong
+    else (if is_blank line then Ok s else (if is_sync line then with_sync number line s else with_edit number line s))
 
-unfoldable pub with_lines : Script → List (List ℕ) → Option Script
-with_lines s [] = Some s
-with_lines s (line ∷ lines) = with_line s line >>= (λ more. with_lines more lines)
+-- the lines from this number on
+unfoldable pub with_lines : ℕ → List (List ℕ) → Script → Result Script ScriptFault
+with_lines number [] s = Ok s
+with_lines number (line ∷ lines) s = with_line number line s >>= with_lines (number + 1) lines
 
 -- the lines of a text; the last may lack its line feed
 abbrev pub lines_of : List ℕ → List (List ℕ)
 lines_of text = slice_split (λ c. c == line_feed) text
 
 -- what the bytes of a file say
-unfoldable pub script_of : List ℕ → Option Script
-script_of bytes = if nat_lt most_bytes (length bytes) then None else with_lines nothing_said (lines_of bytes)
+unfoldable pub script_of : List ℕ → Result Script ScriptFault
+script_of bytes = with_lines 1 (lines_of bytes) nothing_said

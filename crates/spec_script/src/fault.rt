@@ -1,0 +1,22 @@
+use spec_flow_text::TextFault;
+
+/// What is wrong with a file of edits. Lines are counted from 1.
+#[derive(Clone, Copy, Debug, PartialEq, Eq)]
+pub enum ScriptFault {
+    /// A line is no edit, and no sync line either.
+    Line {
+        line: u32,
+        why: TextFault,
+    },
+    /// The time of a sync line is below that of the one before it.
+    SyncOrder {
+        line: u32,
+    },
+    /// A line has more than 4,096 bytes.
+    LineTooLong,
+    /// The file has more than 32,768 edits.
+    TooManyEdits,
+    /// The file has more than 63 sync lines.
+    TooManySyncs,
+    OutOfMemory,
+}
