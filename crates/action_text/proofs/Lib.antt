@@ -7,3 +7,4 @@ pub mod Loads
 pub mod ArgumentLists
 pub mod Mods
 pub mod ListSteps
+pub mod PrintedSteps

@@ -1,14 +1,16 @@
 -- Numbers that are written to slices.
-use Rattle.std.proofs.Common.{◌≡◌, ℕ, ◌+◌, ◌-◌, ◌*◌, ◌/◌, ◌%◌, ◌^◌, ◌<◌, ◌≤◌, nat_lt, nat_le, IsTrue, sym, ap, ◌∙◌, arith, pow_pos, pow_mono, lt-ltb}
-use Rattle.std.specs.Prelude.{bit_and}
+use Rattle.std.proofs.Common.{◌≡◌, ℕ, ◌+◌, ◌-◌, ◌*◌, ◌/◌, ◌%◌, ◌^◌, ◌<◌, ◌≤◌, nat_lt, nat_le, IsTrue, sym, ap, ◌∙◌, arith, pow_pos, pow_mono, lt-ltb, ltb-true}
+use Rattle.std.specs.Prelude.{bit_and, ◌&&◌}
 use Rattle.std.proofs.Math.Nat.{div-lt_iff_lt-mul}
+use Rattle.std.proofs.lemmas.Bool.{and_parts}
 use Rattle.std.proofs.lemmas.Bool.Decides.{nat_tests}
 use Rattle.std.proofs.lemmas.Nat.{shl_whole, shl_below, pow-add, and_le_r}
 use Rattle.spec_base.specs.Bits.{all_bits}
 use Rattle.spec_actions.specs.declared.named_field.NamedField.{NamedField}
 use Rattle.spec_actions.specs.declared.action.Slice.{Slice}
+use Rattle.spec_actions.specs.declared.action.OfAction.TheVariants.{Set}
 use Rattle.spec_actions.specs.Named.{named}
-use Rattle.spec_actions.specs.Sound.{is_sound_slice, fits_name}
+use Rattle.spec_actions.specs.Sound.{is_written, is_sound_slice, fits_name, is_sound}
 use Rattle.spec_xlate.specs.Translation.{slice_bits}
 use Rattle.spec_flow_text.specs.Actions.{slice_width}
 use Rattle.field_text.specs.declared.values.Bits.{Bits}
@@ -68,3 +70,10 @@ masked_fits f b fits =
 
 pub mask_fits : (f : NamedField) (b : Bits) → Fits f b → IsTrue (fits_name f b.mask)
 mask_fits f b fits = lt-ltb b.mask (2 ^ (named f).bits) fits.1
+
+-- what a sound write has
+pub set_fits : (f : NamedField) (value mask : ℕ) → IsTrue (is_sound (Set f value mask)) → Fits f (record { value = value; mask = mask })
+set_fits f value mask sound =
+    let parts = and_parts (is_written f) (fits_name f value && fits_name f mask) sound in
+    let fits = and_parts (fits_name f value) (fits_name f mask) parts.1 in
+    (ltb-true value (2 ^ (named f).bits) fits.0, ltb-true mask (2 ^ (named f).bits) fits.1)

@@ -1,19 +1,22 @@
-//! Lists of actions of flows, as ovs-actions(7) writes them.
+//! Lists of actions of flows, as ovs-actions(7) writes them, both ways.
 //!
 //! # What?
 //!
 //! The actions of a flow stand at the end of its line, as `set_field:1->reg0,output:2` or `drop`. `read_actions` makes
-//! the list of `rule_tables` of what stands in a line from a place on.
+//! the list of `rule_tables` of what stands in a line from a place on, and `print_actions` writes a list in the one way
+//! that dumps have it.
 //!
 //! # What is promised
 //!
-//! `spec_flow_text` says which texts are lists of actions and what they say (`Actions`), and this crate answers just
-//! that.
+//! `spec_flow_text` says which texts are lists of actions and what they say (`Actions`), and how a list is printed
+//! (`Printed`), and this crate answers just that.
 //!
 //! - Where a list is read, it is the one that the text says. Where a fault is answered, it is the first fault of the
 //!   text, with its column in the line. Memory that runs out is the one other answer.
 //! - What is read is sound: tables, slices, values and masks are within their ranges, and only fields that can be written
 //!   are written. It has at most 64 actions.
+//! - What is printed of a sound list is its one text. Where there is no memory, the string has what it had, and perhaps a
+//!   part of the text after it.
 //!
 //! # How
 //!
@@ -36,6 +39,7 @@ mod fields;
 mod items;
 mod list;
 mod ports;
+mod printing;
 mod resubmit;
 mod slices;
 #[cfg(test)]
@@ -45,5 +49,6 @@ mod writes;
 
 pub use actions::read_actions;
 pub use field_text::TextFault;
+pub use printing::print_actions;
 pub use rule_tables::Actions;
 pub use spec_actions::OfAction;

@@ -5,15 +5,13 @@ ghost use Rattle.field_text.specs.WordViews.{word_view};
 ghost use Rattle.action_text.specs.ActionsRead.{actions_read, names_written, vid_of, pcp_of};
 
 use crate::ports::{number_argument, output, port_of, push_vlan};
-use crate::resubmit::resubmit;
+use crate::resubmit::{LAST_TABLE, resubmit};
 use crate::words::{alone, is_alone, name_in};
 use crate::writes::{load, modify, move_bits, set_field};
 use field_text::{ActionName, TextFault, Word, action_named};
 use spec_actions::OfAction;
 
-// The greatest table, VLAN identifier and VLAN priority.
-const LAST_TABLE: u128 = 254;
-
+// The greatest VLAN identifier, and the greatest VLAN priority.
 const LAST_VID: u128 = 4095;
 
 const LAST_PCP: u128 = 7;

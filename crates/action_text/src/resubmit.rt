@@ -10,8 +10,8 @@ use field_text::{TextFault, Word};
 use spec_actions::OfAction;
 use text_numbers::{after_start, cut_at, read_number};
 
-// The greatest table.
-const LAST_TABLE: u128 = 254;
+/// The greatest table.
+pub const LAST_TABLE: u128 = 254;
 
 // `(,TABLE)`: no port, and no third argument.
 #[tactic(auto, using(crate::proofs::ArgumentLists::one_argument, crate::proofs::ArgumentLists::no_argument, crate::proofs::ArgumentLists::with_port, crate::proofs::ArgumentLists::without_table, crate::proofs::ArgumentLists::three_arguments, crate::proofs::ArgumentLists::table_argument))]

@@ -1,10 +1,10 @@
-use crate::{OfAction, TextFault, read_actions};
+use crate::{OfAction, TextFault, print_actions, read_actions};
 use spec_actions::{NamedField, Slice};
 use std::process::Abort;
 use std::test::Fail;
 
 #[test]
-fn actions_of_a_line(rt: HostRuntime) -> Result<(), Fail> {
+fn actions_of_a_line_and_their_text(rt: HostRuntime) -> Result<(), Fail> {
     let line = b"actions=load:5->reg0[4..7] output:in_port[],resubmit(,1),goto_table:254 # 9";
     let actions = read_actions(rt.alloc(), line, 8)?;
     let port = Slice {
@@ -23,6 +23,10 @@ fn actions_of_a_line(rt: HostRuntime) -> Result<(), Fail> {
         OfAction::Goto(254),
     ];
     assert_eq!(rt; actions.as_slice(), expected.as_slice());
+    let mut text = String::new(rt.alloc());
+    print_actions(actions.as_slice(), &mut text)?;
+    let printed = "set_field:0x50/0xf0->reg0,output:in_port[0..15],resubmit(,1),goto_table:254";
+    assert_eq!(rt; text.as_str(), printed);
     Ok(())
 }
 

@@ -131,7 +131,8 @@ fn is_action_left_out(name: &[u8]) -> bool
     is_one_of(&ACTIONS_LEFT_OUT, name) || is_one_of(&ACTIONS_LEFT_OUT_IN_UPPER_CASE, name)
 }
 
-fn begins_with_digit(text: &[u8]) -> bool
+/// Whether a text begins with a digit.
+pub fn begins_with_digit(text: &[u8]) -> bool
     ensures { result ≡ names.begins_with_digit text.now }
 {
     text.first().is_some_and(|c| c.is_ascii_digit())

@@ -6,28 +6,15 @@ ghost use Rattle.spec_flow_text.specs.Names.{type_stated, protocol_stated};
 ghost use Rattle.spec_flow_text.specs.Values as values;
 ghost use Rattle.field_text.specs.Views.{bits_view, Fits, FitsWidth, IsWithin};
 
+use crate::protocols::{
+    ARP_TYPE, ICMP_PROTOCOL, ICMP6_PROTOCOL, IPV4_TYPE, IPV6_TYPE, TCP_PROTOCOL, UDP_PROTOCOL,
+};
 use crate::values::{Bits, low_bits, read_value};
 use named_fields::named;
 use ovs_fields::FieldId;
 use spec_actions::NamedField;
 use spec_flow_text::{MatchPrerequisite, Part, Shorthand, TagPart};
 use text_numbers::read_number;
-
-// Ethernet types (IEEE 802 Numbers of IANA).
-const IPV4_TYPE: u128 = 0x0800;
-
-const ARP_TYPE: u128 = 0x0806;
-
-const IPV6_TYPE: u128 = 0x86dd;
-
-// Protocols of IP (Protocol Numbers of IANA).
-const ICMP_PROTOCOL: u128 = 1;
-
-const TCP_PROTOCOL: u128 = 6;
-
-const UDP_PROTOCOL: u128 = 17;
-
-const ICMP6_PROTOCOL: u128 = 58;
 
 // The bit of a vlan_tci that says that there is a tag.
 const TAG_BIT: u128 = named_fields::TAG_BIT as u128;

@@ -10,25 +10,12 @@ ghost use Rattle.field_text.specs.Views.{IsWithin};
 
 use crate::merging::with_part_bits;
 use crate::stating::place_of;
-use field_text::{MatchPrerequisite, Part};
+use field_text::{
+    ARP_TYPE, ICMP_PROTOCOL, ICMP6_PROTOCOL, IPV4_TYPE, IPV6_TYPE, MatchPrerequisite, Part,
+    TCP_PROTOCOL, UDP_PROTOCOL,
+};
 use ovs_fields::FieldId;
 use rule_tables::Match;
-
-// Ethernet types (IEEE 802 Numbers of IANA).
-const IPV4_TYPE: u128 = 0x0800;
-
-const ARP_TYPE: u128 = 0x0806;
-
-const IPV6_TYPE: u128 = 0x86dd;
-
-// Protocols of IP (Protocol Numbers of IANA).
-const ICMP_PROTOCOL: u128 = 1;
-
-const TCP_PROTOCOL: u128 = 6;
-
-const UDP_PROTOCOL: u128 = 17;
-
-const ICMP6_PROTOCOL: u128 = 58;
 
 fn is(number: u128, stated: Option<u128>) -> bool
     ensures { result ≡ values.is number stated }
@@ -37,36 +24,38 @@ fn is(number: u128, stated: Option<u128>) -> bool
 }
 
 // Whether the Ethernet type that a flow states, if it does, is one that is needed.
-fn type_meets(needs: MatchPrerequisite, t: Option<u128>) -> bool
-    ensures { result ≡ values.type_meets needs t }
+fn type_meets(needs: MatchPrerequisite, ethernet_type: Option<u128>) -> bool
+    ensures { result ≡ values.type_meets needs ethernet_type }
 {
     match needs {
         MatchPrerequisite::Nothing => true,
-        MatchPrerequisite::Ipv6 | MatchPrerequisite::Icmp6 => is(IPV6_TYPE, t),
-        MatchPrerequisite::Arp => is(ARP_TYPE, t),
-        MatchPrerequisite::Ipv4OrArp => is(IPV4_TYPE, t) | is(ARP_TYPE, t),
-        MatchPrerequisite::IpOrArp => is(IPV4_TYPE, t) | is(IPV6_TYPE, t) | is(ARP_TYPE, t),
+        MatchPrerequisite::Ipv6 | MatchPrerequisite::Icmp6 => is(IPV6_TYPE, ethernet_type),
+        MatchPrerequisite::Arp => is(ARP_TYPE, ethernet_type),
+        MatchPrerequisite::Ipv4OrArp => is(IPV4_TYPE, ethernet_type) | is(ARP_TYPE, ethernet_type),
+        MatchPrerequisite::IpOrArp => is(IPV4_TYPE, ethernet_type)
+            | is(IPV6_TYPE, ethernet_type)
+            | is(ARP_TYPE, ethernet_type),
         MatchPrerequisite::Ip
         | MatchPrerequisite::Tcp
         | MatchPrerequisite::Udp
         | MatchPrerequisite::TcpOrUdp
-        | MatchPrerequisite::AnyIcmp => is(IPV4_TYPE, t) | is(IPV6_TYPE, t),
+        | MatchPrerequisite::AnyIcmp => is(IPV4_TYPE, ethernet_type) | is(IPV6_TYPE, ethernet_type),
     }
 }
 
 // Whether that type and the protocol that it states are.
-fn is_met(needs: MatchPrerequisite, t: Option<u128>, p: Option<u128>) -> bool
-    ensures { result ≡ values.is_met needs t p }
+fn is_met(needs: MatchPrerequisite, ethernet_type: Option<u128>, protocol: Option<u128>) -> bool
+    ensures { result ≡ values.is_met needs ethernet_type protocol }
 {
     match needs {
-        MatchPrerequisite::Tcp => type_meets(needs, t) & is(TCP_PROTOCOL, p),
-        MatchPrerequisite::Udp => type_meets(needs, t) & is(UDP_PROTOCOL, p),
-        MatchPrerequisite::TcpOrUdp => type_meets(needs, t)
-            & (is(TCP_PROTOCOL, p) | is(UDP_PROTOCOL, p)),
-        MatchPrerequisite::AnyIcmp => is(IPV4_TYPE, t) & is(ICMP_PROTOCOL, p)
-            | is(IPV6_TYPE, t) & is(ICMP6_PROTOCOL, p),
-        MatchPrerequisite::Icmp6 => is(IPV6_TYPE, t) & is(ICMP6_PROTOCOL, p),
-        _ => type_meets(needs, t),
+        MatchPrerequisite::Tcp => type_meets(needs, ethernet_type) & is(TCP_PROTOCOL, protocol),
+        MatchPrerequisite::Udp => type_meets(needs, ethernet_type) & is(UDP_PROTOCOL, protocol),
+        MatchPrerequisite::TcpOrUdp => type_meets(needs, ethernet_type)
+            & (is(TCP_PROTOCOL, protocol) | is(UDP_PROTOCOL, protocol)),
+        MatchPrerequisite::AnyIcmp => is(IPV4_TYPE, ethernet_type) & is(ICMP_PROTOCOL, protocol)
+            | is(IPV6_TYPE, ethernet_type) & is(ICMP6_PROTOCOL, protocol),
+        MatchPrerequisite::Icmp6 => is(IPV6_TYPE, ethernet_type) & is(ICMP6_PROTOCOL, protocol),
+        _ => type_meets(needs, ethernet_type),
     }
 }
 
@@ -86,24 +75,24 @@ fn stated_type(parts: &[Part]) -> Option<u128>
 }
 
 // The protocol that is stated by a part whose need of an Ethernet type is met.
-fn kept_protocol(parts: &[Part], t: Option<u128>) -> Option<u128>
-    ensures { result ≡ matches.number_of FieldId.NwProto (filter (λ (p : StatedPart). values.type_meets p.needs t) parts.now) }
+fn kept_protocol(parts: &[Part], ethernet_type: Option<u128>) -> Option<u128>
+    ensures { result ≡ matches.number_of FieldId.NwProto (filter (λ (p : StatedPart). values.type_meets p.needs ethernet_type) parts.now) }
 {
     parts
         .iter()
-        .filter(|part| type_meets(part.needs, t))
+        .filter(|part| type_meets(part.needs, ethernet_type))
         .find(|part| is_of(FieldId::NwProto, part))
         .map(|part| part.value)
 }
 
 // The match that states the parts whose needs are met by a type and a protocol.
-fn match_of_met(parts: &[Part], t: Option<u128>, p: Option<u128>) -> Match
+fn match_of_met(parts: &[Part], ethernet_type: Option<u128>, protocol: Option<u128>) -> Match
     requires { All IsWithin parts.now }
-    ensures { match_view result ≡ matches.match_of (filter (λ (part : StatedPart). values.is_met part.needs t p) parts.now) }
+    ensures { match_view result ≡ matches.match_of (filter (λ (part : StatedPart). values.is_met part.needs ethernet_type protocol) parts.now) }
 {
     let mut matching = Match::any();
     'parts: for part in parts {
-        if !is_met(part.needs, t, p) {
+        if !is_met(part.needs, ethernet_type, protocol) {
             continue;
         }
         matching = with_part_bits(&matching, part);
@@ -117,7 +106,7 @@ pub fn kept_match(parts: &[Part]) -> Match
     requires { All IsWithin parts.now }
     ensures { match_view result ≡ matches.match_of (matches.kept parts.now) }
 {
-    let t = stated_type(parts);
-    let p = kept_protocol(parts, t);
-    match_of_met(parts, t, p)
+    let ethernet_type = stated_type(parts);
+    let protocol = kept_protocol(parts, ethernet_type);
+    match_of_met(parts, ethernet_type, protocol)
 }

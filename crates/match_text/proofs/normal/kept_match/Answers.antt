@@ -11,4 +11,4 @@ unfolding kept
 keeps parts t p is_type is_protocol = rw (is_protocol, is_type) refl
 
 pub returns : goal.returns
-returns c = c.match_of_met.ensures ∙ keeps c.args.parts.now c.stated_type-t.result c.kept_protocol-p.result c.stated_type-t.ensures c.kept_protocol-p.ensures
+returns c = c.match_of_met.ensures ∙ keeps c.args.parts.now c.stated_type-ethernet_type.result c.kept_protocol-protocol.result c.stated_type-ethernet_type.ensures c.kept_protocol-protocol.ensures

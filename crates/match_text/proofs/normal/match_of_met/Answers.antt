@@ -16,13 +16,13 @@ blank = record { field = InPort; value = 0; mask = 0; needs = Nothing; tag = Nei
 
 pub parts-init : goal.parts-init
 parts-init c = record {
-  key = ap (λ (m : tables.Match). fold with_key_bits m.key (filter (λ (q : Part). is_met q.needs c.args.t c.args.p) c.args.parts.now)) c.any-matching.ensures;
-  mask = ap (λ (m : tables.Match). fold with_mask_bits m.mask (filter (λ (q : Part). is_met q.needs c.args.t c.args.p) c.args.parts.now)) c.any-matching.ensures;
+  key = ap (λ (m : tables.Match). fold with_key_bits m.key (filter (λ (q : Part). is_met q.needs c.args.ethernet_type c.args.protocol) c.args.parts.now)) c.any-matching.ensures;
+  mask = ap (λ (m : tables.Match). fold with_mask_bits m.mask (filter (λ (q : Part). is_met q.needs c.args.ethernet_type c.args.protocol) c.args.parts.now)) c.any-matching.ensures;
 }
 
 pub parts-preserved-then-not-is_met : goal.parts-preserved-then-not-is_met
 parts-preserved-then-not-is_met c =
-    let q : Part → Bool = λ (part : Part). is_met part.needs c.args.t c.args.p in
+    let q : Part → Bool = λ (part : Part). is_met part.needs c.args.ethernet_type c.args.protocol in
     let unmet : q (get_or c.args.parts.now c.parts.part-index blank) ≡ false = sym c.is_met.ensures ∙ c.if-not-is_met.true in
     record {
       key = sym (passes_over with_key_bits q (numbers c.parts.matching.key) c.args.parts.now c.parts.part-index blank c.parts-test.true unmet) ∙ c.parts.invariant.key;
@@ -31,7 +31,7 @@ parts-preserved-then-not-is_met c =
 
 pub parts-preserved : goal.parts-preserved
 parts-preserved c =
-    let q : Part → Bool = λ (part : Part). is_met part.needs c.args.t c.args.p in
+    let q : Part → Bool = λ (part : Part). is_met part.needs c.args.ethernet_type c.args.protocol in
     let part : Part = get_or c.args.parts.now c.parts.part-index blank in
     let rest : List Part = filter q (drop (c.parts.part-index + 1) c.args.parts.now) in
     let met : q part ≡ true = sym c.is_met.ensures ∙ c.if-not-is_met.false in
@@ -45,7 +45,7 @@ parts-preserved c =
 pub returns : goal.returns
 unfolding match_of
 returns c =
-    let q : Part → Bool = λ (part : Part). is_met part.needs c.args.t c.args.p in
+    let q : Part → Bool = λ (part : Part). is_met part.needs c.args.ethernet_type c.args.protocol in
     let made : List ℕ → List ℕ → tables.Match = λ k m. record { key = k; mask = m } in
     ap₂ made
     (sym (folded with_key_bits q (numbers c.parts.matching.key) c.args.parts.now c.parts.part-index c.parts-test.false) ∙ c.parts.invariant.key)

@@ -1,0 +1,101 @@
+ghost use Rattle.std.specs.Prelude.{◌≡◌, ◌++◌, false, IfOk, IfSome, OnOk, OnErr, string_bytes};
+ghost use Rattle.std.specs.List.{flat_map};
+ghost use Rattle.spec_flow_text.specs.Printed as printed;
+ghost use Rattle.rule_tables.specs.Views.{match_view};
+ghost use Rattle.text_numbers.specs.Prefix.{IsPrefix};
+ghost use Rattle.match_text.specs.Shown.{shown_view, IsFit, item_of, lead, items_text, begun_after};
+
+use crate::showing::{shorthand_of, shown_field};
+use crate::shown::Shown;
+use field_text::{Shorthand, name_of, print_value, word_of};
+use ovs_fields::{FieldId, all_fields};
+use rule_tables::Match;
+use std::alloc::AllocError;
+
+fn print_lead(out: &mut String, begun: bool) -> Result<(), AllocError>
+    ensures text { OnOk result (string_bytes out.new ≡ string_bytes out.old ++ lead begun) }
+    ensures kept { OnErr result (IsPrefix (string_bytes out.old) (string_bytes out.new)) }
+{
+    if begun {
+        return out.push(',');
+    }
+    Ok(())
+}
+
+fn print_shown(out: &mut String, item: Shown) -> Result<(), AllocError>
+    requires { IsFit item }
+    ensures text { OnOk result (string_bytes out.new ≡ string_bytes out.old ++ printed.shown_text (shown_view item)) }
+    ensures kept { OnErr result (IsPrefix (string_bytes out.old) (string_bytes out.new)) }
+{
+    match item {
+        Shown::Short(shorthand) => out.push_str(word_of(shorthand)),
+        Shown::Value(field, bits) => {
+            out.push_str(name_of(field))?;
+            out.push('=')?;
+            print_value(out, field, bits)
+        }
+    }
+}
+
+// An item that may be missing, behind a comma where others stand before it. What is answered is whether one does now.
+#[tactic(auto, unfolding(crate::specs::Shown::items_text))]
+fn print_item(out: &mut String, begun: bool, item: Option<Shown>) -> Result<bool, AllocError>
+    requires { IfSome item (λ x. IsFit x) }
+    ensures text { OnOk result (string_bytes out.new ≡ string_bytes out.old ++ items_text begun (item_of item)) }
+    ensures begun { IfOk result (λ after. after ≡ begun_after begun (item_of item)) }
+    ensures kept { OnErr result (IsPrefix (string_bytes out.old) (string_bytes out.new)) }
+{
+    match item {
+        None => Ok(begun),
+        Some(item) => {
+            print_lead(out, begun)?;
+            print_shown(out, item)?;
+            Ok(true)
+        }
+    }
+}
+
+// The items of a field.
+fn print_field(
+    m: &Match,
+    shorthand: Option<Shorthand>,
+    field: FieldId,
+    begun: bool,
+    out: &mut String,
+) -> Result<bool, AllocError>
+    ensures text { OnOk result (string_bytes out.new ≡ string_bytes out.old ++ items_text begun (printed.shown_field (match_view m.now) shorthand field)) }
+    ensures begun { IfOk result (λ after. after ≡ begun_after begun (printed.shown_field (match_view m.now) shorthand field)) }
+    ensures kept { OnErr result (IsPrefix (string_bytes out.old) (string_bytes out.new)) }
+{
+    let (first, second) = shown_field(m, shorthand, field);
+    let begun = print_item(out, begun, first)?;
+    print_item(out, begun, second)
+}
+
+// The items of fields, in their order.
+fn print_fields(
+    m: &Match,
+    shorthand: Option<Shorthand>,
+    fields: &[FieldId],
+    out: &mut String,
+) -> Result<(), AllocError>
+    ensures text { OnOk result (string_bytes out.new ≡ string_bytes out.old ++ items_text false (flat_map (printed.shown_field (match_view m.now) shorthand) fields.now)) }
+    ensures kept { OnErr result (IsPrefix (string_bytes out.old) (string_bytes out.new)) }
+{
+    let mut begun = false;
+    'fields: for field in fields {
+        begun = print_field(m, shorthand, *field, begun, out)?;
+    }
+    Ok(())
+}
+
+/// Adds the text of a match: its items in the order of the fields, with commas between them.
+///
+/// After a refusal for want of memory the text begins with what it was.
+#[tactic(auto, unfolding(spec_flow_text::specs::Printed::shown, spec_flow_text::specs::Printed::match_printed))]
+pub fn print_match(m: &Match, out: &mut String) -> Result<(), AllocError>
+    ensures text { OnOk result (string_bytes out.new ≡ string_bytes out.old ++ printed.match_printed (match_view m.now)) }
+    ensures kept { OnErr result (IsPrefix (string_bytes out.old) (string_bytes out.new)) }
+{
+    print_fields(m, shorthand_of(m), all_fields(), out)
+}
