@@ -1,4 +1,2 @@
-pub mod ActionTexts
 pub mod LineTexts
-pub mod Matches
-pub mod Built
+pub mod WellFormed

@@ -1,2 +1,4 @@
+pub mod LineFaults
 pub mod Plain
 pub mod ScriptViews
+pub mod WellFormed

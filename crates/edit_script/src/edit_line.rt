@@ -1,80 +1,82 @@
-ghost use Rattle.std.specs.Prelude.{◌≡◌, ◌∷◌, Some, None, IfOk, IsErrOf};
-ghost use Rattle.std.specs.Option.{option_map};
-ghost use Rattle.spec_flow_text.specs.FlowText.{nothing_stated, actions_of, added, flow_of, pieces_of, edit_of};
-ghost use Rattle.edit_script.specs.ScriptViews.{texts_of, stated_view};
+ghost use Rattle.std.specs.Prelude.{◌≡◌, ◌≤◌, length, IfOk, IfSome, IsTrue};
+ghost use Rattle.spec_actions.specs.Sound.{AreSound};
+ghost use Rattle.spec_flow_text.specs.Given.{Gives};
+ghost use Rattle.spec_flow_text.specs.Names as names;
+ghost use Rattle.spec_flow_text.specs.Lines.{edit_words, edit, actions_from, edit_from, edit_in};
+ghost use Rattle.match_text.specs.Views.{match_text_view};
+ghost use Rattle.edit_script.specs.Plain.{has_sound_actions};
 
-use crate::actions::read_actions;
-use crate::fault::ScriptFault;
-use crate::items::read_item;
-use crate::line_words::after_or_whole;
-use crate::matching::match_of;
-use crate::stated::Stated;
-use rule_tables::{Actions, Edit, EditWord, OfAction};
-use std::alloc::{AllocError, Global};
-use text_numbers::after_start;
+use crate::line_words::first_word;
+use action_text::read_actions;
+use field_text::{TextFault, meaning_of, uncommented};
+use match_text::{MatchText, read_match};
+use rule_tables::{Actions, Edit, EditWord};
+use std::alloc::Global;
 
-// The priority of an edit that states none (ovs-ofctl(8)).
-const DEFAULT_PRIORITY: u16 = 32_768;
+const EDIT_WORDS: [(&str, EditWord); 5] = [
+    ("add", EditWord::Add),
+    ("modify", EditWord::Modify),
+    ("modify_strict", EditWord::ModifyStrict),
+    ("delete", EditWord::Delete),
+    ("delete_strict", EditWord::DeleteStrict),
+];
 
-// The edit that adds a rule of what is stated.
-fn added(stated: Stated, actions: Vec<OfAction>) -> Edit
-    ensures { result ≡ added (stated_view stated) actions.items }
+// The edit that a text names.
+fn edit_word(text: &[u8]) -> Option<EditWord>
+    ensures { result ≡ names.meaning_of edit_words text.now }
+{
+    meaning_of(&EDIT_WORDS, text)
+}
+
+fn edit(word: EditWord, flow: MatchText, actions: Actions) -> Edit
+    ensures { result ≡ edit word (match_text_view flow) actions }
 {
     Edit {
-        word: EditWord::Add,
-        table: None,
-        priority: stated.priority.unwrap_or(DEFAULT_PRIORITY),
-        cookie: None,
-        matching: match_of(stated),
-        actions: Actions::new(actions),
+        word,
+        table: flow.table,
+        priority: flow.priority,
+        cookie: flow.cookie,
+        matching: flow.matching,
+        actions,
     }
 }
 
-// The edit of what is stated, and of the texts of its actions.
-fn edit_with(
-    alloc: Global,
-    stated: Stated,
-    first: &[u8],
-    others: &[&[u8]],
-) -> Result<Edit, ScriptFault>
-    ensures ok { IfOk result (λ e. option_map (added (stated_view stated)) (actions_of (first.now ∷ texts_of others.now)) ≡ Some e) }
-    ensures not_built { IsErrOf result ScriptFault.NotBuilt → option_map (added (stated_view stated)) (actions_of (first.now ∷ texts_of others.now)) ≡ None }
+// The actions of a flow, where it has a list of them.
+fn actions_from(alloc: Global, line: &[u8], rest: Option<usize>) -> Result<Actions, TextFault>
+    requires within { IfSome rest (λ at. at ≤ length line.now) }
+    requires short { length line.now ≤ 4_294_967_294 }
+    ensures value { Gives (λ actions. actions) result (actions_from rest line.now) }
+    ensures sound { IfOk result (λ actions. AreSound actions) }
 {
-    let actions = read_actions(alloc, first, others)?;
-    Ok(added(stated, actions))
-}
-
-fn read_pieces(alloc: Global, pieces: &[&[u8]]) -> Result<Edit, ScriptFault>
-    ensures ok { IfOk result (λ e. flow_of nothing_stated (texts_of pieces.now) ≡ Some e) }
-    ensures not_built { IsErrOf result ScriptFault.NotBuilt → flow_of nothing_stated (texts_of pieces.now) ≡ None }
-{
-    let mut stated = Stated::nothing();
-    'items: for (i, piece) in pieces.iter().enumerate() {
-        if let Some(first) = after_start(b"actions=", piece) {
-            let (_, others) = pieces.split_at(i + 1);
-            return edit_with(alloc, stated, first, others);
-        }
-        match read_item(stated, piece) {
-            None => return Err(ScriptFault::NotBuilt),
-            Some(more) => stated = more,
-        }
+    match rest {
+        None => Ok(Actions::new(Vec::new(alloc))),
+        Some(at) => read_actions(alloc, line, at),
     }
-    Err(ScriptFault::NotBuilt)
 }
 
-fn split_at_commas(alloc: Global, text: &[u8]) -> Result<Vec<&[u8]>, AllocError>
-    ensures { IfOk result (λ v. texts_of v.items ≡ pieces_of text.now) }
+// The edit of a word, whose flow stands in a line from a place on.
+#[tactic(auto, unfolding(spec_flow_text::specs::Lines::edit_from))]
+fn edit_from(alloc: Global, line: &[u8], at: usize, word: EditWord) -> Result<Edit, TextFault>
+    requires within { at ≤ length line.now }
+    requires short { length line.now ≤ 4_294_967_294 }
+    ensures value { Gives (λ e. e) result (edit_from word at line.now) }
+    ensures sound { IfOk result (λ e. IsTrue (has_sound_actions e)) }
 {
-    text.split(|c| *c == b',').collect(alloc)
+    let flow = read_match(alloc, line, at, word)?;
+    let actions = actions_from(alloc, line, flow.rest)?;
+    Ok(edit(word, flow, actions))
 }
 
-/// The edit of a line, which may begin with `add` and one space (ovs-ofctl(8), `add-flow`).
-#[tactic(auto, unfolding(spec_flow_text::specs::FlowText::edit_of))]
-pub fn read_edit(alloc: Global, line: &[u8]) -> Result<Edit, ScriptFault>
-    ensures ok { IfOk result (λ e. edit_of line.now ≡ Some e) }
-    ensures not_built { IsErrOf result ScriptFault.NotBuilt → edit_of line.now ≡ None }
+/// The edit of a line, which adds where it begins with no word of an edit (ovs-ofctl(8)).
+#[tactic(auto, unfolding(spec_flow_text::specs::Lines::edit_in))]
+pub fn read_edit(alloc: Global, line: &[u8]) -> Result<Edit, TextFault>
+    requires { length line.now ≤ 4_294_967_294 }
+    ensures value { Gives (λ e. e) result (edit_in line.now) }
+    ensures sound { IfOk result (λ e. IsTrue (has_sound_actions e)) }
 {
-    let flow = after_or_whole(b"add ", line);
-    let pieces = split_at_commas(alloc, flow)?;
-    read_pieces(alloc, &pieces)
+    let first = first_word(uncommented(line));
+    match edit_word(first.text) {
+        None => edit_from(alloc, line, 0, EditWord::Add),
+        Some(word) => edit_from(alloc, line, first.at + first.text.len(), word),
+    }
 }

@@ -31,18 +31,14 @@
 //! edits do to the tables.
 #![tactic(auto)]
 
-mod actions;
 mod edit_line;
-mod fault;
-mod items;
 mod line_words;
-mod matching;
 mod script;
-mod stated;
 mod sync_line;
 #[cfg(test)]
 mod tests;
+mod told;
 
-pub use fault::ScriptFault;
 pub use rule_tables::{Edit, SyncPoint};
 pub use script::{MOST_BYTES, MOST_EDITS, Script, read_script};
+pub use spec_script::ScriptFault;

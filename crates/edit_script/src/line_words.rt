@@ -1,81 +1,61 @@
-ghost use Rattle.std.specs.Prelude.{◌≡◌, not, position, unwrap_or};
-ghost use Rattle.std.specs.List.{list_all};
-ghost use Rattle.spec_numbers.specs.Numbers.{strip_prefix};
-ghost use Rattle.spec_numbers.specs.Numbers.{is_text};
-ghost use Rattle.spec_script.specs.Script.{is_white, unindented, first_word};
+ghost use Rattle.std.specs.Prelude.{◌≡◌, ◌≤◌, ◌+◌, ◌∷◌, [], true, not, length, IfSome, IfNone};
+ghost use Rattle.std.specs.List.{prefix_len};
+ghost use Rattle.spec_flow_text.specs.Items.{is_white, words};
+ghost use Rattle.spec_flow_text.specs.Lines.{first_word};
+ghost use Rattle.spec_script.specs.Script.{is_blank, is_sync};
+ghost use Rattle.field_text.specs.WordViews.{word_view};
 
-use text_numbers::after_start;
+use field_text::{Word, is_white, uncommented};
 
-/// A text without its start, or whole where it doesn't begin so.
-pub fn after_or_whole<'a>(start: &[u8], text: &'a [u8]) -> &'a [u8]
-    ensures { result.now ≡ unwrap_or (strip_prefix start.now text.now) text.now }
+// How many bytes of white space a text begins with.
+fn indent(text: &[u8]) -> usize
+    ensures value { result ≡ prefix_len is_white text.now }
+    ensures within { result ≤ length text.now }
 {
-    match after_start(start, text) {
-        Some(rest) => rest,
-        None => text,
+    text.iter().take_while(|byte| is_white(**byte)).count()
+}
+
+fn word_length(text: &[u8]) -> usize
+    ensures value { result ≡ prefix_len (λ byte. not (is_white byte)) text.now }
+    ensures within { result ≤ length text.now }
+{
+    text.iter().take_while(|byte| !is_white(**byte)).count()
+}
+
+/// The first word of a text, with its place there; an empty one where there is none.
+pub fn first_word(text: &[u8]) -> Word<'_>
+    requires { length text.now ≤ 4_294_967_294 }
+    ensures word { word_view result ≡ first_word text.now }
+    ensures within { result.at + length result.text.now ≤ length text.now }
+{
+    let begun = Word { at: 0, text }.skipping(indent(text));
+    begun.first(word_length(begun.text))
+}
+
+/// The first word of a stretch of a line, which white space ends, and the stretch behind it.
+pub fn next_word(stretch: Word<'_>) -> Option<(Word<'_>, Word<'_>)>
+    ensures some { IfSome result (λ p. words is_white true stretch.entry.at stretch.entry.text.now ≡ word_view p.0 ∷ words is_white true p.1.at p.1.text.now) }
+    ensures none { IfNone result (words is_white true stretch.entry.at stretch.entry.text.now ≡ []) }
+{
+    let begun = stretch.skipping(indent(stretch.text));
+    if begun.text.is_empty() {
+        return None;
     }
+    let length = word_length(begun.text);
+    Some((begun.first(length), begun.skipping(length)))
 }
 
-/// Whether a text is this word and no more.
-pub fn is_text(word: &[u8], text: &[u8]) -> bool
-    ensures { result ≡ is_text word.now text.now }
+/// Whether a line has nothing but white space before its comment.
+pub fn is_blank(line: &[u8]) -> bool
+    ensures { result ≡ is_blank line.now }
 {
-    match after_start(word, text) {
-        Some(rest) => rest.is_empty(),
-        None => false,
-    }
+    uncommented(line).iter().all(|byte| is_white(*byte))
 }
 
-// Whether a character is a space, a tab or a carriage return.
-fn is_white(c: u8) -> bool
-    ensures { result ≡ is_white c }
+/// Whether a line's first word is `sync`.
+pub fn is_sync(line: &[u8]) -> bool
+    requires { length line.now ≤ 4_294_967_294 }
+    ensures { result ≡ is_sync line.now }
 {
-    (c == b' ') | ((c == b'\t') | (c == b'\r'))
-}
-
-/// Whether a text has nothing but white space.
-pub fn is_blank(text: &[u8]) -> bool
-    ensures { result ≡ list_all is_white text.now }
-{
-    text.iter().all(|c| is_white(*c))
-}
-
-fn white_place(text: &[u8]) -> Option<usize>
-    ensures { result ≡ position is_white text.now }
-{
-    text.iter().position(|c| is_white(*c))
-}
-
-fn word_place(text: &[u8]) -> Option<usize>
-    ensures { result ≡ position (λ c. not (is_white c)) text.now }
-{
-    text.iter().position(|c| !is_white(*c))
-}
-
-fn unindented(text: &[u8]) -> &[u8]
-    ensures { result.now ≡ unindented text.now }
-{
-    match word_place(text) {
-        None => &[],
-        Some(i) => {
-            let (_, rest) = text.split_at(i);
-            rest
-        }
-    }
-}
-
-/// The first word of a text, and what stands after the character that ends it. Both are empty where there is no word.
-pub fn first_word(text: &[u8]) -> (&[u8], &[u8])
-    ensures word { result.0.now ≡ (first_word text.now).0 }
-    ensures rest { result.1.now ≡ (first_word text.now).1 }
-{
-    let text = unindented(text);
-    match white_place(text) {
-        None => (text, &[]),
-        Some(i) => {
-            let (word, _) = text.split_at(i);
-            let (_, rest) = text.split_at(i + 1);
-            (word, rest)
-        }
-    }
+    "sync".as_bytes() == first_word(uncommented(line)).text
 }

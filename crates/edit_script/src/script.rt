@@ -1,16 +1,19 @@
-ghost use Rattle.std.specs.Prelude.{◌≡◌, ◌≤◌, length, Some, None, IsTrue, OnOk, IfOk, IsErrOf};
+ghost use Rattle.std.specs.Prelude.{◌≡◌, ◌≤◌, length, IsTrue, IfOk};
 ghost use Rattle.std.specs.List.{list_all};
 ghost use Rattle.spec_case.specs.Blocks.{AreInOrder};
-ghost use Rattle.spec_script.specs.Script.{most_edits, most_syncs, nothing_said, last_time, with_edit, with_sync, is_sync, with_line, with_lines, lines_of, script_of};
-ghost use Rattle.spec_tables.specs.Outputs.{has_outputs_only};
-ghost use Rattle.edit_script.specs.Plain.{adds_plainly, has_few_actions};
+ghost use Rattle.spec_flow_text.specs.Lines.{edit_in};
+ghost use Rattle.spec_script.specs.Given.{Gives};
+ghost use Rattle.spec_script.specs.Script.{most_line_bytes, most_edits, most_syncs, in_line, last_time, sync_time, with_edit, with_sync, with_line, script_of};
+ghost use Rattle.edit_script.specs.Plain.{has_sound_actions};
 ghost use Rattle.edit_script.specs.ScriptViews.{script_view};
+ghost use Rattle.edit_script.specs.WellFormed.{IsWellFormed};
 
 use crate::edit_line::read_edit;
-use crate::fault::ScriptFault;
-use crate::line_words::{first_word, is_blank, is_text};
+use crate::line_words::{is_blank, is_sync};
 use crate::sync_line::read_sync_time;
+use crate::told::in_line;
 use rule_tables::{Edit, SyncPoint};
+use spec_script::ScriptFault;
 use std::alloc::Global;
 use text_numbers::cut_at;
 
@@ -34,17 +37,40 @@ pub struct Script {
     pub syncs: Vec<SyncPoint>,
 }
 
+fn edit_in_line(alloc: Global, number: u32, line: &[u8]) -> Result<Edit, ScriptFault>
+    requires { length line.now ≤ most_line_bytes }
+    ensures value { Gives (λ e. e) result (in_line number (edit_in line.now)) }
+    ensures sound { IfOk result (λ e. IsTrue (has_sound_actions e)) }
+{
+    in_line(number, read_edit(alloc, line))
+}
+
+fn time_in_line(number: u32, line: &[u8]) -> Result<u64, ScriptFault>
+    requires { length line.now ≤ most_line_bytes }
+    ensures { Gives (λ time. time) result (in_line number (sync_time line.now)) }
+{
+    in_line(number, read_sync_time(line))
+}
+
+// The script with the edit of one more line.
 #[tactic(auto, unfolding(spec_script::specs::Script::with_edit))]
-fn add_edit(script: &mut Script, edit: Edit) -> Result<(), ScriptFault>
-    ensures ok { OnOk result (with_edit (script_view script.old) edit ≡ Some (script_view script.new)) }
-    ensures not_built { IsErrOf result ScriptFault.NotBuilt → with_edit (script_view script.old) edit ≡ None }
-    ensures count { OnOk result (length script.new.edits.items ≤ most_edits) }
+fn with_edit(
+    alloc: Global,
+    number: u32,
+    line: &[u8],
+    mut script: Script,
+) -> Result<Script, ScriptFault>
+    requires short { length line.now ≤ most_line_bytes }
+    requires formed { IsWellFormed (script_view script) }
+    ensures value { Gives script_view result (with_edit number line.now (script_view script)) }
+    ensures formed { IfOk result (λ s. IsWellFormed (script_view s)) }
 {
     if script.edits.len() >= MOST_EDITS {
-        return Err(ScriptFault::NotBuilt);
+        return Err(ScriptFault::TooManyEdits);
     }
+    let edit = edit_in_line(alloc, number, line)?;
     script.edits.push(edit)?;
-    Ok(())
+    Ok(script)
 }
 
 fn last_time(syncs: &[SyncPoint]) -> u64
@@ -56,81 +82,76 @@ fn last_time(syncs: &[SyncPoint]) -> u64
     }
 }
 
+// The script with the sync point of one more line.
 #[tactic(auto, unfolding(spec_script::specs::Script::with_sync))]
-fn add_sync(script: &mut Script, time: u64) -> Result<(), ScriptFault>
-    requires { length script.old.edits.items ≤ most_edits }
-    ensures ok { OnOk result (with_sync (script_view script.old) time ≡ Some (script_view script.new)) }
-    ensures not_built { IsErrOf result ScriptFault.NotBuilt → with_sync (script_view script.old) time ≡ None }
-    ensures edits { script.new.edits.items ≡ script.old.edits.items }
+fn with_sync(number: u32, line: &[u8], mut script: Script) -> Result<Script, ScriptFault>
+    requires short { length line.now ≤ most_line_bytes }
+    requires formed { IsWellFormed (script_view script) }
+    ensures value { Gives script_view result (with_sync number line.now (script_view script)) }
+    ensures formed { IfOk result (λ s. IsWellFormed (script_view s)) }
 {
-    if script.syncs.len() >= MOST_SYNCS || time < last_time(&script.syncs) {
-        return Err(ScriptFault::NotBuilt);
+    if script.syncs.len() >= MOST_SYNCS {
+        return Err(ScriptFault::TooManySyncs);
+    }
+    let time = time_in_line(number, line)?;
+    if time < last_time(&script.syncs) {
+        return Err(ScriptFault::SyncOrder { line: number });
     }
     let after = script.edits.len() as u32;
     script.syncs.push(SyncPoint { time, after })?;
-    Ok(())
+    Ok(script)
 }
 
+// The script with what one more line says.
 #[tactic(auto, unfolding(spec_script::specs::Script::with_line))]
-fn read_line(alloc: Global, script: &mut Script, line: &[u8]) -> Result<(), ScriptFault>
-    requires { length script.old.edits.items ≤ most_edits }
-    ensures ok { OnOk result (with_line (script_view script.old) line.now ≡ Some (script_view script.new)) }
-    ensures not_built { IsErrOf result ScriptFault.NotBuilt → with_line (script_view script.old) line.now ≡ None }
-    ensures count { OnOk result (length script.new.edits.items ≤ most_edits) }
+fn with_line(alloc: Global, number: u32, line: &[u8], script: Script) -> Result<Script, ScriptFault>
+    requires { IsWellFormed (script_view script) }
+    ensures value { Gives script_view result (with_line number line.now (script_view script)) }
+    ensures formed { IfOk result (λ s. IsWellFormed (script_view s)) }
 {
     if line.len() > MOST_LINE_BYTES {
-        return Err(ScriptFault::NotBuilt);
+        return Err(ScriptFault::LineTooLong);
     }
     if is_blank(line) {
-        return Ok(());
+        return Ok(script);
     }
-    let (word, rest) = first_word(line);
-    if is_text(b"sync", word) {
-        let Some(time) = read_sync_time(rest) else {
-            return Err(ScriptFault::NotBuilt);
-        };
-        return add_sync(script, time);
+    if is_sync(line) {
+        with_sync(number, line, script)
+    } else {
+        with_edit(alloc, number, line, script)
     }
-    let edit = read_edit(alloc, line)?;
-    add_edit(script, edit)
 }
 
+#[tactic(auto, unfolding(spec_script::specs::Script::script_of))]
 fn read_lines(alloc: Global, bytes: &[u8]) -> Result<Script, ScriptFault>
-    ensures ok { IfOk result (λ s. with_lines nothing_said (lines_of bytes.now) ≡ Some (script_view s)) }
-    ensures not_built { IsErrOf result ScriptFault.NotBuilt → with_lines nothing_said (lines_of bytes.now) ≡ None }
+    requires { length bytes.now ≤ 33_554_432 }
+    ensures value { Gives script_view result (script_of bytes.now) }
+    ensures formed { IfOk result (λ s. IsWellFormed (script_view s)) }
 {
     let mut script = Script {
         edits: Vec::new(alloc),
         syncs: Vec::new(alloc),
     };
+    let mut number: u32 = 1;
     let mut rest = bytes;
     'lines: while let Some((line, more)) = cut_at(rest, b'\n') {
-        read_line(alloc, &mut script, line)?;
+        script = with_line(alloc, number, line, script)?;
+        number += 1;
         rest = more;
     }
-    read_line(alloc, &mut script, rest)?;
-    Ok(script)
+    with_line(alloc, number, rest, script)
 }
 
-/// The script of a file's bytes.
+/// The script of the bytes of a file, of which there are at most `MOST_BYTES`.
 ///
-/// A file that is no script, has more than `MOST_BYTES` or a line of more than 4,096 bytes, is `NotBuilt`.
-#[tactic(auto, unfolding(spec_script::specs::Script::script_of))]
+/// A fault is the first of the file. Lines of it are counted from 1, and so are columns.
 pub fn read_script(alloc: Global, bytes: &[u8]) -> Result<Script, ScriptFault>
-    ensures ok { IfOk result (λ s. script_of bytes.now ≡ Some (script_view s)) }
-    ensures not_built { IsErrOf result ScriptFault.NotBuilt → script_of bytes.now ≡ None }
-
-    // The form that is built so far.
-    ensures adds { IfOk result (λ s. IsTrue (list_all adds_plainly s.edits.items)) }
-    ensures outputs_only { IfOk result (λ s. IsTrue (list_all has_outputs_only s.edits.items)) }
-    ensures few_actions { IfOk result (λ s. IsTrue (list_all has_few_actions s.edits.items)) }
-
+    requires { length bytes.now ≤ 33_554_432 }
+    ensures script { Gives script_view result (script_of bytes.now) }
+    ensures sound { IfOk result (λ s. IsTrue (list_all has_sound_actions s.edits.items)) }
     ensures edit_count { IfOk result (λ s. length s.edits.items ≤ most_edits) }
     ensures sync_count { IfOk result (λ s. length s.syncs.items ≤ most_syncs) }
     ensures in_order { IfOk result (λ s. AreInOrder s.syncs.items (length s.edits.items)) }
 {
-    if bytes.len() > MOST_BYTES {
-        return Err(ScriptFault::NotBuilt);
-    }
     read_lines(alloc, bytes)
 }

@@ -1,7 +1,12 @@
-ghost use Rattle.std.specs.Prelude.{◌≡◌, ◌-◌, ◌*◌, ◌^◌, ◌≤◌, IfSome};
-ghost use Rattle.spec_script.specs.Script.{most_seconds, seconds_of, fraction_of, seconds_with_fraction, time_of, sync_time};
+ghost use Rattle.std.specs.Prelude.{◌≡◌, ◌-◌, ◌*◌, ◌^◌, ◌≤◌, true, length, IfSome};
+ghost use Rattle.std.specs.Option.{ok_or};
+ghost use Rattle.spec_flow_text.specs.declared.fault.TextFault.TheVariants.{BadValue};
+ghost use Rattle.spec_flow_text.specs.Items.{column, is_white, words};
+ghost use Rattle.spec_script.specs.Script.{most_seconds, seconds_of, fraction_of, seconds_with_fraction, time_of, time_in_words, sync_time};
+ghost use Rattle.field_text.specs.WordViews.{word_view};
 
-use crate::line_words::{first_word, is_blank};
+use crate::line_words::next_word;
+use field_text::{TextFault, Word, text_from};
 use text_numbers::{cut_at, read_decimal, read_digits};
 
 // The decimal digits of a fraction of a second in nanoseconds.
@@ -62,16 +67,40 @@ fn read_time(word: &[u8]) -> Option<u64>
     }
 }
 
-/// The time of what stands after `sync`, in nanoseconds: one word, of seconds from 0 to 4,294,967,295 and perhaps a dot
+// The time that a word of a line spells.
+fn time_of_word(time: Word<'_>) -> Result<u64, TextFault>
+    ensures { result ≡ ok_or (time_of time.entry.text.now) (BadValue (column (word_view time.entry))) }
+{
+    match read_time(time.text) {
+        Some(nanoseconds) => Ok(nanoseconds),
+        None => Err(TextFault::BadValue { col: time.column() }),
+    }
+}
+
+// The time of a sync line without its comment: one word after `sync`.
+fn time_in_words(text: Word<'_>) -> Result<u64, TextFault>
+    ensures { result ≡ time_in_words (words is_white true text.entry.at text.entry.text.now) }
+{
+    let Some((sync, behind)) = next_word(text) else {
+        return Err(TextFault::Syntax { col: 1 });
+    };
+    let col = sync.column();
+    let Some((time, behind)) = next_word(behind) else {
+        return Err(TextFault::Syntax { col });
+    };
+    match next_word(behind) {
+        Some(_) => Err(TextFault::Syntax { col }),
+        None => time_of_word(time),
+    }
+}
+
+/// The time of a sync line, in nanoseconds: after `sync` one word, of seconds from 0 to 4,294,967,295 and perhaps a dot
 /// and one to nine digits.
 #[tactic(auto, unfolding(spec_script::specs::Script::sync_time))]
-pub fn read_sync_time(text: &[u8]) -> Option<u64>
-    ensures { result ≡ sync_time text.now }
+pub fn read_sync_time(line: &[u8]) -> Result<u64, TextFault>
+    requires { length line.now ≤ 4_294_967_294 }
+    ensures { result ≡ sync_time line.now }
 {
-    let (word, rest) = first_word(text);
-    if is_blank(rest) {
-        read_time(word)
-    } else {
-        None
-    }
+    let text = text_from(line, 0)?;
+    time_in_words(text)
 }

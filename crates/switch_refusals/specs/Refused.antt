@@ -3,13 +3,14 @@ use Rattle.std.specs.Prelude.{◌≡◌, ℕ, List, Result, Err}
 use Rattle.edge_io.specs.Counts.{Counts, ReadFailed}
 use Rattle.spec_run.specs.Verdict as verdicts
 use Rattle.switch_refusals.specs.declared.refusal.InputFault.{InputFault}
-use Rattle.switch_refusals.specs.declared.refusal.InputFault.TheVariants.{NotBuilt, Trace, Limit}
+use Rattle.switch_refusals.specs.declared.refusal.InputFault.TheVariants.{NotBuilt, Text, Trace, Limit}
 use Rattle.switch_refusals.specs.declared.refusal.InputRefusal.{InputRefusal}
 use Rattle.switch_refusals.specs.declared.refusal.InputRefusal.TheVariants.{Input, ReadFault, OutOfMemory}
 
 -- what the verdict says of such an input
 abbrev pub fault_view : InputFault → verdicts.Refusal
 fault_view (NotBuilt what) = verdicts.NotBuilt what.now
+fault_view (Text name fault) = verdicts.Text name.now fault
 fault_view (Trace name fault) = verdicts.Trace name.now fault
 fault_view (Limit q) = verdicts.Limit q
 

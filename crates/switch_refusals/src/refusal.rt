@@ -3,6 +3,7 @@ ghost use Rattle.switch_refusals.specs.declared.refusal.InputRefusal.TheVariants
 
 use spec_pcap::PcapFault;
 use spec_run::Quantity;
+use spec_script::ScriptFault;
 use std::alloc::{AllocError, AllocFailed};
 
 /// What is wrong with an input. Names are those of the words.
@@ -10,6 +11,8 @@ use std::alloc::{AllocError, AllocFailed};
 pub enum InputFault<'a> {
     /// It has a form that isn't built.
     NotBuilt { what: &'a str },
+    /// The file of edits has a line that is wrong.
+    Text { name: &'a str, fault: ScriptFault },
     /// A trace is no capture file that is read.
     Trace { name: &'a str, fault: PcapFault },
     /// A quantity is above its limit.

@@ -1,17 +1,19 @@
 //! The texts of refusals. They are printed piece by piece, so that none takes memory.
 ghost use Rattle.std.specs.Prelude.{◌≡◌, ◌++◌, IsTrue, codes};
 ghost use Rattle.std.specs.Fmt.{decimal};
-ghost use Rattle.spec_run.specs.Statuses.{Prints, trace_text, limit_text, text_of as refusal_text, write_fault_text, out_of_memory_text};
+ghost use Rattle.spec_run.specs.Statuses.{Prints, line_reason, column_of, place_text, script_text, trace_text, limit_text, text_of as refusal_text, write_fault_text, out_of_memory_text};
 ghost use Rattle.switch_refusals.specs.Refused.{fault_view};
 ghost use Rattle.switch_refusals.specs.Pieces.{joined};
 ghost use Rattle.switch_refusals.specs.Texts.{input_text};
 
-use crate::limits::{MOST_FRAMES, MOST_TRACE_BYTES};
+use crate::limits::{limit_of, quantity_name};
 use crate::refusal::{InputFault, InputRefusal};
 use edge_io::{Sink, say_all};
 use itoa::Buffer;
+use spec_flow_text::TextFault;
 use spec_pcap::PcapFault;
 use spec_run::Quantity;
+use spec_script::ScriptFault;
 
 // Prints texts, one after the other, up to the first at which the sink fails.
 fn say_pieces<K: Sink>(say: &mut K, pieces: &[&str])
@@ -75,9 +77,80 @@ fn say_limit<K: Sink>(say: &mut K, quantity: Quantity)
     ensures { IsTrue K.tells → Prints K.needs_memory (K.faults say.old) (K.faults say.new) (K.written say.old)
         (K.written say.new) (limit_text quantity) }
 {
-    match quantity {
-        Quantity::TraceBytes => say_number(say, "limit: ", "trace-bytes ", MOST_TRACE_BYTES),
-        Quantity::Frames => say_number(say, "limit: ", "frames ", MOST_FRAMES),
+    let mut digits = Buffer::new();
+    let pieces = [
+        "limit: ",
+        quantity_name(quantity),
+        " ",
+        digits.format(limit_of(quantity)),
+        "\n",
+    ];
+    say_pieces(say, &pieces);
+}
+
+// What is wrong with a line of text.
+fn line_reason(why: TextFault) -> &'static str
+    ensures { result.now ≡ line_reason why }
+{
+    match why {
+        TextFault::Syntax { .. } => "syntax",
+        TextFault::UnknownName { .. } => "unknown name",
+        TextFault::Unsupported { .. } => "unsupported",
+        TextFault::BadValue { .. } => "bad value",
+        TextFault::Repeated { .. } => "repeated",
+        TextFault::TooManyActions => "too many actions",
+        TextFault::OutOfMemory => "out of memory",
+    }
+}
+
+// The column at which it is found.
+fn column_of(why: TextFault) -> u32
+    ensures { result ≡ column_of why }
+{
+    match why {
+        TextFault::Syntax { col }
+        | TextFault::UnknownName { col }
+        | TextFault::Unsupported { col }
+        | TextFault::BadValue { col }
+        | TextFault::Repeated { col } => col,
+        TextFault::TooManyActions | TextFault::OutOfMemory => 1,
+    }
+}
+
+// Prints a place in a file, and what is wrong there.
+fn say_place<K: Sink>(say: &mut K, name: &str, line: u32, column: u32, reason: &str)
+    ensures { IsTrue K.tells
+        → Prints K.needs_memory (K.faults say.old) (K.faults say.new) (K.written say.old) (K.written say.new)
+        (place_text name.now line column reason.now) }
+{
+    let mut first = Buffer::new();
+    let mut second = Buffer::new();
+    let pieces = [
+        name,
+        ":",
+        first.format(line),
+        ":",
+        second.format(column),
+        ": ",
+        reason,
+        "\n",
+    ];
+    say_pieces(say, &pieces);
+}
+
+fn say_script<K: Sink>(say: &mut K, name: &str, fault: ScriptFault)
+    ensures { IsTrue K.tells → Prints K.needs_memory (K.faults say.old) (K.faults say.new) (K.written say.old)
+        (K.written say.new) (script_text name.now fault) }
+{
+    match fault {
+        ScriptFault::Line { line, why } => {
+            say_place(say, name, line, column_of(why), line_reason(why));
+        }
+        ScriptFault::SyncOrder { line } => say_place(say, name, line, 1, "sync order"),
+        ScriptFault::LineTooLong => say_limit(say, Quantity::Line),
+        ScriptFault::TooManyEdits => say_limit(say, Quantity::Edits),
+        ScriptFault::TooManySyncs => say_limit(say, Quantity::Syncs),
+        ScriptFault::OutOfMemory => say_out_of_memory(say),
     }
 }
 
@@ -87,6 +160,7 @@ fn say_fault<K: Sink>(say: &mut K, fault: &InputFault<'_>)
 {
     match fault {
         InputFault::NotBuilt { what } => say_pieces(say, &["not built: ", what, "\n"]),
+        InputFault::Text { name, fault } => say_script(say, name, *fault),
         InputFault::Trace { name, fault } => say_trace(say, name, *fault),
         InputFault::Limit(quantity) => say_limit(say, *quantity),
     }

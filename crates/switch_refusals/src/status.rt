@@ -7,6 +7,9 @@ use crate::refusal::{InputFault, InputRefusal};
 /// All was done.
 pub const DONE: u8 = 0;
 
+/// The file of edits is wrong.
+pub const TEXT: u8 = 3;
+
 /// A trace is no capture file that is read.
 pub const TRACE: u8 = 4;
 
@@ -31,6 +34,7 @@ pub fn input_status(refusal: &InputRefusal<'_>) -> u8
 {
     match refusal {
         InputRefusal::Input(InputFault::NotBuilt { .. }) => NOT_BUILT,
+        InputRefusal::Input(InputFault::Text { .. }) => TEXT,
         InputRefusal::Input(InputFault::Trace { .. }) => TRACE,
         InputRefusal::Input(InputFault::Limit(_)) => LIMIT,
         InputRefusal::ReadFault { .. } => READ_FAULT,

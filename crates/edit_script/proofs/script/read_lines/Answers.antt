@@ -1,30 +1,23 @@
-use Rattle.std.proofs.Common.{◌≡◌, ◌∙◌}
-use Rattle.std.specs.Prelude.{Result, Err, IsErrOf}
+use Rattle.std.proofs.Common.{sym, ◌∙◌, arith}
 use Rattle.std.proofs.lemmas.Result.{err_from_is_err_and}
 use Rattle.edit_script.specs.ScriptViews.{script_view}
-use Rattle.edit_script.proofs.LineTexts.{last_line, next_line, no_next_line}
+use Rattle.edit_script.proofs.LineTexts.{shorter, last_line, next_line, fails}
 use Rattle.edit_script.proofs.script.read_lines.Goals as goal
 
--- what is known of the exit of a `?` is known of what it came from
-same_exit : {T U E : Type 0} {r : Result T E} {x e : E} → (y : E) × (r ≡ Err y) × (y ≡ x) → IsErrOf r e → let from : Result U E = Err x in IsErrOf from e
-same_exit p is = cc (p.1, p.2, is)
-
-pub returns-in_err-read_line-clause-not_built : goal.returns-in_err-read_line-clause-not_built
-returns-in_err-read_line-clause-not_built c = λ is.
+pub returns-in_err-script-clause-value : goal.returns-in_err-script-clause-value
+returns-in_err-script-clause-value c =
     let p = err_from_is_err_and c.from_residual.result c.from_residual.ensures.1 in
-    no_next_line (script_view c.lines.script) c.lines.rest.now _ _ _ c.in-Some.ensures (c.in_err-read_line.ensures.not_built (same_exit p is)) c.lines.invariant.read
+    let failed = fails c.lines.number (script_view c.lines.script) c.lines.rest.now _ _ c.in_err-script.field-0.0 c.in-Some.ensures c.in_err-script.ensures.value in
+    rw (p.1, p.2, ← c.lines.invariant.so_far) failed
 
 pub lines-preserved : goal.lines-preserved
 lines-preserved c = record {
-  read = next_line (script_view c.lines.script) _ c.lines.rest.now _ _ _ c.in-Some.ensures c.in_ok-read_line.ensures.ok c.lines.invariant.read;
-  count = c.in_ok-read_line.ensures.count;
+  so_far = sym (next_line c.lines.number (script_view c.lines.script) (script_view c.in_ok-script.script) c.lines.rest.now _ _ c.in-Some.ensures c.in_ok-script.ensures.value)
+      ∙ c.lines.invariant.so_far;
+  formed = c.in_ok-script.ensures.formed;
+  room = omega (arith, c.lines.invariant.room, shorter c.lines.rest.now _ _ c.in-Some.ensures);
 }
 
-pub returns-in_err-read_line-2-clause-not_built : goal.returns-in_err-read_line-2-clause-not_built
-returns-in_err-read_line-2-clause-not_built c = λ is.
-    let p = err_from_is_err_and c.from_residual-in_err-read_line-2.result c.from_residual-in_err-read_line-2.ensures.1 in
-    last_line (script_view c.lines.script) c.lines.rest.now _ c.in_default.ensures c.lines.invariant.read ∙ c.in_err-read_line-2.ensures.not_built (same_exit p is)
-
-pub returns-clause-ok : goal.returns-clause-ok
-returns-clause-ok c =
-    last_line (script_view c.lines.script) c.lines.rest.now _ c.in_default.ensures c.lines.invariant.read ∙ c.in_ok-read_line-2.ensures.ok
+pub returns-clause-value : goal.returns-clause-value
+returns-clause-value c =
+    rw (← c.lines.invariant.so_far, last_line c.lines.number (script_view c.lines.script) c.lines.rest.now c.in_default.ensures) c.with_line-2.ensures.value

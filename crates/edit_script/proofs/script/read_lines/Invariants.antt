@@ -1,12 +1,15 @@
-use Rattle.std.proofs.Common.{◌≡◌, ◌≤◌, length}
-use Rattle.spec_script.specs.Script.{most_edits, nothing_said, with_lines, lines_of}
+use Rattle.std.proofs.Common.{◌≡◌, ◌+◌, ◌≤◌, length}
+use Rattle.spec_script.specs.Script.{with_lines, lines_of, script_of}
 use Rattle.edit_script.specs.ScriptViews.{script_view}
+use Rattle.edit_script.specs.WellFormed.{IsWellFormed}
 use Rattle.edit_script.proofs.script.read_lines.Given as goal
 
+-- what the lines so far and those to come say is what all of them say
 abbrev pub invariant-lines : goal.invariant-lines
 invariant-lines l = record {
-  read : with_lines (script_view l.script) (lines_of l.rest) ≡ with_lines nothing_said (lines_of l.bytes);
-  count : length l.script.edits.items ≤ most_edits;
+  so_far : with_lines l.number (lines_of l.rest) (script_view l.script) ≡ script_of l.bytes;
+  formed : IsWellFormed (script_view l.script);
+  room : l.number + length l.rest ≤ 33554433;
 }
 
 abbrev pub decreases-lines : goal.decreases-lines
