@@ -5,7 +5,7 @@ use Rattle.std.proofs.lemmas.List.Folds.{list_all-append}
 use Rattle.spec_tables.specs.Edits.{Edit}
 use Rattle.spec_tables.specs.declared.sync_point.SyncPoint.{SyncPoint}
 use Rattle.spec_case.specs.Blocks.{edits_through, AreInOrder}
-use Rattle.spec_script.specs.Script.{Script, most_edits, most_syncs, nothing_said, sync_at}
+use Rattle.spec_script.specs.Script.{Script, most_edits}
 use Rattle.edit_script.specs.Plain.{has_sound_actions}
 use Rattle.edit_script.specs.WellFormed.{IsWellFormed}
 
@@ -34,26 +34,11 @@ more_edits : (syncs : List SyncPoint) (edits : ℕ) → AreInOrder syncs edits �
 unfolding Steps
 more_edits syncs edits in_order = λ block. rw (add-one block) (more_steps syncs edits (λ k. rw (add-one k) at (in_order k)) block)
 
--- a sync point that counts all edits ends as many as the end does
-same_through : (syncs : List SyncPoint) (edits time block : ℕ)
-    → edits_through (syncs ++ record { time = time; after = edits } ∷ []) edits block ≡ edits_through syncs edits block
-same_through [] edits time zero = refl
-same_through [] edits time (suc block) = refl
-same_through (s ∷ syncs) edits time zero = refl
-same_through (s ∷ syncs) edits time (suc block) = same_through syncs edits time block
-
--- a sync point more after all edits
-one_more_sync : (syncs : List SyncPoint) (edits time : ℕ) → AreInOrder syncs edits → AreInOrder (syncs ++ record { time = time; after = edits } ∷ []) edits
-one_more_sync syncs edits time in_order = λ block. rw (same_through syncs edits time block, same_through syncs edits time (block + 1)) (in_order block)
-
 -- ---- scripts
 
 -- a test of each element, and one more
 push_all : {X : Type 0} (p : X → Bool) (xs : List X) (x : X) → list_all p xs ≡ true → p x ≡ true → list_all p (xs ++ x ∷ []) ≡ true
 push_all p xs x all one = rw (list_all-append p xs (x ∷ []), all, one) refl
-
-pub formed_nothing : IsWellFormed nothing_said
-formed_nothing = record { sound = refl; edit_count = omega arith; sync_count = omega arith; in_order = λ block. (omega arith, omega arith) }
 
 pub formed_with_edit : (s : Script) (e : Edit) → IsWellFormed s → IsTrue (has_sound_actions e) → length s.edits < most_edits
     → IsWellFormed (record s { edits = s.edits ++ e ∷ [] })
@@ -62,13 +47,4 @@ formed_with_edit s e formed sound room = record {
   edit_count = omega (arith, length-append s.edits (e ∷ []), room);
   sync_count = formed.sync_count;
   in_order = rw (length-append s.edits (e ∷ [])) (more_edits s.syncs (length s.edits) formed.in_order);
-}
-
-pub formed_with_sync : (s : Script) (time : ℕ) → IsWellFormed s → length s.syncs < most_syncs
-    → IsWellFormed (record s { syncs = s.syncs ++ sync_at s.edits time ∷ [] })
-formed_with_sync s time formed room = record {
-  sound = formed.sound;
-  edit_count = formed.edit_count;
-  sync_count = omega (arith, length-append s.syncs (sync_at s.edits time ∷ []), room);
-  in_order = one_more_sync s.syncs (length s.edits) time formed.in_order;
 }

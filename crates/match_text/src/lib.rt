@@ -12,8 +12,9 @@
 //! that, unless memory runs out. `print_match` adds the text that `match_printed` of `Printed` gives; after a refusal for
 //! want of memory the text begins with what it was.
 //!
-//! - Of several faults the first item's is told; of one item that of its name, then a repetition, then its value. A byte
-//!   that isn't ASCII comes before all of them. Columns are exact.
+//! - Of several faults the first item's is told. In an item its name is tested first, then whether it gives a second
+//!   table, priority or cookie, then its value, and last whether it states a bit again. A byte that isn't ASCII comes
+//!   before all of them. Columns are exact.
 //! - An item that states a bit which an earlier one states is a repetition, whether or not it says the same of it. Two
 //!   items on the parts of one VLAN tag may both say that there is a tag.
 //! - A match is normalised: what has no place in the packets that the flow is about is left out (ovs-fields(7),

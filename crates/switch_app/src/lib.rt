@@ -34,16 +34,16 @@
 //! Reading comes first and whole (`switch_input`). What was read is one run, and `decide_and_write` has it as its type
 //! parameter: every board, and every fact of a board, speaks of it.
 //!
-//! All edits are applied first, to a store that answers for every version (`run_edits`). Then each port's board is run
-//! to its end, which decides every frame. Only then files are written (`switch_output`). So what takes memory by the
-//! size of the run is taken before the first file: between files there is but a name, and a line of the journal. Why a
-//! run was refused is told without memory (`switch_refusals`).
+//! With the edits come the rules that they make, in a store that answers for every version. Each port's board is run to
+//! its end, which decides every frame. Only then files are written (`switch_output`). So what takes memory by the size of
+//! the run is taken before the first file: between files there is but a name, and a line of the journal. Why a run was
+//! refused is told without memory (`switch_refusals`).
 //!
 //! # What is left to others
 //!
-//! Words and files to `switch_input`, edits and rules to `run_edits`, the run and its blocks to `run_case`, boards to
-//! `pmd_board` and `step_runner`, the order of arrivals to `frame_arrivals`, the files to `switch_output`, texts and
-//! statuses to `switch_refusals`, and all that touches the system to `edge_io`.
+//! Words, files and the rules of the edits to `switch_input`, the edits under the run's name to `run_edits`, the run and
+//! its blocks to `run_case`, boards to `pmd_board` and `step_runner`, the order of arrivals to `frame_arrivals`, the files
+//! to `switch_output`, texts and statuses to `switch_refusals`, and all that touches the system to `edge_io`.
 #![tactic(auto)]
 
 mod refusal;

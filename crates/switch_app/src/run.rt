@@ -20,7 +20,7 @@ use crate::status::status_of;
 use edge_io::{Gate, Shelf, Sink};
 use frame_arrivals::arrivals_of;
 use run_case::{Case, Ports, RunData};
-use run_edits::{RunEdits, rules_of};
+use run_edits::RunEdits;
 use std::alloc::{AllocError, Global};
 use std::marker::Brand;
 use std::sync::Wait;
@@ -65,10 +65,10 @@ fn decide_and_write<C: Case, S: Shelf>(
     let Inputs {
         command,
         script,
+        rules,
         traces,
     } = inputs;
     let ports = ports_of(alloc, &command.ports)?;
-    let rules = rules_of(alloc, &script.edits)?;
     let edits = RunEdits::<C>::new(script.edits);
     let run = RunData::<C>::new(alloc, ports, edits.count(), script.syncs, traces)?;
     let boards = finish(alloc, &run, &rules)?;
@@ -97,9 +97,14 @@ fn run<'a, S: Shelf>(alloc: Global, words: &'a [String], shelf: &mut S) -> Resul
 /// The words are those after the program's name: `EDITS OUT PORT=FILE PORT=..`. Each port may have a trace; where
 /// nothing stands after its `=` no frame comes in there.
 ///
-/// EDITS has a line for each edit of the tables, and may have lines `sync SECONDS` between them. In each trace the frames
-/// before the first that isn't before that time are decided under no more than the edits before the line, and those from
-/// it on under no fewer. Which version it was stands in the journal.
+/// EDITS has a line for each edit of the tables, as ovs-ofctl(8) writes flows: a word (`add` where it is left out,
+/// `modify`, `modify_strict`, `delete`, `delete_strict`), a match of fields with values and masks, a table, a priority and
+/// a cookie, and actions. Edits whose actions only send are run: to ports by number, to where the frame came in, to all
+/// and to flood. Others end with status 9, and a line that is no flow with status 3 and its place.
+///
+/// There may be lines `sync SECONDS` between the edits. In each trace the frames before the first that isn't before that
+/// time are decided under no more than the edits before the line, and those from it on under no fewer. Which version it
+/// was stands in the journal.
 ///
 /// `OUT.pN.pcap` has the frames that go out at port N, and `OUT.journal` the steps of each port's board, in the order in
 /// which they were taken.

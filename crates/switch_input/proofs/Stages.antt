@@ -3,14 +3,15 @@ use Rattle.std.proofs.Common.{◌≡◌, ℕ, ◌<◌, ◌≤◌, true, false, L
 use Rattle.std.specs.Prelude.{IsSomeAnd, nat_lt, Result, Ok, Err}
 use Rattle.std.proofs.lemmas.Bool.Decides.{nat_tests}
 use Rattle.spec_pcap.specs.Pcap.{Capture, capture_of}
-use Rattle.spec_script.specs.Script.{Script, script_of}
 use Rattle.spec_pcap.specs.declared.fault.PcapFault.{PcapFault}
-use Rattle.spec_run.specs.declared.quantity.Quantity.TheVariants.{TraceBytes}
-use Rattle.spec_run.specs.Verdict.{Files, Refusal, NotBuilt, Limit, refused_trace, script_in, file_in}
+use Rattle.spec_run.specs.declared.quantity.Quantity.TheVariants.{EditsBytes, TraceBytes}
+use Rattle.spec_run.specs.Limits.{most_edits_bytes}
+use Rattle.spec_run.specs.Verdict.{Files, Refusal, Limit, refused_trace, script_in, file_in}
 use Rattle.switch_refusals.specs.declared.refusal.InputFault.{InputFault}
 use Rattle.switch_refusals.specs.declared.refusal.InputRefusal.{InputRefusal}
 use Rattle.switch_refusals.specs.declared.refusal.InputRefusal.TheVariants.{Input, ReadFault, OutOfMemory}
 use Rattle.switch_refusals.specs.Refused.{fault_view, IfInput, Explains}
+use Rattle.switch_input.specs.EditsViews.{script_in_bytes}
 
 past : (n limit : ℕ) → limit < n → nat_lt limit n ≡ true
 past n limit lt = grind (arith, nat_tests)
@@ -20,21 +21,18 @@ within n limit le = grind (arith, nat_tests)
 
 -- ---- the edits
 
-pub script_too_long : (files : Files) (name : List ℕ) → IsSomeAnd (files name) (λ b. 33554432 < length b) → script_in files name ≡ Err (NotBuilt name)
-unfolding script_in script_of
+pub script_too_long : (files : Files) (name : List ℕ) → IsSomeAnd (files name) (λ b. most_edits_bytes < length b) → script_in files name ≡ Err (Limit EditsBytes)
+unfolding script_in
 script_too_long files name long = over (files name) refl long
   where
-    over : (o : Option (List ℕ)) → files name ≡ o → IsSomeAnd o (λ b. 33554432 < length b) → script_in files name ≡ Err (NotBuilt name)
+    over : (o : Option (List ℕ)) → files name ≡ o → IsSomeAnd o (λ b. most_edits_bytes < length b) → script_in files name ≡ Err (Limit EditsBytes)
     over None e long = absurd long
-    over (Some bytes) e long = rw (e, past (length bytes) 33554432 long) refl
+    over (Some bytes) e long = rw (e, past (length bytes) most_edits_bytes long) refl
 
-pub script_read : (files : Files) (name bytes : List ℕ) (script : Script) → files name ≡ Some bytes → script_of bytes ≡ Some script → script_in files name ≡ Ok script
+-- the bytes of a file give what the file does
+pub of_bytes : (files : Files) (name bytes : List ℕ) → files name ≡ Some bytes → script_in files name ≡ script_in_bytes name bytes
 unfolding script_in
-script_read files name bytes script held read = rw (held, read) refl
-
-pub script_not_built : (files : Files) (name bytes : List ℕ) → files name ≡ Some bytes → script_of bytes ≡ None → script_in files name ≡ Err (NotBuilt name)
-unfolding script_in
-script_not_built files name bytes held read = rw (held, read) refl
+of_bytes files name bytes held = rw held refl
 
 -- ---- a trace
 

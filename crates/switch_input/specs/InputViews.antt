@@ -2,14 +2,12 @@
 use Rattle.std.specs.Prelude.{◌≡◌, ◌≤◌, nat_eq, All, IsTrue, length}
 use Rattle.std.specs.List.{list_all, IsDistinct}
 use Rattle.spec_pcap.specs.Pcap.{Capture}
-use Rattle.spec_tables.specs.declared.edit_word.EditWord.TheVariants.{Add}
-use Rattle.spec_tables.specs.Edits.{Edit}
 use Rattle.spec_case.specs.Blocks.{AreInOrder}
 use Rattle.spec_script.specs.Script.{most_edits, most_syncs}
 use Rattle.spec_run.specs.Limits.{most_frames}
 use Rattle.spec_run.specs.Verdict as verdicts
-use Rattle.spec_tables.specs.Outputs.{has_outputs_only}
-use Rattle.edit_script.specs.Plain.{has_few_actions}
+use Rattle.rule_tables.specs.History.{history_of}
+use Rattle.edit_script.specs.Plain.{has_sound_actions}
 use Rattle.edit_script.specs.ScriptViews.{script_view}
 use Rattle.switch_input.specs.declared.inputs.Inputs.{Inputs}
 use Rattle.switch_input.specs.declared.reading.TraceFile.{TraceFile}
@@ -31,9 +29,8 @@ pub record IsBuilt (i : Inputs) : Type 0 where
   pub distinct_ports : IsDistinct nat_eq (ports_said (ports_view i.command.ports.items))
   pub trace_each : length i.traces.items ≡ length i.command.ports.items
   pub few_frames : All (λ (t : Capture). length t.frames ≤ most_frames) i.traces.items
-  pub adds : All (λ (e : Edit). e.word ≡ Add) i.script.edits.items
-  pub outputs_only : IsTrue (list_all has_outputs_only i.script.edits.items)
-  pub few_actions : IsTrue (list_all has_few_actions i.script.edits.items)
+  pub rules : i.rules ≡ history_of i.script.edits.items
+  pub sound : IsTrue (list_all has_sound_actions i.script.edits.items)
   pub few_edits : length i.script.edits.items ≤ most_edits
   pub few_syncs : length i.script.syncs.items ≤ most_syncs
   pub in_order : AreInOrder i.script.syncs.items (length i.script.edits.items)

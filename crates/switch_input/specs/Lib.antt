@@ -1,2 +1,3 @@
 pub mod WordViews
+pub mod EditsViews
 pub mod InputViews

@@ -6,11 +6,13 @@ ghost use Rattle.switch_input.specs.WordViews.{texts};
 ghost use Rattle.switch_input.specs.InputViews.{accepted_view, IsBuilt};
 ghost use Rattle.switch_refusals.specs.Refused.{IfReadFault, Explains, HasCause};
 
-use crate::reading::{read_edits, read_traces};
+use crate::edits::read_edits;
+use crate::reading::read_traces;
 use crate::words::{Command, read_command};
 use edge_io::Shelf;
 use edit_script::Script;
 use pcap_reader::Trace;
+use rule_tables::VersionedRules;
 use std::alloc::Global;
 use switch_refusals::InputRefusal;
 
@@ -19,6 +21,8 @@ use switch_refusals::InputRefusal;
 pub struct Inputs<'a> {
     pub command: Command<'a>,
     pub script: Script,
+    /// The rules of every version that the edits make.
+    pub rules: VersionedRules,
     pub traces: Vec<Trace>,
 }
 
@@ -51,11 +55,12 @@ pub fn read_inputs<'a, S: Shelf>(
     ensures only_read { IsTrue S.tells → OnlyRead (S.told shelf.old) (S.told shelf.new) }
 {
     let command = read_command(alloc, words)?;
-    let script = read_edits(alloc, shelf, command.edits)?;
+    let edits = read_edits(alloc, shelf, command.edits)?;
     let traces = read_traces(alloc, shelf, &command.ports)?;
     Ok(Inputs {
         command,
-        script,
+        script: edits.script,
+        rules: edits.rules,
         traces,
     })
 }

@@ -11,9 +11,10 @@
 //! Where the shelf tells its bytes, `read_inputs` answers just that.
 //!
 //! - What was read is what the verdict accepts: the command, the edits and the sync points, and a trace for each port. All
-//!   of it has the form that is built, and is within the limits.
-//! - An input is refused only as the verdict refuses it: the words or the edits as a form that isn't built, a trace by its
-//!   name and its first fault, or a quantity as above its limit.
+//!   of it has the form that is built, and is within the limits. The actions of the edits are sound. The rules are those of
+//!   every version that the edits make, by the history that `rule_tables` gives to them.
+//! - An input is refused only as the verdict refuses it: the words or the edits as a form that isn't built, the edits or a
+//!   trace by the name and the first fault, or a quantity as above its limit.
 //! - A read fault is told only where calls of reading failed, and of the file that was last asked for. Before that file none
 //!   is refused.
 //! - Nothing else is refused, unless memory runs out. Whatever the answer is, nothing is written, and all but a read fault
@@ -26,15 +27,20 @@
 //! answers, as the verdict is the chain of the stages. They meet the shelf in `read_file` alone. The bytes of a trace are
 //! read into the memory where they stay.
 //!
+//! How many rules the edits change is limited, so they are applied here, one after the other, before a trace is read. The
+//! store that they make answers for every version, and is handed on.
+//!
 //! # What is left to others
 //!
-//! Numbers to `text_numbers`, scripts to `edit_script`, capture files to `pcap_reader`, and all that touches the system to
-//! `edge_io`. What refusals are told as is for `switch_refusals`, and what becomes of the run for `switch_app`. No board is known here, so
-//! that reading and deciding are proved side by side.
+//! Numbers to `text_numbers`, scripts to `edit_script`, what an edit does to `rule_tables`, capture files to `pcap_reader`,
+//! and all that touches the system to `edge_io`. What refusals are told as is for `switch_refusals`, and what becomes of
+//! the run for `switch_app`. No board is known here, so that reading and deciding are proved side by side.
 #![tactic(auto)]
 
+mod edits;
 mod inputs;
 mod reading;
+mod rules;
 mod words;
 
 pub use inputs::{Inputs, read_inputs};

@@ -1,29 +1,22 @@
+//! Files read whole, and the traces of the ports.
 ghost use Rattle.std.specs.Prelude.{◌≡◌, ◌<◌, ◌≤◌, length, Ok, Err, All, Contains, IsTrue, IsSomeAnd, OnOk, IfOk, IfErr, Some};
-ghost use Rattle.std.specs.List.{list_all};
 ghost use Rattle.edge_io.specs.declared.outside.InUse.TheVariants.{Nothing};
 ghost use Rattle.edge_io.specs.ReadAll.{OnlyRead};
-ghost use Rattle.spec_tables.specs.declared.edit_word.EditWord.TheVariants.{Add};
-ghost use Rattle.spec_case.specs.Blocks.{AreInOrder};
-ghost use Rattle.spec_script.specs.Script.{most_edits, most_syncs};
 ghost use Rattle.spec_run.specs.Limits.{most_trace_bytes, most_frames};
-ghost use Rattle.spec_run.specs.Verdict.{refused_trace, script_in, file_in, trace_in, traces_in, trace_names, traces_opened};
-ghost use Rattle.spec_tables.specs.Outputs.{has_outputs_only};
-ghost use Rattle.edit_script.specs.Plain.{has_few_actions};
-ghost use Rattle.edit_script.specs.ScriptViews.{script_view};
+ghost use Rattle.spec_run.specs.Verdict.{refused_trace, file_in, trace_in, traces_in, trace_names, traces_opened};
 ghost use Rattle.switch_input.specs.WordViews.{port_view, ports_view};
 ghost use Rattle.switch_input.specs.InputViews.{trace_view};
 ghost use Rattle.switch_refusals.specs.Refused.{fault_view, IfInput, IfReadFault, Explains, HasCause};
 
 use crate::words::PortWord;
 use edge_io::{ReadFault, Shelf, read_all};
-use edit_script::{MOST_BYTES, Script, ScriptFault, read_script};
 use pcap_reader::{PcapFault, Trace, read_trace};
 use spec_run::Quantity;
 use std::alloc::Global;
 use switch_refusals::{InputFault, InputRefusal, MOST_FRAMES, MOST_TRACE_BYTES};
 
-// Reads a file whole. One that has more bytes than `most` is refused for this fault.
-fn read_file<'a, S: Shelf>(
+/// Reads a file whole. One that has more bytes than `most` is refused for this fault.
+pub fn read_file<'a, S: Shelf>(
     alloc: Global,
     shelf: &mut S,
     name: &'a str,
@@ -48,38 +41,6 @@ fn read_file<'a, S: Shelf>(
         Err(ReadFault::Fault) => Err(InputRefusal::ReadFault { name }),
         Err(ReadFault::Over) => Err(InputRefusal::Input(too_long)),
         Err(ReadFault::OutOfMemory) => Err(InputRefusal::OutOfMemory),
-    }
-}
-
-/// Reads the file of edits.
-pub fn read_edits<'a, S: Shelf>(
-    alloc: Global,
-    shelf: &mut S,
-    name: &'a str,
-) -> Result<Script, InputRefusal<'a>>
-    requires { S.in_use shelf.old ≡ Nothing }
-    ensures in_use { OnOk result (S.in_use shelf.new ≡ Nothing) }
-    ensures ok { IsTrue S.tells
-        → IfOk result (λ s. script_in (S.told shelf.old).holds name.now ≡ Ok (script_view s)) }
-    ensures adds { IfOk result (λ s. All (λ e. e.word ≡ Add) s.edits.items) }
-    ensures outputs_only { IfOk result (λ s. IsTrue (list_all has_outputs_only s.edits.items)) }
-    ensures few_actions { IfOk result (λ s. IsTrue (list_all has_few_actions s.edits.items)) }
-    ensures few_edits { IfOk result (λ s. length s.edits.items ≤ most_edits) }
-    ensures few_syncs { IfOk result (λ s. length s.syncs.items ≤ most_syncs) }
-    ensures in_order { IfOk result (λ s. AreInOrder s.syncs.items (length s.edits.items)) }
-    ensures err { IsTrue S.tells → IfErr result (Explains (script_in (S.told shelf.old).holds name.now)) }
-    ensures fault { IfErr result (λ r. IfReadFault r (λ n. n ≡ name.now)) }
-    ensures named { IsTrue S.tells → IfErr result (λ r. IfReadFault r (λ n. (S.told shelf.new).last ≡ n)) }
-    ensures told { IsTrue S.tells → OnlyRead (S.told shelf.old) (S.told shelf.new) }
-    ensures counts { OnOk result (S.counts shelf.new ≡ S.counts shelf.old) }
-    ensures cause { IfErr result (HasCause (S.counts shelf.old) (S.counts shelf.new)) }
-{
-    let not_built = InputFault::NotBuilt { what: name };
-    let bytes = read_file(alloc, shelf, name, MOST_BYTES, not_built)?;
-    match read_script(alloc, &bytes) {
-        Ok(script) => Ok(script),
-        Err(ScriptFault::NotBuilt) => Err(InputRefusal::Input(not_built)),
-        Err(ScriptFault::OutOfMemory) => Err(InputRefusal::OutOfMemory),
     }
 }
 

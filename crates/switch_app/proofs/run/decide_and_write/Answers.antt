@@ -4,25 +4,24 @@ use Rattle.std.specs.List.{list_all}
 use Rattle.spec_case.specs.Run.{Run}
 use Rattle.pmd_board.specs.BoardView.{journals_view}
 use Rattle.pipe_model.specs.Runnable.{has_sound_actions}
-use Rattle.switch_app.proofs.Soundness.{sound_edits}
 use Rattle.switch_app.proofs.Leaving.{if_err_map, on_ok_map}
 use Rattle.switch_app.proofs.Journals.{are_journals}
 use Rattle.switch_app.proofs.run.decide_and_write.Goals as goal
 
 pub finish-requires-clause-sound : goal.finish-requires-clause-sound
 finish-requires-clause-sound g c =
-    subst (λ (run : Run). IsTrue (list_all has_sound_actions run.edits)) (sym c.requires.run) (sound_edits c.args.inputs.script.edits.items c.requires.built.outputs_only)
+    subst (λ (run : Run). IsTrue (list_all has_sound_actions run.edits)) (sym c.requires.run) c.requires.built.sound
 
 pub returns-clause-ok : goal.returns-clause-ok
 returns-clause-ok g c = λ t.
     let boards = c.in_ok-boards.boards.items in
     let left = c.in_ok-boards.ensures in
     let are = are_journals g.C.Case.run (ap (λ (run : Run). run.flow_limit) c.requires.run) boards left.ports left.legal left.limit left.finished left.decided left.scheduled in
-    on_ok_map c.write_files.result (λ made. record { journals = journals_view boards; are_journals = are; made = made }) (rw c.deref-3.ensures.value at c.write_files.ensures.ok t)
+    on_ok_map c.write_files.result (λ made. record { journals = journals_view boards; are_journals = are; made = made }) (rw c.deref-2.ensures.value at c.write_files.ensures.ok t)
 
 pub returns-clause-err : goal.returns-clause-err
 returns-clause-err g c = λ t.
     let boards = c.in_ok-boards.boards.items in
     let left = c.in_ok-boards.ensures in
     let are = are_journals g.C.Case.run (ap (λ (run : Run). run.flow_limit) c.requires.run) boards left.ports left.legal left.limit left.finished left.decided left.scheduled in
-    if_err_map c.write_files.result (λ e cut. inr (record { journals = journals_view boards; are_journals = are; cut = cut })) (rw c.deref-3.ensures.value at c.write_files.ensures.err t)
+    if_err_map c.write_files.result (λ e cut. inr (record { journals = journals_view boards; are_journals = are; cut = cut })) (rw c.deref-2.ensures.value at c.write_files.ensures.err t)

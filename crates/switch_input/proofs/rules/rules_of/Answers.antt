@@ -1,9 +1,9 @@
-use Rattle.std.proofs.Common.{◌≡◌, ◌+◌, ◌<◌, ◌≤◌, ◌^◌, length, take, get_or, [], ◌∷◌, ◌++◌, suc, sym, ap, ◌∙◌, arith}
+use Rattle.std.proofs.Common.{◌≡◌, ◌+◌, length, take, [], ◌∷◌, ◌++◌, suc, sym, ap, ◌∙◌, arith}
 use Rattle.std.proofs.lemmas.List.{length-take-le}
 use Rattle.std.proofs.Math.Seq.{take-suc}
 use Rattle.rule_tables.specs.History.{newest, edited_by, history_of}
 use Rattle.rule_tables.proofs.Histories.{newest-history, history-push, history-none}
-use Rattle.run_edits.proofs.rules.rules_of.Goals as goal
+use Rattle.switch_input.proofs.rules.rules_of.Goals as goal
 
 pub edits-init : goal.edits-init
 edits-init c = c.new-rules.ensures ∙ history-none

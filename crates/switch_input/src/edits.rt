@@ -1,0 +1,167 @@
+//! The file of edits: its bytes, the script that they say, and the rules that its edits make.
+//!
+//! Each stage of the verdict on it is a function of its own, in the verdict's order.
+ghost use Rattle.std.specs.Prelude.{◌≡◌, ◌<◌, ◌≤◌, ◌^◌, length, Ok, IsTrue, OnOk, IfOk, IfErr};
+ghost use Rattle.std.specs.List.{list_all};
+ghost use Rattle.edge_io.specs.declared.outside.InUse.TheVariants.{Nothing};
+ghost use Rattle.edge_io.specs.ReadAll.{OnlyRead};
+ghost use Rattle.spec_tables.specs.Outputs.{is_sending, only_sends};
+ghost use Rattle.spec_case.specs.Blocks.{AreInOrder};
+ghost use Rattle.spec_script.specs.Script.{most_edits, most_syncs};
+ghost use Rattle.spec_script.specs.declared.fault.ScriptFault.TheVariants as script;
+ghost use Rattle.spec_run.specs.Limits.{most_edits_bytes};
+ghost use Rattle.spec_run.specs.Verdict.{refused_script, script_within, with_few_changes, with_built_actions, script_in};
+ghost use Rattle.rule_tables.specs.History.{history_of};
+ghost use Rattle.edit_script.specs.Plain.{has_sound_actions};
+ghost use Rattle.edit_script.specs.ScriptViews.{script_view};
+ghost use Rattle.switch_input.specs.EditsViews.{script_in_bytes};
+ghost use Rattle.switch_refusals.specs.Refused.{fault_view, IfInput, IfReadFault, Explains, HasCause};
+
+use crate::reading::read_file;
+use crate::rules::rules_of;
+use edge_io::Shelf;
+use edit_script::{Script, ScriptFault, read_script};
+use rule_tables::{Edit, OfAction, VersionedRules};
+use spec_flow_text::TextFault;
+use spec_run::Quantity;
+use std::alloc::Global;
+use switch_refusals::{InputFault, InputRefusal, MOST_CHANGES, MOST_EDITS_BYTES};
+
+/// What a file of edits says, and the rules of every version that its edits make.
+#[derive(Drop)]
+pub struct EditsFile {
+    pub script: Script,
+    pub rules: VersionedRules,
+}
+
+// What becomes of a run whose file of edits has this fault.
+fn refused(name: &str, fault: ScriptFault) -> InputRefusal<'_>
+    ensures input { IfInput result (λ told. fault_view told ≡ refused_script name.now fault) }
+    ensures no_fault { IfReadFault result (λ _. ⊥) }
+    ensures no_memory { fault ≡ script.OutOfMemory → result ≡ InputRefusal.OutOfMemory }
+{
+    let limit = match fault {
+        ScriptFault::OutOfMemory => return InputRefusal::OutOfMemory,
+        ScriptFault::Line {
+            why: TextFault::TooManyActions,
+            ..
+        } => Quantity::Actions,
+        ScriptFault::LineTooLong => Quantity::Line,
+        ScriptFault::TooManyEdits => Quantity::Edits,
+        ScriptFault::TooManySyncs => Quantity::Syncs,
+        fault => return InputRefusal::Input(InputFault::Text { name, fault }),
+    };
+    InputRefusal::Input(InputFault::Limit(limit))
+}
+
+// The script of the bytes of a file.
+fn script_of<'a>(alloc: Global, name: &'a str, bytes: &[u8]) -> Result<Script, InputRefusal<'a>>
+    requires { length bytes.now ≤ most_edits_bytes }
+    ensures ok { IfOk result (λ s. script_within name.now bytes.now ≡ Ok (script_view s)) }
+    ensures sound { IfOk result (λ s. IsTrue (list_all has_sound_actions s.edits.items)) }
+    ensures few_edits { IfOk result (λ s. length s.edits.items ≤ most_edits) }
+    ensures few_syncs { IfOk result (λ s. length s.syncs.items ≤ most_syncs) }
+    ensures in_order { IfOk result (λ s. AreInOrder s.syncs.items (length s.edits.items)) }
+    ensures err { IfErr result (Explains (script_within name.now bytes.now)) }
+    ensures no_fault { IfErr result (λ r. IfReadFault r (λ _. ⊥)) }
+{
+    match read_script(alloc, bytes) {
+        Ok(script) => Ok(script),
+        Err(fault) => Err(refused(name, fault)),
+    }
+}
+
+// The rules of all versions, where the edits change no more rules than they may.
+#[tactic(auto, unfolding(rule_tables::specs::History::history_of))]
+fn rules_within<'a>(alloc: Global, script: &Script) -> Result<VersionedRules, InputRefusal<'a>>
+    requires { length script.now.edits.items < 2 ^ 32 }
+    ensures rules { IfOk result (λ rules. rules ≡ history_of script.now.edits.items) }
+    ensures ok { OnOk result (with_few_changes (script_view script.now) ≡ Ok (script_view script.now)) }
+    ensures err { IfErr result (Explains (with_few_changes (script_view script.now))) }
+    ensures no_fault { IfErr result (λ r. IfReadFault r (λ _. ⊥)) }
+{
+    let rules = rules_of(alloc, &script.edits)?;
+    if rules.changes() > MOST_CHANGES {
+        return Err(InputRefusal::Input(InputFault::Limit(Quantity::Changes)));
+    }
+    Ok(rules)
+}
+
+fn is_sending(action: &OfAction) -> bool
+    ensures { result ≡ is_sending action.now }
+{
+    matches!(
+        action,
+        OfAction::Output(_) | OfAction::InPort | OfAction::All | OfAction::Flood
+    )
+}
+
+fn only_sends(edit: &Edit) -> bool
+    ensures { result ≡ only_sends edit.now }
+{
+    edit.actions.as_slice().iter().all(is_sending)
+}
+
+fn all_only_send(edits: &[Edit]) -> bool
+    ensures { result ≡ list_all only_sends edits.now }
+{
+    edits.iter().all(only_sends)
+}
+
+// Refuses edits that do more than send.
+fn refuse_other_actions<'a>(name: &'a str, script: &Script) -> Result<(), InputRefusal<'a>>
+    ensures ok { OnOk result (with_built_actions name.now (script_view script.now) ≡ Ok (script_view script.now)) }
+    ensures err { IfErr result (Explains (with_built_actions name.now (script_view script.now))) }
+    ensures no_fault { IfErr result (λ r. IfReadFault r (λ _. ⊥)) }
+{
+    if all_only_send(&script.edits) {
+        Ok(())
+    } else {
+        Err(InputRefusal::Input(InputFault::NotBuilt { what: name }))
+    }
+}
+
+// The script of the bytes of a file and its rules, where it is accepted.
+fn edits_in<'a>(alloc: Global, name: &'a str, bytes: &[u8]) -> Result<EditsFile, InputRefusal<'a>>
+    requires { length bytes.now ≤ most_edits_bytes }
+    ensures ok { IfOk result (λ e. script_in_bytes name.now bytes.now ≡ Ok (script_view e.script)) }
+    ensures rules { IfOk result (λ e. e.rules ≡ history_of e.script.edits.items) }
+    ensures sound { IfOk result (λ e. IsTrue (list_all has_sound_actions e.script.edits.items)) }
+    ensures few_edits { IfOk result (λ e. length e.script.edits.items ≤ most_edits) }
+    ensures few_syncs { IfOk result (λ e. length e.script.syncs.items ≤ most_syncs) }
+    ensures in_order { IfOk result (λ e. AreInOrder e.script.syncs.items (length e.script.edits.items)) }
+    ensures err { IfErr result (Explains (script_in_bytes name.now bytes.now)) }
+    ensures no_fault { IfErr result (λ r. IfReadFault r (λ _. ⊥)) }
+{
+    let script = script_of(alloc, name, bytes)?;
+    let rules = rules_within(alloc, &script)?;
+    refuse_other_actions(name, &script)?;
+    Ok(EditsFile { script, rules })
+}
+
+/// Reads the file of edits.
+pub fn read_edits<'a, S: Shelf>(
+    alloc: Global,
+    shelf: &mut S,
+    name: &'a str,
+) -> Result<EditsFile, InputRefusal<'a>>
+    requires { S.in_use shelf.old ≡ Nothing }
+    ensures in_use { OnOk result (S.in_use shelf.new ≡ Nothing) }
+    ensures ok { IsTrue S.tells
+        → IfOk result (λ e. script_in (S.told shelf.old).holds name.now ≡ Ok (script_view e.script)) }
+    ensures rules { IfOk result (λ e. e.rules ≡ history_of e.script.edits.items) }
+    ensures sound { IfOk result (λ e. IsTrue (list_all has_sound_actions e.script.edits.items)) }
+    ensures few_edits { IfOk result (λ e. length e.script.edits.items ≤ most_edits) }
+    ensures few_syncs { IfOk result (λ e. length e.script.syncs.items ≤ most_syncs) }
+    ensures in_order { IfOk result (λ e. AreInOrder e.script.syncs.items (length e.script.edits.items)) }
+    ensures err { IsTrue S.tells → IfErr result (Explains (script_in (S.told shelf.old).holds name.now)) }
+    ensures fault { IfErr result (λ r. IfReadFault r (λ n. n ≡ name.now)) }
+    ensures named { IsTrue S.tells → IfErr result (λ r. IfReadFault r (λ n. (S.told shelf.new).last ≡ n)) }
+    ensures told { IsTrue S.tells → OnlyRead (S.told shelf.old) (S.told shelf.new) }
+    ensures counts { OnOk result (S.counts shelf.new ≡ S.counts shelf.old) }
+    ensures cause { IfErr result (HasCause (S.counts shelf.old) (S.counts shelf.new)) }
+{
+    let too_long = InputFault::Limit(Quantity::EditsBytes);
+    let bytes = read_file(alloc, shelf, name, MOST_EDITS_BYTES, too_long)?;
+    edits_in(alloc, name, &bytes)
+}
