@@ -4,43 +4,39 @@
     python3 simulate.py EDITS OUT PORT=FILE PORT=..
 
 has the words, files, texts and statuses of `megaswitch`. It shares no code and no definition with it, and nothing
-about it is proved. examples/*/expected was written by it.
+about it is proved. examples/*/expected was written by it. The edits are read by flow_text.py, over the table of fields
+in flow_fields.py; flow_rules.py has what they do, and frame_key.py what a frame is matched by.
 """
 import re
 import struct
 import sys
 from collections import namedtuple
 
-DONE, BAD_TRACE, READ_FAULT, WRITE_FAULT, LIMIT, NOT_BUILT = 0, 4, 5, 6, 7, 9
+sys.dont_write_bytecode = True
+from flow_fields import packed
+from flow_rules import versions, winner
+from flow_text import LAST_PORT, OverLimit, TextFault, read_script
+from frame_key import key_of
 
-LAST_PORT = 65279
+DONE, BAD_TEXT, BAD_TRACE, READ_FAULT, WRITE_FAULT, LIMIT, NOT_BUILT = 0, 3, 4, 5, 6, 7, 9
+
 MOST_PORTS = 32
-MOST_EDITS_BYTES = 33554432
-MOST_LINE_BYTES = 4096
-MOST_EDITS = 32768
-MOST_SYNCS = 63
-MOST_SECONDS = 4294967295
-MOST_OUTPUTS = 64
 MOST_TRACE_BYTES = 268435456
 MOST_FRAMES = 131072
+MOST_DATAPATH_ACTIONS = 128
 SNAP_LENGTH = 262144
-ETHERNET_HEADER = 14
+
+# What a list may have until the other actions are built.
+BUILT_ACTIONS = {"Output", "InPort", "All", "Flood"}
 
 # In nanoseconds.
 SECOND = 1000000000
 MICROSECOND = 1000
 NANOSECOND = 1
 
-NUMBER = re.compile(rb"0|[1-9][0-9]*|0x[0-9a-fA-F]+")
-MAC = re.compile(rb"[0-9a-fA-F]{1,2}(:[0-9a-fA-F]{1,2}){5}")
-LINE = re.compile(rb"(?:add )?((?:(?:priority|in_port|dl_dst)=[^,]*,)*)actions=(.*)", re.DOTALL)
-SYNC_LINE = re.compile(rb"[ \t\r]*sync[ \t\r]+(0|[1-9][0-9]*)(?:\.([0-9]{1,9}))?[ \t\r]*")
 PORT_WORD = re.compile(r"([1-9][0-9]{0,4})=(.*)", re.DOTALL)
 
-Rule = namedtuple("Rule", "priority in_port dl_dst outputs")
-# When a block begins, in nanoseconds, and how many rules were added before it.
-Sync = namedtuple("Sync", "time after")
-# A block of a port: its frames, and how many rules are added before its end.
+# A block of a port: its frames, and how many edits stand before its end.
 Block = namedtuple("Block", "frames hi")
 Frame = namedtuple("Frame", "time port place bytes")
 # How a trace has its numbers, as struct names it, and the unit of its fractions of a second.
@@ -93,64 +89,18 @@ def read_words(words):
 # ---- the edits
 
 
-def number(text, least, most, name):
-    check(NUMBER.fullmatch(text), name)
-    value = int(text, 16) if text.startswith(b"0x") else int(text)
-    check(least <= value <= most, name)
-    return value
-
-
-def read_value(item, text, name):
-    if item == b"priority":
-        return number(text, 0, 65535, name)
-    if item == b"in_port":
-        return number(text, 1, LAST_PORT, name)
-    check(MAC.fullmatch(text), name)
-    return bytes(int(octet, 16) for octet in text.split(b":"))
-
-
-def read_outputs(text, name):
-    if text == b"drop":
-        return []
-    texts = text.split(b",")
-    check(len(texts) <= MOST_OUTPUTS, name)
-    return [number(it[7:] if it.startswith(b"output:") else it, 1, LAST_PORT, name) for it in texts]
-
-
-def read_rule(line, name):
-    found = LINE.fullmatch(line)
-    check(found, name)
-    stated = {}
-    for piece in found[1].split(b",")[:-1]:
-        item, _, text = piece.partition(b"=")
-        check(item not in stated, name)
-        stated[item] = read_value(item, text, name)
-    outputs = read_outputs(found[2], name)
-    return Rule(stated.get(b"priority", 32768), stated.get(b"in_port"), stated.get(b"dl_dst"), outputs)
-
-
-def read_sync_time(found, name):
-    seconds, fraction = int(found[1]), found[2] or b""
-    check(seconds <= MOST_SECONDS, name)
-    return seconds * SECOND + int(fraction.ljust(9, b"0"))
-
-
 def read_edits(data, name):
-    """The rules, in the order in which they are added, and the sync points among them."""
-    check(len(data) <= MOST_EDITS_BYTES, name)
-    added, syncs = [], []
-    for line in data.split(b"\n"):
-        check(len(line) <= MOST_LINE_BYTES, name)
-        if not line.strip(b" \t\r"):
-            continue
-        found = SYNC_LINE.fullmatch(line)
-        if found:
-            syncs.append(Sync(read_sync_time(found, name), len(added)))
-            check(len(syncs) <= MOST_SYNCS and syncs == sorted(syncs), name)
-        else:
-            check(len(added) < MOST_EDITS, name)
-            added.append(read_rule(line, name))
-    return added, syncs
+    """The edits and the sync points of a file, with the rules of the versions that its blocks have."""
+    try:
+        script = read_script(data)
+        rules = versions(script.edits, [*(sync.after for sync in script.syncs), len(script.edits)])
+    except TextFault as fault:
+        raise Refused(BAD_TEXT, f"{name}:{fault.line}:{fault.column}: {fault.reason}")
+    except OverLimit as over:
+        raise Refused(LIMIT, f"limit: {over.quantity} {over.most}")
+    kinds = {action.kind for edit in script.edits for action in edit.actions or []}
+    check(kinds <= BUILT_ACTIONS, name)
+    return script, rules
 
 
 # ---- traces
@@ -209,42 +159,33 @@ def write_trace(frames, unit):
 # ---- the switch
 
 
-def rules_after(added):
-    """The rules that stand, oldest first. A rule takes the place of an older one with the same priority and match."""
-    rules = {}
-    for rule in added:
-        rules.pop(rule[:3], None)
-        rules[rule[:3]] = rule
-    return list(rules.values())
-
-
-def blocks_of(frames, added, syncs):
+def blocks_of(frames, script):
     """The blocks of a port: each but the last ends before the first frame that isn't before the next sync point."""
     blocks = []
-    for sync in syncs:
+    for sync in script.syncs:
         end = next((at for at, frame in enumerate(frames) if frame.time >= sync.time), len(frames))
         blocks.append(Block(frames[:end], sync.after))
         frames = frames[end:]
-    return [*blocks, Block(frames, len(added))]
+    return [*blocks, Block(frames, len(script.edits))]
 
 
 def outputs_of(rules, ports, frame):
-    """The ports that a frame goes out at, as often as its rule names them."""
-    dl_dst = frame.bytes[:6] if len(frame.bytes) >= ETHERNET_HEADER else bytes(6)
-    best = None
-    for rule in rules:
-        matches = rule.in_port in (None, frame.port) and rule.dl_dst in (None, dl_dst)
-        if matches and (best is None or rule.priority > best.priority):
-            best = rule
-    return [port for port in best.outputs if port in ports and port != frame.port] if best else []
+    """The ports that a frame goes out at, in order."""
+    rule = winner(rules, 0, packed(key_of(frame.port, frame.bytes)))
+    outputs = [port for action in (rule.actions if rule else []) for port in outputs_by(action, ports, frame.port)]
+    return outputs if len(outputs) <= MOST_DATAPATH_ACTIONS else []
 
 
-def sent_frames(blocks, added, ports):
+def outputs_by(action, ports, in_port):
+    others = [port for port in sorted(ports) if port != in_port]
+    if action.kind == "Output":
+        return [port for port in others if action.arguments == (port,)]
+    return [in_port] if action.kind == "InPort" else others
+
+
+def sent_frames(blocks, rules, ports):
     """What leaves by each port, in the order of time, ingress port, place and position in the actions."""
-    decided = []
-    for block in blocks:
-        rules = rules_after(added[: block.hi])
-        decided += [(frame, outputs_of(rules, ports, frame)) for frame in block.frames]
+    decided = [(frame, outputs_of(rules[block.hi], ports, frame)) for block in blocks for frame in block.frames]
     sent = {port: [] for port in ports}
     for frame, outputs in sorted(decided, key=lambda it: it[0][:3]):
         for port in outputs:
@@ -253,7 +194,7 @@ def sent_frames(blocks, added, ports):
 
 
 def journal_of(port, blocks):
-    """The lines of a port: a sweep where rules were added since the last one, each frame, and the next block."""
+    """The lines of a port: a sweep where edits were made since the last one, each frame, and the next block."""
     lines, done = [f"port {port}"], 0
     for number, block in enumerate(blocks):
         if number > 0:
@@ -277,12 +218,12 @@ def simulate(words, contents):
 
     try:
         edits, out, traces = read_words(words)
-        added, syncs = read_edits(read(edits), edits)
+        script, rules = read_edits(read(edits), edits)
         frames, unit = read_traces(traces, read)
     except Refused as refused:
         return Result(refused.args[0], refused.args[1] + "\n", [])
-    blocks = {port: blocks_of(frames[port], added, syncs) for port in traces}
-    sent = sent_frames([block for port in traces for block in blocks[port]], added, traces)
+    blocks = {port: blocks_of(frames[port], script) for port in traces}
+    sent = sent_frames([block for port in traces for block in blocks[port]], rules, traces)
     files = [(f"{out}.p{port}.pcap", write_trace(sent[port], unit)) for port in traces]
     journal = "".join(journal_of(port, blocks[port]) for port in traces)
     return Result(DONE, "", [*files, (f"{out}.journal", journal.encode())])
