@@ -1,0 +1,224 @@
+#!/usr/bin/env python3
+"""Compares how flow text is read and printed with `ovs-ofctl parse-flows` of Open vSwitch, which needs no daemon.
+
+    python3 parse_flows.py
+
+takes the lines of flow_lines.txt and those of the examples' files of edits, but for sync lines. Of each line it is
+compared whether it is accepted; where both accept it, what ovs-ofctl prints of it is read here and has to mean the
+same, and what is printed here of it, as a line of dumped rules, is read by ovs-ofctl and has to mean the same. What is
+printed here is printed by the simulation in examples/, as long as the program prints no rules.
+
+docs/OPEN_VSWITCH.md says where the two differ by intention. Each such difference is a kind below, with its reason. A
+line that differs otherwise is printed, as is a kind that no line shows, and the status is then 1.
+
+ovs-ofctl speaks OpenFlow 1.0 here, as it does by default, but for lines that this version has no actions for.
+"""
+import glob
+import os
+import re
+import subprocess
+import sys
+from collections import namedtuple
+from concurrent.futures import ThreadPoolExecutor
+
+sys.dont_write_bytecode = True
+HERE = os.path.dirname(os.path.abspath(__file__))
+EXAMPLES = os.path.join(HERE, "..", "examples")
+sys.path.insert(0, EXAMPLES)
+from flow_fields import TAG, full
+from flow_text import DELETES, WORDS, OverLimit, TextFault, print_actions, print_match, read_script
+
+# OpenFlow 1.0 has no masks of set_field, no tags to push and no goto_table.
+NEEDS_NEWER = re.compile("set_field|push_vlan|goto_table")
+OLD, NEW = "OpenFlow10", "OpenFlow15"
+
+MOD = re.compile(r"\w+ (?:\(OF1\.5\) )?\(xid=0x[0-9a-f]+\): ADD ?(.*)")
+
+# A kind of difference: the lines that have it, or the faults here, and the reason.
+Kind = namedtuple("Kind", "pattern reason")
+
+ACCEPTED_THERE = [
+    Kind("^repeated", "bits, shorthands and numbers may be stated again there, and the last stands"),
+    Kind("^unsupported", "fields and actions that are left out here, or aren't written"),
+    Kind("^actions 64", "no limit of 64 actions"),
+    Kind("^bad value: .*in_port=(0|65280|LOCAL),", "ports that are none, and names of ports"),
+    Kind("^bad value: .*(reg0=010|/08|=010\\.0|,01\\)|=02$)", "leading zeros; of a number they mean octal there"),
+    Kind("^bad value: .*dl_dst=(\\*|002)", "any number of digits in a group, and * for anything"),
+    Kind("^bad value: .*(vlan_vid=8192|vlan_pcp=8|dl_vlan=4096|arp_op=256|\\.256)", "cut to the field there"),
+    Kind("^bad value: .*(nw_tos=3|ip_dscp=64|nw_ecn=4),", "cut to the field there"),
+    Kind("^bad value: .*table=255", "no table there"),
+    Kind("^bad value: .*goto_table:255", "the last table there; the switch refuses it"),
+    Kind("^bad value: actions=0$", "a port that is none"),
+    Kind("^bad value: .*resubmit\\(, 1\\)", "white space in brackets"),
+    Kind("^bad value: .*ICMP_TYPE\\[\\]->.*\\[0\\.\\.7\\]", "types and codes have 8 bits in slices there, here the 16 of the port"),
+    Kind("^syntax: (reg0|reg0=),", "a field without a value states nothing there"),
+    Kind("^syntax: ip=", "a value of a shorthand isn't looked at there"),
+    Kind("^syntax: .*(\\(1\\)|\\(2\\)|:1|\\(\\)|=100\\))$", "values of words, and more forms of output and goto_table"),
+    Kind("^syntax: .*drop drop", "drop may stand beside itself there"),
+    Kind("^syntax: .*resubmit\\(,1$", "brackets need not close there"),
+    Kind("^unknown name: (ip4|eth|ip,nw_frag)", "further names of shorthands and fields"),
+    Kind("^unknown name: .*tp_src\\[", "slices in matches"),
+    Kind("^unknown name: .*(Flood|DROP|output=2|table$)", "names in any case, = for a colon, and the action table"),
+    Kind("^unknown name: .*(check_pkt_larger)", "actions that this profile doesn't name"),
+    Kind("^unknown name: .*->OXM_OF_(ETH_SRC|TCP_DST)", "OXM names beside the NXM ones"),
+]
+ACCEPTED_HERE = [
+    Kind("^[^:]*[NO]XM_.*=.*,action|->NXM_NX_REG0$", "names in capitals stand in slices alone there"),
+    Kind("(in_port|table)=0x|output:0x|\\(,0x", "no hexadecimal numbers of ports and tables there"),
+    Kind("ipv6_dst=.*/0:", "a mask that begins with a decimal digit is taken for a length there"),
+    Kind("table=.*goto_table", "a later table alone there"),
+    Kind("udp.*tp_(src|dst)", "tp_src and tp_dst in actions are those of TCP there"),
+    Kind("^(ip,)?actions=(set_field:[0-9.]+->(tcp_dst|nw_src)|mod_(nw_src|tp_dst):.*)$", "what a write needs has to be matched there"),
+    Kind("(set_field|mod_nw_tos):3(->nw_tos)?$", "a TOS with ECN bits; here they are left alone"),
+    Kind("VLAN_VID\\[\\]", "vlan_vid has 12 bits in slices there, here 13"),
+    Kind("icmp_type\\[\\]->reg0\\[0\\.\\.15\\]|arp_op\\[\\]->reg0\\[0\\.\\.7\\]", "slices are as wide as the field there, here as the key's"),
+    Kind("set_field:(5/3|0x1005/0xfff)->", "bits of the value outside the mask are refused by the switch there"),
+    Kind("load:5->OXM_OF_VLAN_VID", "the switch refuses a VLAN that is set without its tag bit"),
+]
+READ_OTHERWISE = [
+    Kind("^reg0=1/1,reg0=2/2", "the last of two masks stands there"),
+    Kind("^vlan_vid=[05],", "without bit 0x1000 it means no tag by OpenFlow 1.0; here and by newer versions no frame"),
+    Kind("^(tcp,udp|udp,tcp|tcp,icmp|icmp,tp|icmp,icmpv6|ip,arp)_", "a name of another protocol stands for the same field there; here it is dropped"),
+    Kind("^cookie=0xffffffffffffffff", "this cookie means none there"),
+    Kind("dl_type=0x8847", "its word is printed there"),
+    Kind("set_field:0/0->", "a set_field of no bits, which is printed as ANY there"),
+    Kind("push_vlan:.*mod_vlan_vid", "printed as set_field there by newer versions"),
+    Kind("move:OXM_OF_VLAN_VID\\[0", "vlan_vid has 12 bits in slices there, and is printed without bounds"),
+]
+PRINT_REFUSED = [
+    Kind("^ipv6.*/::", "a mask of IPv6 is printed with all groups here, and taken for a length there"),
+    Kind("^ipv6,actions=load:1->NXM_NX_IPV6_SRC", "the same"),
+    Kind("^udp6?,actions=mod_tp_", "printed as set_field of tp_src or tp_dst here, which are those of TCP there"),
+]
+
+
+# ---- lines
+
+
+def table_lines():
+    with open(os.path.join(HERE, "flow_lines.txt")) as file:
+        lines = [line.rstrip("\n").replace("\\t", "\t") for line in file]
+    return [line for line in lines if line and not line.startswith("#")]
+
+
+def example_lines():
+    """The flows of the examples without their words. What is deleted is compared as what is dropped."""
+    for name in sorted(glob.glob(os.path.join(EXAMPLES, "*", "edits"))):
+        with open(name) as file:
+            for line in map(str.strip, file):
+                word, _, rest = line.partition(" ")
+                if line and not line.startswith("#") and word != "sync":
+                    flow = rest if word in WORDS else line
+                    yield flow + ",actions=drop" if word in DELETES else flow
+
+
+def read_here(line):
+    """The edit of a line, or the fault or limit."""
+    try:
+        return read_script(line.encode()).edits[0]
+    except TextFault as fault:
+        return fault.reason
+    except OverLimit as over:
+        return f"{over.quantity} {over.most}"
+
+
+def print_here(edit):
+    """The edit as a line of dumped rules."""
+    head = f"cookie={edit.cookie or 0:#x}, table={edit.table or 0}, n_packets=0, n_bytes=0, priority={edit.priority}"
+    match = print_match(edit.matching)
+    return f"{head}{',' if match else ''}{match} actions={print_actions(edit.actions)} # rule=1"
+
+
+def read_there(line, version):
+    """What ovs-ofctl prints of a line, or None where it refuses it, or the switch would."""
+    words = ["ovs-ofctl", "-O", version, "parse-flows", "-"]
+    ran = subprocess.run(words, input=line.encode() + b"\n", capture_output=True)
+    found = MOD.fullmatch(ran.stdout.decode().rstrip("\n").split("\n")[-1])
+    return found[1] if ran.returncode == 0 and found else None
+
+
+# ---- meanings
+
+
+def as_read_here(text):
+    """What ovs-ofctl printed, in the names that are read here. Full masks of fields that have none are left out."""
+    text = re.sub(r" ?cookie:(0x[0-9a-f]+)", r" cookie=\1", text).replace("nw_frag=", "ip_frag=")
+    text = re.sub(r"\btable:", "table=", text)
+    return re.sub(r"/0x(?:3f(?=->ip_dscp)|3(?=->nw_ecn)|7(?=->vlan_pcp))", "", text)
+
+
+def meaning(edit):
+    """What an edit says of packets: the bits that are matched, written, moved and sent by."""
+    actions = [meaning_of(action) for action in edit.actions]
+    return edit.table or 0, edit.priority, edit.cookie or 0, edit.matching, actions
+
+
+def meaning_of(action):
+    if action.kind == "Set":
+        field, value, mask = action.arguments
+        # A write to nw_tos leaves the two low bits.
+        mask = mask & ~3 if field.name == "nw_tos" else mask
+        return field.key, (value & mask) << field.low, mask << field.low
+    bits = [(it.field.key, it.field.low + it.low, it.field.low + it.high) for it in action.arguments if hasattr(it, "low")]
+    return action.kind, bits or action.arguments
+
+
+# ---- the comparison
+
+
+class Comparison:
+    """The differences that were found, and which kinds they showed."""
+
+    def __init__(self):
+        self.shown, self.wrong, self.agreed = set(), [], 0
+
+    def explain(self, kinds, text, line, what):
+        kind = next((it for it in kinds if re.search(it.pattern, text)), None)
+        self.shown.add(kind)
+        if kind is None:
+            self.wrong.append(f"{line}: {what}")
+
+    def compare(self, line):
+        here = read_here(line)
+        printed = "" if isinstance(here, str) else print_here(here)
+        version = NEW if NEEDS_NEWER.search(line + printed) else OLD
+        there = read_there(line, version)
+        if isinstance(here, str):
+            if there is not None:
+                self.explain(ACCEPTED_THERE, f"{here}: {line}", line, f"refused here ({here}), and there {there}")
+        elif there is None:
+            self.explain(ACCEPTED_HERE, line, line, "refused there")
+        else:
+            self.compare_meanings(line, here, there, read_there(printed, version))
+        self.agreed += isinstance(here, str) == (there is None)
+
+    def compare_meanings(self, line, here, there, again):
+        """What ovs-ofctl makes of the line, and of what is printed here, has to be what it means here."""
+        if not self.means(there, here):
+            self.explain(READ_OTHERWISE, line, line, f"there {there}")
+        if again is None:
+            self.explain(PRINT_REFUSED, line, line, f"{print_here(here)} is refused there")
+        elif not self.means(again, here):
+            self.explain(READ_OTHERWISE, line, line, f"{print_here(here)} is there {again}")
+
+    def means(self, printed_there, edit):
+        read = read_here(as_read_here(printed_there))
+        return not isinstance(read, str) and meaning(read) == meaning(edit)
+
+
+def main():
+    lines, comparison = [*table_lines(), *example_lines()], Comparison()
+    with ThreadPoolExecutor(os.cpu_count()) as pool:
+        list(pool.map(comparison.compare, lines))
+    for wrong in sorted(comparison.wrong):
+        print(wrong)
+    kinds = [*ACCEPTED_THERE, *ACCEPTED_HERE, *READ_OTHERWISE, *PRINT_REFUSED]
+    unseen = [kind for kind in kinds if kind not in comparison.shown]
+    for kind in unseen:
+        print(f"no line shows this difference: {kind.reason} ({kind.pattern})")
+    print(f"{len(lines)} lines, both accept or refuse {comparison.agreed}, {len(comparison.wrong)} differ without a reason")
+    return bool(comparison.wrong or unseen)
+
+
+if __name__ == "__main__":
+    sys.exit(main())
