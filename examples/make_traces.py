@@ -8,20 +8,26 @@ bytes come at each run: nothing is random, and no clock is read. The traces in t
 
 A trace is a classic capture file (pcap-savefile(5)) of Ethernet: little-endian and in microseconds, but for one that is
 big-endian and in nanoseconds. Its frames are real: padded to the 60 bytes that Ethernet asks for (IEEE 802.3, 3.2.7),
-with right lengths and checksums. The stations have addresses that are set aside for documentation (RFC 5737) and MAC
-addresses that anyone may give (IEEE 802, 8.4).
+with right lengths and checksums. The stations have addresses that are set aside for documentation (RFC 5737 and 3849)
+and MAC addresses that anyone may give (IEEE 802, 8.4).
 """
+import ipaddress
 import os
 import struct
 import sys
 
 ETHERTYPE_IPV4 = 0x0800
 ETHERTYPE_ARP = 0x0806
+ETHERTYPE_IPV6 = 0x86DD
+ETHERTYPES = {4: ETHERTYPE_IPV4, 6: ETHERTYPE_IPV6}
 PROTOCOL_ICMP = 1
 PROTOCOL_TCP = 6
+PROTOCOL_UDP = 17
+PROTOCOL_ICMPV6 = 58
 
 ECHO_REPLY = 0
 ECHO_REQUEST = 8
+NEIGHBOR_SOLICITATION = 135
 
 BROADCAST = "ff:ff:ff:ff:ff:ff"
 NO_MAC = "00:00:00:00:00:00"
@@ -38,7 +44,7 @@ def mac(text):
 
 
 def address(text):
-    return bytes(int(octet) for octet in text.split("."))
+    return ipaddress.ip_address(text).packed
 
 
 def checksum(data):
@@ -73,6 +79,25 @@ def ipv4(source, target, protocol, payload, identification):
     return start + struct.pack("!H", checksum(start + b"\0\0" + ends)) + ends + payload
 
 
+def ipv6(source, target, following, payload, hops=64):
+    """A packet of IPv6 without extension headers (RFC 8200)."""
+    start = struct.pack("!IHBB", 0x60000000, len(payload), following, hops)
+    return start + address(source) + address(target) + payload
+
+
+def packet(source, target, protocol, payload, identification):
+    """A packet of the version that its addresses have."""
+    if ipaddress.ip_address(source).version == 6:
+        return ipv6(source, target, protocol, payload)
+    return ipv4(source, target, protocol, payload, identification)
+
+
+def pseudo_header(source, target, protocol, length):
+    """What stands for the addresses in checksums of the transport (RFC 9293, 3.1; RFC 8200, 8.1)."""
+    ends = address(source) + address(target)
+    return ends + (struct.pack("!BBH", 0, protocol, length) if len(ends) == 8 else struct.pack("!II", length, protocol))
+
+
 def icmp_echo(kind, identifier, sequence):
     """An echo request or reply of ICMP (RFC 792) with the 56 bytes of data that ping sends."""
     rest = struct.pack("!HH", identifier, sequence) + bytes(range(56))
@@ -88,8 +113,32 @@ def tcp_syn(source, target, source_port, target_port, sequence, time):
     options = maximum_segment_size + sack_permitted + timestamps + window_scale
     length = 20 + len(options)
     start = struct.pack("!HHIIBBH", source_port, target_port, sequence, 0, length // 4 << 4, 0x02, 64240)
-    pseudo_header = address(source) + address(target) + struct.pack("!BBH", 0, PROTOCOL_TCP, length)
-    return start + struct.pack("!HH", checksum(pseudo_header + start + b"\0\0\0\0" + options), 0) + options
+    ends = pseudo_header(source, target, PROTOCOL_TCP, length)
+    return start + struct.pack("!HH", checksum(ends + start + b"\0\0\0\0" + options), 0) + options
+
+
+def udp(source, target, source_port, target_port, data):
+    """A datagram of UDP (RFC 768)."""
+    start = struct.pack("!HHH", source_port, target_port, 8 + len(data))
+    ends = pseudo_header(source, target, PROTOCOL_UDP, 8 + len(data))
+    return start + struct.pack("!H", checksum(ends + start + b"\0\0" + data) or 0xFFFF) + data
+
+
+def dns_query(identifier, name):
+    """A question for the address of a name (RFC 1035, 4.1)."""
+    labels = b"".join(struct.pack("!B", len(label)) + label.encode() for label in name.split("."))
+    return struct.pack("!HHHHHH", identifier, 0x0100, 1, 0, 0, 0) + labels + struct.pack("!BHH", 0, 1, 1)
+
+
+def neighbor_solicitation(source_mac, source, target):
+    """A frame that asks for the MAC address of an IPv6 address (RFC 4861, 4.3), sent to its group (RFC 2464, 7)."""
+    group = ipaddress.ip_address(address("ff02::1:ff00:0")[:13] + address(target)[13:]).compressed
+    start = struct.pack("!BBH", NEIGHBOR_SOLICITATION, 0, 0)
+    rest = bytes(4) + address(target) + b"\x01\x01" + mac(source_mac)
+    ends = pseudo_header(source, group, PROTOCOL_ICMPV6, len(start + rest))
+    message = start[:2] + struct.pack("!H", checksum(ends + start + rest)) + rest
+    group_mac = "33:33:" + ":".join(f"{octet:02x}" for octet in address(group)[12:])
+    return ethernet(group_mac, source_mac, ETHERTYPE_IPV6, ipv6(source, group, PROTOCOL_ICMPV6, message, hops=255))
 
 
 def spanning_tree(source, bridge_priority):
@@ -145,7 +194,13 @@ def ping(source, target, identification, sequence, kind=ECHO_REQUEST):
 def connect(source, via, target, ports, identification, sequence, time):
     """A segment that opens a connection to an address, sent to the station that it goes by."""
     segment = tcp_syn(source[1], target, ports[0], ports[1], sequence, time)
-    return ethernet(via[0], source[0], ETHERTYPE_IPV4, ipv4(source[1], target, PROTOCOL_TCP, segment, identification))
+    return routed(source[1], via[0], source[0], target, PROTOCOL_TCP, segment, identification)
+
+
+def routed(source, via_mac, source_mac, target, protocol, payload, identification):
+    """A packet between two addresses, sent from the one station to the other that it goes by."""
+    ethertype = ETHERTYPES[ipaddress.ip_address(source).version]
+    return ethernet(via_mac, source_mac, ethertype, packet(source, target, protocol, payload, identification))
 
 
 # ---- first-switch
@@ -204,8 +259,111 @@ def replies():
     )
 
 
+# ---- access-list
+
+SITE = ("02:00:00:00:00:50", "192.0.2.80")
+SITE_ADDRESS_6 = "2001:db8:1::80"
+DESK_ADDRESS_6 = "2001:db8:1::a"
+ROUTER, ROUTER_ADDRESS_6 = "02:00:00:00:00:01", "2001:db8:1::1"
+RESOLVER = "198.51.100.53"
+
+
+def knock(source, target, port, number):
+    """A segment from outside that opens a connection to the site, by the router."""
+    segment = tcp_syn(source, target, 50000 + number, port, 0x10000000 + number, number)
+    return routed(source, SITE[0], ROUTER, target, PROTOCOL_TCP, segment, 0x5000 + number)
+
+
+def outside():
+    """What comes from the router: who wants to the web site, and who would like more."""
+    knocks = [
+        (100000, "198.51.100.7", SITE[1], 443),
+        (200000, "198.51.100.7", SITE[1], 22),
+        (300000, "192.0.2.10", SITE[1], 443),
+        (400000, "203.0.113.5", SITE[1], 443),
+        (500000, "203.0.113.7", SITE[1], 443),
+        (600000, "2001:db8:7::7", SITE_ADDRESS_6, 443),
+        (700000, "2001:db8:bad:1::1", SITE_ADDRESS_6, 443),
+        (800000, "2001:db8:7::7", SITE_ADDRESS_6, 22),
+        (5100000, "198.51.100.7", SITE[1], 443),
+        (5200000, "203.0.113.7", SITE[1], 443),
+        (5300000, "2001:db8:7::7", SITE_ADDRESS_6, 443),
+    ]
+    asked = [
+        (0, ethernet(BROADCAST, ROUTER, ETHERTYPE_ARP, arp(1, ROUTER, GATEWAY[1], NO_MAC, SITE[1]))),
+        (1000, neighbor_solicitation(ROUTER, ROUTER_ADDRESS_6, SITE_ADDRESS_6)),
+    ]
+    frames = [(after, knock(source, target, port, number)) for number, (after, source, target, port) in enumerate(knocks)]
+    return trace((MORNING + after, frame) for after, frame in [*asked, *frames])
+
+
+def inside():
+    """What comes from the office: its questions, and one packet with an address of somebody else."""
+    query = dns_query(0x2A2A, "www.example.com")
+    question = udp(DESK[1], RESOLVER, 40053, 53, query)
+    forged = udp("203.0.113.99", RESOLVER, 40053, 53, query)
+    segment = tcp_syn(DESK_ADDRESS_6, "2001:db8:7::7", 40006, 443, 0x66666666, 6)
+    return trace(
+        (MORNING + after, frame)
+        for after, frame in [
+            (50000, routed(DESK[1], ROUTER, DESK[0], RESOLVER, PROTOCOL_UDP, question, 0x6001)),
+            (60000, routed("203.0.113.99", ROUTER, DESK[0], RESOLVER, PROTOCOL_UDP, forged, 0x6002)),
+            (70000, neighbor_solicitation(DESK[0], DESK_ADDRESS_6, ROUTER_ADDRESS_6)),
+            (80000, routed(DESK_ADDRESS_6, ROUTER, DESK[0], "2001:db8:7::7", PROTOCOL_TCP, segment, 0)),
+        ]
+    )
+
+
+# ---- flood-bridge
+
+LLDP_GROUP = "01:80:c2:00:00:0e"
+ETHERTYPE_LLDP = 0x88CC
+
+
+def hello(source):
+    """A frame of the link layer discovery protocol (IEEE 802.1AB, 8.2): chassis, port and time to live."""
+    chassis = struct.pack("!HB", 1 << 9 | 7, 4) + mac(source)
+    port = struct.pack("!HB", 2 << 9 | 7, 3) + mac(source)
+    return ethernet(LLDP_GROUP, source, ETHERTYPE_LLDP, chassis + port + struct.pack("!HHH", 3 << 9 | 2, 120, 0))
+
+
+def room_a():
+    """What comes from the first room: a desk asks for the printer, and prints; it tries an address that nobody has."""
+    ask = arp(1, *DESK, NO_MAC, PRINTER[1])
+    return trace(
+        (MORNING + after, frame)
+        for after, frame in [
+            (0, ethernet(BROADCAST, DESK[0], ETHERTYPE_ARP, ask)),
+            (100000, connect(DESK, PRINTER, PRINTER[1], (40000, 9100), 0x1002, 0x11223344, 5000)),
+            (200000, ping(DESK, STRANGER, 0x1003, 1)),
+            (300000, hello(DESK_SWITCH)),
+            (400000, neighbor_solicitation(DESK[0], DESK_ADDRESS_6, ROUTER_ADDRESS_6)),
+            (10100000, connect(DESK, PRINTER, PRINTER[1], (40001, 9100), 0x1004, 0x11223355, 5100)),
+        ]
+    )
+
+
+def access_point():
+    """What comes from the access point: two stations behind it talk to each other, and one to the printer."""
+    old_printer = ("02:00:00:00:00:33", PRINTER[1])
+    return trace(
+        (MORNING + after, frame)
+        for after, frame in [
+            (150000, ping(OTHER_DESK, STRANGER, 0x2001, 1)),
+            (160000, ping(STRANGER, OTHER_DESK, 0x2002, 1, ECHO_REPLY)),
+            (170000, connect(OTHER_DESK, old_printer, PRINTER[1], (40002, 9100), 0x2003, 0x22334455, 5200)),
+            (10200000, connect(OTHER_DESK, PRINTER, PRINTER[1], (40003, 9100), 0x2004, 0x22334466, 5300)),
+            (10300000, connect(OTHER_DESK, old_printer, PRINTER[1], (40004, 9100), 0x2005, 0x22334477, 5400)),
+        ]
+    )
+
+
 TRACES = {
+    "access-list/outside.pcap": outside,
+    "access-list/inside.pcap": inside,
     "first-switch/desks.pcap": office,
+    "flood-bridge/access-point.pcap": access_point,
+    "flood-bridge/room-a.pcap": room_a,
     "rule-change/desk.pcap": pings,
     "rule-change/rack-a.pcap": old_place,
     "two-captures/desk.pcap": pings,
