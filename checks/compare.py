@@ -1,7 +1,9 @@
 #!/usr/bin/env python3
 """Compares the program with examples/simulate.py on made-up runs, some of them out of form.
 
-Their traces are of all four formats, mixed in a run: both orders of bytes, microseconds and nanoseconds.
+Their traces are of all four formats, mixed in a run: both orders of bytes, microseconds and nanoseconds. Their rules
+match bits of frames that are in the traces, among them those of vectors/, by fields of all kinds, and are modified and
+deleted in all ways.
 
     python3 compare.py PROGRAM ROUNDS
 
@@ -18,7 +20,12 @@ import tempfile
 from collections import namedtuple
 
 sys.dont_write_bytecode = True
-sys.path.insert(0, os.path.join(os.path.dirname(os.path.abspath(__file__)), "..", "examples"))
+TOP = os.path.join(os.path.dirname(os.path.abspath(__file__)), "..")
+sys.path[:0] = [os.path.join(TOP, "examples"), os.path.join(TOP, "vectors")]
+from flow_fields import KEY_FIELD, NAMED_FIELDS, full, packed
+from flow_text import Match, print_match
+from frame_key import key_of
+from frames import ALL_FRAMES
 from simulate import simulate
 
 PORTS = [1, 2, 3, 9, 40, 65279]
@@ -26,8 +33,15 @@ ADDRESSES = ["0:0:0:0:0:0", "00:00:00:00:00:02", "02:00:00:00:00:0a", "2:0:0:0:0
 BAD_ADDRESSES = ["", "02:00:00:00:00", "02:00:00:00:00:0a:0b", "002:0:0:0:0:0", "02-00-00-00-00-0a", "g:0:0:0:0:0"]
 PRIORITIES = ["0", "5", "0x5", "0x0005", "32768", "65535", "0xFFFF"]
 BAD_NUMBERS = ["", "00", "05", "65536", "0x", "0X5", "-1", "+1", "1e1", "5 ", "99999999999999999999"]
-ODD_LINES = ["", " ", "\t \r", "add", "add ", "actions", "actions=", "in_port=1", "# none", "table=0,actions=1"]
+ODD_LINES = ["", " ", "\t \r", "add", "add ", "actions", "actions=", "in_port=1", "# none", "delete actions=1", "ip,tcp,actions=1"]
 ODD_OUTPUTS = [["drop", "1"], ["drop "], ["0"], ["65280"], [""], ["1", ""], ["output:"], ["1"] * 64, ["1"] * 65]
+ODD_OUTPUTS += [["dec_ttl", "1"], ["resubmit(,1)"], ["load:1->reg0[]"], ["normal"], ["all"] * 64, ["flood"] * 33]
+WORDS = ["modify", "modify_strict", "delete", "delete_strict"]
+# The fields that may be matched in part, and those of the headers, which need a type and a protocol to be matched.
+MASKED = {field.key for field in NAMED_FIELDS if field.masked}
+ETHERNET = ("dl_src", "dl_dst", "vlan_tci")
+NETWORK = ("nw_src", "nw_dst", "ipv6_src", "ipv6_dst", "nw_tos", "nw_ttl", "ip_frag", "arp_sha", "arp_tha")
+TRANSPORT = ("tp_src", "tp_dst")
 ODD_WORDS = ["", "-", "--", "1", "=", "0=", "01=", "65280=", "1=", "1=a.pcap", "1=none", "none"]
 TRACES = ["a.pcap", "b.pcap", "c.pcap"]
 FRAME_LENGTHS = [0, 6, 13, 14, 60, 61, 200]
@@ -83,6 +97,9 @@ class Maker:
         port = self.one(*self.ports[1:], *self.ports[1:], *PORTS)
         return self.one(f"{port}", f"0x{port:x}", f"output:{port}", f"output:0x00{port:X}")
 
+    def output(self):
+        return self.one("in_port", "all", "FLOOD", "output:IN_PORT") if self.chance(0.2) else self.port()
+
     def item(self):
         name, good, bad = self.one(
             ("priority", PRIORITIES, BAD_NUMBERS),
@@ -91,7 +108,26 @@ class Maker:
         )
         return f"{name}={self.one(*(bad if self.rarely() else good))}"
 
+    def bits(self, name, key):
+        """All bits of a field, or where it has masks perhaps some: a prefix, or any."""
+        width = KEY_FIELD[name].width
+        is_whole = name not in MASKED or (name in TRANSPORT and key.get("nw_proto") in (1, 58)) or self.chance(0.6)
+        prefix = full(width) & ~full(self.pick.randrange(width))
+        return full(width) if is_whole else self.one(prefix, prefix, self.pick.getrandbits(width) or 1)
+
+    def match(self):
+        """Some bits of a frame, with the type and the protocol where they are needed."""
+        key = key_of(self.one(*self.ports), self.one(*ALL_FRAMES).bytes)
+        names = self.pick.sample([*ETHERNET, *NETWORK, *TRANSPORT], self.pick.randrange(4))
+        names += ["dl_type"] * any(name in NETWORK + TRANSPORT for name in names)
+        names += ["nw_proto"] * any(name in TRANSPORT for name in names)
+        mask = {name: self.bits(name, key) for name in names if name in key}
+        return print_match(Match(packed(key) & packed(mask), packed(mask)))
+
     def items(self):
+        """Items with their commas: a few of three names, or a priority and bits of a frame."""
+        if self.chance(0.5):
+            return "".join(it + "," for it in [f"priority={self.one(*PRIORITIES)}", self.match()] if it)
         return "".join(it + "," for it in {it.partition("=")[0]: it for it in self.some_items()}.values())
 
     def some_items(self):
@@ -100,17 +136,20 @@ class Maker:
     def line(self, items):
         if self.rarely():
             return self.one(*ODD_LINES)
-        outputs = ["drop"] if self.chance(0.2) else [self.port() for _ in range(self.pick.randrange(1, 5))]
+        outputs = ["drop"] if self.chance(0.2) else [self.output() for _ in range(self.pick.randrange(1, 5))]
         if self.rarely():
             outputs = self.one(*ODD_OUTPUTS)
-        line = self.one("", "add ") + items + "actions=" + ",".join(outputs)
-        if self.rarely():
+        word = self.one(*WORDS) if self.chance(0.2) else self.one("", "add")
+        table = f"table={self.one(0, 0, 0, 1, 254)}," if self.chance(0.2) else ""
+        actions = "" if word.startswith("delete") else "actions=" + ",".join(outputs)
+        line = f"{word} {table}{items}{actions}".lstrip()
+        if self.rarely() and line:
             at = self.pick.randrange(len(line))
             line = line[:at] + self.one("", ",", " ", "=", "x", line[at] * 2) + line[at + 1 :]
         return line
 
     def rules(self):
-        """Lines that add rules. Some have the items of one before, whose place they take."""
+        """Lines that edit rules. Some have the items of one before, whose rule they replace, modify or delete."""
         items = []
         for _ in range(self.pick.randrange(13)):
             items.append(self.one(*items) if items and self.chance(0.3) else self.items())
@@ -141,6 +180,8 @@ class Maker:
         return ("\n".join(lines) + self.one("", "\n")).encode()
 
     def frame(self):
+        if self.chance(0.5):
+            return self.one(*ALL_FRAMES).bytes
         octets = self.one(*ADDRESSES).split(":")
         body = bytes(int(it, 16) for it in octets) + bytes(self.pick.randrange(256) for _ in range(8))
         return body.ljust(200, b"\x5a")[: self.one(*FRAME_LENGTHS)]
