@@ -72,7 +72,7 @@ def made_lines(count, seed):
     pick, lines = random.Random(seed), good_lines()
     for _ in range(count):
         line = with_word(pick, pick.choice(lines))
-        for _ in range(pick.choice([1, 1, 2, 3])):
+        for _ in range(pick.choice([1, 1, 1, 2, 3])):
             line = mutated(pick, line) or b" "
         yield line
 
