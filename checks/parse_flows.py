@@ -77,7 +77,7 @@ ACCEPTED_HERE = [
 ]
 READ_OTHERWISE = [
     Kind("^reg0=1/1,reg0=2/2", "the last of two masks stands there"),
-    Kind("^vlan_vid=[05],", "without bit 0x1000 it means no tag by OpenFlow 1.0; here and by newer versions no frame"),
+    Kind("^vlan_vid=[05],", "without bit 0x1000 it means no tag by OpenFlow 1.0; here and from 1.2 on no frame"),
     Kind("^(tcp,udp|udp,tcp|tcp,icmp|icmp,tp|icmp,icmpv6|ip,arp)_", "a name of another protocol stands for the same field there; here it is dropped"),
     Kind("^cookie=0xffffffffffffffff", "this cookie means none there"),
     Kind("dl_type=0x8847", "its word is printed there"),

@@ -1,7 +1,7 @@
 """The fields of keys and of flow text: their names, widths, prerequisites, and the forms of their values.
 
 A key field is a part of a frame's key. A named field is what flow text calls bits of a key field, after ovs-fields(7):
-vlan_pcp for three bits of vlan_tci, tcp_dst for tp_dst. docs/FORMATS-flow-text.md has the tables in words.
+vlan_pcp for three bits of vlan_tci, tcp_dst for tp_dst. docs/FORMATS.md has the tables in words.
 """
 import re
 from collections import namedtuple
