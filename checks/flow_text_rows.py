@@ -17,7 +17,7 @@ import expected
 import make
 from flow_fields import packed
 from flow_rules import Rules
-from flow_text import OverLimit, TextFault, print_actions, print_match, read_script
+from flow_text import TextFault, print_actions, print_match, read_script
 from frame_key import key_of
 from frames import ALL_FRAMES
 from simulate import Frame, simulate, write_trace
@@ -191,7 +191,8 @@ def rows_of(table):
     for line in table.split("\n"):
         if line and not line.startswith("# "):
             name, text, *wanted = line.split("|")
-            yield name.strip(), text.strip(" ").encode().decode("unicode_escape").encode("latin-1"), [it.strip() for it in wanted]
+            data = text.strip(" ").encode().decode("unicode_escape").encode("latin-1")
+            yield name.strip(), data, [it.strip() for it in wanted]
 
 
 def fault_of(data):
@@ -207,7 +208,9 @@ def print_of(data):
     edit = read_script(data).edits[0]
     match, actions = print_match(edit.matching), print_actions(edit.actions)
     again = read_script(f"{match},actions=".encode()).edits[0]
-    return f"{match} {actions}".strip() if again.matching == edit.matching else f"{match} is read as {print_match(again.matching)}"
+    if again.matching != edit.matching:
+        return f"{match} is read as {print_match(again.matching)}"
+    return f"{match} {actions}".strip()
 
 
 def version_of(data):

@@ -1,5 +1,5 @@
 #!/usr/bin/env python3
-"""Compares the program with the simulation on lines of flow text in which bytes and items were changed, dropped or doubled.
+"""Compares the program with the simulation on lines of flow text with bytes and items changed, dropped or doubled.
 
     python3 mutations.py PROGRAM COUNT [SEED]
 

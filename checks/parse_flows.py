@@ -25,8 +25,7 @@ sys.dont_write_bytecode = True
 HERE = os.path.dirname(os.path.abspath(__file__))
 EXAMPLES = os.path.join(HERE, "..", "examples")
 sys.path.insert(0, EXAMPLES)
-from flow_fields import TAG, full
-from flow_text import DELETES, WORDS, OverLimit, TextFault, print_actions, print_match, read_script
+from flow_text import DELETES, WORDS, OverLimit, Slice, TextFault, print_actions, print_match, read_script
 
 # OpenFlow 1.0 has no masks of set_field, no tags to push and no goto_table.
 NEEDS_NEWER = re.compile("set_field|push_vlan|goto_table")
@@ -42,48 +41,48 @@ ACCEPTED_THERE = [
     Kind("^unsupported", "fields and actions that are left out here, or aren't written"),
     Kind("^actions 64", "no limit of 64 actions"),
     Kind("^bad value: .*in_port=(0|65280|LOCAL),", "ports that are none, and names of ports"),
-    Kind("^bad value: .*(reg0=010|/08|=010\\.0|,01\\)|=02$)", "leading zeros; of a number they mean octal there"),
-    Kind("^bad value: .*dl_dst=(\\*|002)", "any number of digits in a group, and * for anything"),
-    Kind("^bad value: .*(vlan_vid=8192|vlan_pcp=8|dl_vlan=4096|arp_op=256|\\.256)", "cut to the field there"),
+    Kind(r"^bad value: .*(reg0=010|/08|=010\.0|,01\)|=02$)", "leading zeros; of a number they mean octal there"),
+    Kind(r"^bad value: .*dl_dst=(\*|002)", "any number of digits in a group, and * for anything"),
+    Kind(r"^bad value: .*(vlan_vid=8192|vlan_pcp=8|dl_vlan=4096|arp_op=256|\.256)", "cut to the field there"),
     Kind("^bad value: .*(nw_tos=3|ip_dscp=64|nw_ecn=4),", "cut to the field there"),
     Kind("^bad value: .*table=255", "no table there"),
     Kind("^bad value: .*goto_table:255", "the last table there; the switch refuses it"),
     Kind("^bad value: actions=0$", "a port that is none"),
-    Kind("^bad value: .*resubmit\\(, 1\\)", "white space in brackets"),
-    Kind("^bad value: .*ICMP_TYPE\\[\\]->.*\\[0\\.\\.7\\]", "types and codes have 8 bits in slices there, here the 16 of the port"),
+    Kind(r"^bad value: .*resubmit\(, 1\)", "white space in brackets"),
+    Kind(r"^bad value: .*ICMP_TYPE\[\]->.*\[0\.\.7\]", "types and codes have 8 bits in slices there, here 16"),
     Kind("^syntax: (reg0|reg0=),", "a field without a value states nothing there"),
     Kind("^syntax: ip=", "a value of a shorthand isn't looked at there"),
-    Kind("^syntax: .*(\\(1\\)|\\(2\\)|:1|\\(\\)|=100\\))$", "values of words, and more forms of output and goto_table"),
+    Kind(r"^syntax: .*(\(1\)|\(2\)|:1|\(\)|=100\))$", "values of words, and more forms of output and goto_table"),
     Kind("^syntax: .*drop drop", "drop may stand beside itself there"),
-    Kind("^syntax: .*resubmit\\(,1$", "brackets need not close there"),
+    Kind(r"^syntax: .*resubmit\(,1$", "brackets need not close there"),
     Kind("^unknown name: (ip4|eth|ip,nw_frag)", "further names of shorthands and fields"),
-    Kind("^unknown name: .*tp_src\\[", "slices in matches"),
+    Kind(r"^unknown name: .*tp_src\[", "slices in matches"),
     Kind("^unknown name: .*(Flood|DROP|output=2|table$)", "names in any case, = for a colon, and the action table"),
     Kind("^unknown name: .*(check_pkt_larger)", "actions that this profile doesn't name"),
     Kind("^unknown name: .*->OXM_OF_(ETH_SRC|TCP_DST)", "OXM names beside the NXM ones"),
 ]
 ACCEPTED_HERE = [
     Kind("^[^:]*[NO]XM_.*=.*,action|->NXM_NX_REG0$", "names in capitals stand in slices alone there"),
-    Kind("(in_port|table)=0x|output:0x|\\(,0x", "no hexadecimal numbers of ports and tables there"),
+    Kind(r"(in_port|table)=0x|output:0x|\(,0x", "no hexadecimal numbers of ports and tables there"),
     Kind("ipv6_dst=.*/0:", "a mask that begins with a decimal digit is taken for a length there"),
     Kind("table=.*goto_table", "a later table alone there"),
     Kind("udp.*tp_(src|dst)", "tp_src and tp_dst in actions are those of TCP there"),
-    Kind("^(ip,)?actions=(set_field:[0-9.]+->(tcp_dst|nw_src)|mod_(nw_src|tp_dst):.*)$", "what a write needs has to be matched there"),
+    Kind("^(ip,)?actions=(set_field:[0-9.]+->(tcp_dst|nw_src)|mod_(nw_src|tp_dst):.*)$", "what a write needs is asked for"),
     Kind("(set_field|mod_nw_tos):3(->nw_tos)?$", "a TOS with ECN bits; here they are left alone"),
-    Kind("VLAN_VID\\[\\]", "vlan_vid has 12 bits in slices there, here 13"),
-    Kind("icmp_type\\[\\]->reg0\\[0\\.\\.15\\]|arp_op\\[\\]->reg0\\[0\\.\\.7\\]", "slices are as wide as the field there, here as the key's"),
+    Kind(r"VLAN_VID\[\]", "vlan_vid has 12 bits in slices there, here 13"),
+    Kind(r"icmp_type\[\]->.*\.15\]|arp_op\[\]->.*\.7\]", "slices are as wide as the field there, here as the key's"),
     Kind("set_field:(5/3|0x1005/0xfff)->", "bits of the value outside the mask are refused by the switch there"),
     Kind("load:5->OXM_OF_VLAN_VID", "the switch refuses a VLAN that is set without its tag bit"),
 ]
 READ_OTHERWISE = [
     Kind("^reg0=1/1,reg0=2/2", "the last of two masks stands there"),
     Kind("^vlan_vid=[05],", "without bit 0x1000 it means no tag by OpenFlow 1.0; here and from 1.2 on no frame"),
-    Kind("^(tcp,udp|udp,tcp|tcp,icmp|icmp,tp|icmp,icmpv6|ip,arp)_", "a name of another protocol stands for the same field there; here it is dropped"),
+    Kind("^(tcp,udp|udp,tcp|tcp,icmp|icmp,tp|icmp,icmpv6|ip,arp)_", "names of another protocol stand for the field there"),
     Kind("^cookie=0xffffffffffffffff", "this cookie means none there"),
     Kind("dl_type=0x8847", "its word is printed there"),
     Kind("set_field:0/0->", "a set_field of no bits, which is printed as ANY there"),
     Kind("push_vlan:.*mod_vlan_vid", "printed as set_field there by newer versions"),
-    Kind("move:OXM_OF_VLAN_VID\\[0", "vlan_vid has 12 bits in slices there, and is printed without bounds"),
+    Kind(r"move:OXM_OF_VLAN_VID\[0", "vlan_vid has 12 bits in slices there, and is printed without bounds"),
 ]
 PRINT_REFUSED = [
     Kind("^ipv6.*/::", "a mask of IPv6 is printed with all groups here, and taken for a length there"),
@@ -159,7 +158,8 @@ def meaning_of(action):
         # A write to nw_tos leaves the two low bits.
         mask = mask & ~3 if field.name == "nw_tos" else mask
         return field.key, (value & mask) << field.low, mask << field.low
-    bits = [(it.field.key, it.field.low + it.low, it.field.low + it.high) for it in action.arguments if hasattr(it, "low")]
+    slices = [it for it in action.arguments if isinstance(it, Slice)]
+    bits = [(it.field.key, it.field.low + it.low, it.field.low + it.high) for it in slices]
     return action.kind, bits or action.arguments
 
 
@@ -216,7 +216,8 @@ def main():
     unseen = [kind for kind in kinds if kind not in comparison.shown]
     for kind in unseen:
         print(f"no line shows this difference: {kind.reason} ({kind.pattern})")
-    print(f"{len(lines)} lines, both accept or refuse {comparison.agreed}, {len(comparison.wrong)} differ without a reason")
+    agreed, wrong = comparison.agreed, len(comparison.wrong)
+    print(f"{len(lines)} lines, both accept or refuse {agreed}, {wrong} differ without a reason")
     return bool(comparison.wrong or unseen)
 
 

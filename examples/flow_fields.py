@@ -6,8 +6,9 @@ vlan_pcp for three bits of vlan_tci, tcp_dst for tp_dst. docs/FORMATS.md has the
 import re
 from collections import namedtuple
 
-# The forms in which values are printed: decimal, hexadecimal, four digits of a type, and the rest by name.
-DECIMAL, HEXADECIMAL, TYPE, MAC, IPV4, IPV6, FRAGMENT = "decimal", "hexadecimal", "type", "mac", "ipv4", "ipv6", "fragment"
+# The forms in which values are printed: numbers, a type with its four digits, addresses, and words of fragments.
+DECIMAL, HEXADECIMAL, TYPE = "decimal", "hexadecimal", "type"
+MAC, IPV4, IPV6, FRAGMENT = "mac", "ipv4", "ipv6", "fragment"
 
 KeyField = namedtuple("KeyField", "name width form")
 
@@ -87,17 +88,19 @@ def is_stated(needs, dl_type, nw_proto):
     return not needs or (dl_type, None) in needs or (dl_type, nw_proto) in needs
 
 
-# A named field: bits of a key field from the bit `low` on, of which `width` are seen; the form of a value, the least and
-# the greatest number; whether a mask may stand, what a match has to state, and whether actions write it.
-NamedField = namedtuple("NamedField", "name others key low width form least most masked needs written")
+# A named field: its other names, and what a match has to state for it; the key field, the bit `low` from which on it
+# has `width` bits there, and the form of its values; the least and the greatest number; whether a mask may stand, and
+# whether actions write it.
+NamedField = namedtuple("NamedField", "name others needs key low width form least most masked written")
 
 
-def named(name, others, needs=(), *, key=None, low=0, width=None, form=None, least=0, most=None, masked=False, written=True):
-    """Where nothing else is said, all of the key field of the same name, in its form."""
+def named(name, others, needs=(), *, key=None, low=0, width=None, form=None, most=None, **rest):
+    """Where nothing else is said, all of the key field of the same name, in its form, without masks, and written."""
     whole = KEY_FIELD[key or name]
     width = width or whole.width
     most = full(width) if most is None else most
-    return NamedField(name, others.split(), whole.name, low, width, form or whole.form, least, most, masked, needs, written)
+    rest = {"least": 0, "masked": False, "written": True} | rest
+    return NamedField(name, others.split(), needs, whole.name, low, width, form or whole.form, most=most, **rest)
 
 
 def ports(prefix, others, needs, **rest):

@@ -326,7 +326,7 @@ def items_of(text, at):
 
 
 def open_after(text, at):
-    """For each place from one on, whether a bracket is open behind it. A bracket closes the last one, if it is its kind."""
+    """For each place from one on, whether a bracket is open behind it. One closes the last that is open, if of its kind."""
     closing = []
     for char in text[at:]:
         if char in "([":

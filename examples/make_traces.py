@@ -293,7 +293,7 @@ def outside():
         (0, ethernet(BROADCAST, ROUTER, ETHERTYPE_ARP, arp(1, ROUTER, GATEWAY[1], NO_MAC, SITE[1]))),
         (1000, neighbor_solicitation(ROUTER, ROUTER_ADDRESS_6, SITE_ADDRESS_6)),
     ]
-    frames = [(after, knock(source, target, port, number)) for number, (after, source, target, port) in enumerate(knocks)]
+    frames = [(after, knock(*who, number)) for number, (after, *who) in enumerate(knocks)]
     return trace((MORNING + after, frame) for after, frame in [*asked, *frames])
 
 
