@@ -15,11 +15,12 @@ HERE = os.path.dirname(os.path.abspath(__file__))
 sys.path[:0] = [os.path.join(HERE, "..", "examples"), os.path.join(HERE, "..", "vectors")]
 import expected
 import make
-from flow_fields import packed
+from flow_fields import TAG, full, packed
 from flow_rules import Rules
 from flow_text import TextFault, print_actions, print_match, read_script
 from frame_key import key_of
 from frames import ALL_FRAMES
+from mutations import good_lines
 from simulate import Frame, simulate, write_trace
 
 # What a row shows, a file of edits, and the line, column and reason of its first fault.
@@ -204,13 +205,24 @@ def fault_of(data):
 
 
 def print_of(data):
-    """The match and the actions of a line as printed, and the same of that print, which is to be read as it was."""
     edit = read_script(data).edits[0]
-    match, actions = print_match(edit.matching), print_actions(edit.actions)
-    again = read_script(f"{match},actions=".encode()).edits[0]
-    if again.matching != edit.matching:
-        return f"{match} is read as {print_match(again.matching)}"
-    return f"{match} {actions}".strip()
+    return f"{print_match(edit.matching)} {print_actions(edit.actions)}".strip()
+
+
+def is_respellable(action):
+    """Whether an action can be written in flow text as it is printed."""
+    if action.kind != "Set":
+        return True
+    field, value, mask = action.arguments
+    return (field.masked or mask == full(field.width)) and (field.name != "vlan_vid" or value & TAG)
+
+
+def reads_back(line):
+    """Whether what is printed of a line is read as what it is, the actions where they can be written so."""
+    edit = read_script(line).edits[0]
+    actions = edit.actions if all(map(is_respellable, edit.actions)) else []
+    again = read_script(f"{print_match(edit.matching)} actions={print_actions(actions)}".encode()).edits[0]
+    return again.matching == edit.matching and again.actions == actions
 
 
 def version_of(data):
@@ -292,6 +304,8 @@ def all_rows():
         yield name, fault_of(data), wanted[0]
     for name, data, wanted in rows_of(PRINTS):
         yield name, print_of(data), wanted[0]
+    for line in good_lines():
+        yield f"what is printed of {line!r} is read as it was", reads_back(line), True
     for name, data, wanted in rows_of(VERSIONS):
         yield name, version_of(data), tuple(wanted)
     for name, (given, wanted) in RUNS.items():
