@@ -16,6 +16,7 @@ ovs-ofctl speaks OpenFlow 1.0 here, as it does by default, but for lines that th
 import glob
 import os
 import re
+import shutil
 import subprocess
 import sys
 from collections import namedtuple
@@ -46,7 +47,7 @@ ACCEPTED_THERE = [
     Kind(r"^bad value: .*(vlan_vid=8192|vlan_pcp=8|dl_vlan=4096|arp_op=256|\.256)", "cut to the field there"),
     Kind("^bad value: .*(nw_tos=3|ip_dscp=64|nw_ecn=4),", "cut to the field there"),
     Kind("^bad value: .*table=255", "no table there"),
-    Kind("^bad value: .*goto_table:255", "the last table there; the switch refuses it"),
+    Kind("^bad value: .*goto_table:255", "a table there"),
     Kind("^bad value: actions=0$", "a port that is none"),
     Kind(r"^bad value: .*resubmit\(, 1\)", "white space in brackets"),
     Kind(r"^bad value: .*ICMP_TYPE\[\]->.*\[0\.\.7\]", "types and codes have 8 bits in slices there, here 16"),
@@ -71,8 +72,8 @@ ACCEPTED_HERE = [
     Kind("(set_field|mod_nw_tos):3(->nw_tos)?$", "a TOS with ECN bits; here they are left alone"),
     Kind(r"VLAN_VID\[\]", "vlan_vid has 12 bits in slices there, here 13"),
     Kind(r"icmp_type\[\]->.*\.15\]|arp_op\[\]->.*\.7\]", "slices are as wide as the field there, here as the key's"),
-    Kind("set_field:(5/3|0x1005/0xfff)->", "bits of the value outside the mask are refused by the switch there"),
-    Kind("load:5->OXM_OF_VLAN_VID", "the switch refuses a VLAN that is set without its tag bit"),
+    Kind("set_field:(5/3|0x1005/0xfff)->", "bits of the value outside the mask are refused by the switch with OpenFlow 1.5"),
+    Kind("load:5->OXM_OF_VLAN_VID", "the switch refuses a VLAN that is set without its tag bit with OpenFlow 1.5"),
 ]
 READ_OTHERWISE = [
     Kind("^reg0=1/1,reg0=2/2", "the last of two masks stands there"),
@@ -207,6 +208,9 @@ class Comparison:
 
 
 def main():
+    if shutil.which("ovs-ofctl") is None:
+        print("skipped: ovs-ofctl is not installed")
+        return 0
     lines, comparison = [*table_lines(), *example_lines()], Comparison()
     with ThreadPoolExecutor(os.cpu_count()) as pool:
         list(pool.map(comparison.compare, lines))
