@@ -51,6 +51,8 @@ pub struct Run {
 
 const WORDS: &[&str] = &["edits", "out", "1=a.pcap", "2="];
 
+const THREE_PORTS: &[&str] = &["edits", "out", "1=a.pcap", "2=", "3="];
+
 const TWO_TRACES: &[&str] = &["edits", "out", "1=a.pcap", "2=b.pcap"];
 
 // A rule that sends the frames of port 1 to port 2.
@@ -64,7 +66,16 @@ const ONE_FRAME_JOURNAL: &[u8] =
 const CHANGE_JOURNAL: &[u8] =
     b"port 1\nbegin 1\nend\nlook 1 miss\nsettle 1 1 full\nopen 1\nbegin 2\nend\nlook 2 miss\nsettle 2 2 full\nport 2\nbegin 1\nend\nopen 1\nbegin 2\nend\nport 3\nbegin 1\nend\nopen 1\nbegin 2\nend\n";
 
-pub static RUNS: [Run; 25] = [
+// The journal of a strict delete at the sync point between two frames of port 1.
+const DELETE_JOURNAL: &[u8] =
+    b"port 1\nbegin 2\nend\nlook 1 miss\nsettle 1 2 full\nopen 1\nbegin 3\nend\nlook 2 miss\nsettle 2 3 full\nport 2\nbegin 2\nend\nopen 1\nbegin 3\nend\nport 3\nbegin 2\nend\nopen 1\nbegin 3\nend\n";
+
+// A rule of 65 actions, one more than a flow may have.
+const MANY_ACTIONS: &str =
+    "actions=1,1,1,1,1,1,1,1,1,1,1,1,1,1,1,1,1,1,1,1,1,1,1,1,1,1,1,1,1,1,1,1,1,1,1,1,1,1,1,1,1,1,1,1,1,1,1,1,1,1,1,1,1,1,1,1,1,1,1,1,1,1,1,1,1";
+
+/// Runs that are accepted, and those in which a call fails.
+pub static RUNS: [Run; 14] = [
     Run {
         shows: "a frame of port 1 leaves by port 2 as it came",
         words: WORDS,
@@ -177,7 +188,7 @@ pub static RUNS: [Run; 25] = [
     },
     Run {
         shows: "a frame after a sync point meets the edits before it",
-        words: &["edits", "out", "1=a.pcap", "2=", "3="],
+        words: THREE_PORTS,
         edits: "in_port=1,actions=2\nsync 2\npriority=40000,in_port=1,actions=3\n",
         traces: &[File {
             name: "a.pcap",
@@ -202,6 +213,97 @@ pub static RUNS: [Run; 25] = [
             File {
                 name: "out.journal",
                 bytes: Bytes::Raw(CHANGE_JOURNAL),
+            },
+        ],
+        in_use: &[],
+    },
+    Run {
+        shows: "flood sends a frame to each port but its own",
+        words: THREE_PORTS,
+        edits: "actions=flood",
+        traces: &[File {
+            name: "a.pcap",
+            bytes: Bytes::At(&[1]),
+        }],
+        failing_call: 0,
+        status: 0,
+        text: "",
+        written: &[
+            File {
+                name: "out.p1.pcap",
+                bytes: Bytes::At(&[]),
+            },
+            File {
+                name: "out.p2.pcap",
+                bytes: Bytes::At(&[1]),
+            },
+            File {
+                name: "out.p3.pcap",
+                bytes: Bytes::At(&[1]),
+            },
+            File {
+                name: "out.journal",
+                bytes: Bytes::Raw(
+                    b"port 1\nbegin 1\nend\nlook 1 miss\nsettle 1 1 full\nport 2\nbegin 1\nend\nport 3\nbegin 1\nend\n",
+                ),
+            },
+        ],
+        in_use: &[],
+    },
+    Run {
+        shows: "a strict delete removes the rule that it names, and no other",
+        words: THREE_PORTS,
+        edits: "priority=5,in_port=1,actions=2\npriority=5,dl_dst=00:00:00:00:00:02,actions=3\nsync 2\ndelete_strict priority=5,in_port=1\n",
+        traces: &[File {
+            name: "a.pcap",
+            bytes: Bytes::At(&[1, 2]),
+        }],
+        failing_call: 0,
+        status: 0,
+        text: "",
+        written: &[
+            File {
+                name: "out.p1.pcap",
+                bytes: Bytes::At(&[]),
+            },
+            File {
+                name: "out.p2.pcap",
+                bytes: Bytes::At(&[1]),
+            },
+            File {
+                name: "out.p3.pcap",
+                bytes: Bytes::At(&[2]),
+            },
+            File {
+                name: "out.journal",
+                bytes: Bytes::Raw(DELETE_JOURNAL),
+            },
+        ],
+        in_use: &[],
+    },
+    Run {
+        shows: "an address without the Ethernet type that it needs is left out of the match",
+        words: WORDS,
+        edits: "nw_src=10.0.0.1,actions=2",
+        traces: &[File {
+            name: "a.pcap",
+            bytes: Bytes::At(&[1]),
+        }],
+        failing_call: 0,
+        status: 0,
+        text: "",
+        written: &[
+            File {
+                name: "out.p1.pcap",
+                bytes: Bytes::At(&[]),
+            },
+            File {
+                name: "out.p2.pcap",
+                bytes: Bytes::At(&[1]),
+            },
+            File {
+                name: "out.journal",
+                bytes: Bytes::Raw(ONE_FRAME_JOURNAL),
             },
         ],
         in_use: &[],
@@ -374,7 +476,10 @@ pub static RUNS: [Run; 25] = [
             ),
         }],
     },
+];
 
+/// Runs whose words or edits are refused.
+pub static REFUSED_EDITS: [Run; 7] = [
     // Forms that aren't built.
     Run {
         shows: "a port that stands twice",
@@ -393,7 +498,7 @@ pub static RUNS: [Run; 25] = [
     Run {
         shows: "an action that isn't built",
         words: WORDS,
-        edits: "in_port=1,actions=normal",
+        edits: "in_port=1,actions=resubmit(,1)",
         traces: &[File {
             name: "a.pcap",
             bytes: Bytes::At(&[1]),
@@ -401,6 +506,36 @@ pub static RUNS: [Run; 25] = [
         failing_call: 0,
         status: 9,
         text: "not built: edits\n",
+        written: &[],
+        in_use: &[],
+    },
+
+    // Files of edits that are wrong.
+    Run {
+        shows: "an action that is left out",
+        words: WORDS,
+        edits: "in_port=1,actions=normal",
+        traces: &[File {
+            name: "a.pcap",
+            bytes: Bytes::At(&[1]),
+        }],
+        failing_call: 0,
+        status: 3,
+        text: "edits:1:19: unsupported\n",
+        written: &[],
+        in_use: &[],
+    },
+    Run {
+        shows: "a field that stands twice",
+        words: WORDS,
+        edits: "in_port=1,in_port=1,actions=2",
+        traces: &[File {
+            name: "a.pcap",
+            bytes: Bytes::At(&[1]),
+        }],
+        failing_call: 0,
+        status: 3,
+        text: "edits:1:11: repeated\n",
         written: &[],
         in_use: &[],
     },
@@ -413,27 +548,43 @@ pub static RUNS: [Run; 25] = [
             bytes: Bytes::At(&[1]),
         }],
         failing_call: 0,
-        status: 9,
-        text: "not built: edits\n",
+        status: 3,
+        text: "edits:2:1: sync order\n",
+        written: &[],
+        in_use: &[],
+    },
+    Run {
+        shows: "65 actions",
+        words: WORDS,
+        edits: MANY_ACTIONS,
+        traces: &[File {
+            name: "a.pcap",
+            bytes: Bytes::At(&[1]),
+        }],
+        failing_call: 0,
+        status: 7,
+        text: "limit: actions 64\n",
         written: &[],
         in_use: &[],
     },
     Run {
         shows: "the edits come before a trace with a fault",
         words: WORDS,
-        edits: "actions=flood",
+        edits: "actions=foo",
         traces: &[File {
             name: "a.pcap",
             bytes: Bytes::CutAt(&[]),
         }],
         failing_call: 0,
-        status: 9,
-        text: "not built: edits\n",
+        status: 3,
+        text: "edits:1:9: unknown name\n",
         written: &[],
         in_use: &[],
     },
+];
 
-    // Faults of traces. The magic is that of pcapng, and the link type LINKTYPE_RAW.
+/// Runs whose traces are refused. The magic is that of pcapng, and the link type LINKTYPE_RAW.
+pub static REFUSED_TRACES: [Run; 10] = [
     Run {
         shows: "a header cut short",
         words: WORDS,

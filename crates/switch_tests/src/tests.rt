@@ -1,7 +1,7 @@
 ghost use Rattle.std.specs.Prelude.{◌≡◌, IfOk};
 ghost use Rattle.edge_io.specs.declared.outside.InUse.TheVariants.{Nothing};
 
-use crate::cases::{Bytes, File, HEADER, RUNS, Run};
+use crate::cases::{Bytes, File, HEADER, REFUSED_EDITS, REFUSED_TRACES, RUNS, Run};
 use crate::made::{MadeFile, MadeShelf, Piece};
 use edge_io::{OpenGate, Shelf};
 use edge_memory::{MemoryShelf, MemorySink};
@@ -111,17 +111,42 @@ fn leaves_its_files(alloc: Global, shelf: &MemoryShelf, run: &Run) -> Result<boo
     Ok(same && current)
 }
 
+// Whether a run ends with its status and text, and leaves its files.
+fn ends_as_shown<R: Threads + Wait + Sync>(
+    rt: &R,
+    alloc: Global,
+    run: &Run,
+) -> Result<bool, AllocError> {
+    let mut shelf = shelf_of(alloc, run)?;
+    let mut say = MemorySink::new(alloc, Vec::new(alloc));
+    let status = status_of(rt, alloc, run.words, &mut shelf, &mut say)?;
+    let same = status == run.status && say.text() == run.text.as_bytes();
+    Ok(same && leaves_its_files(alloc, &shelf, run)?)
+}
+
 #[test]
 fn each_run_leaves_its_files_and_tells_its_text(rt: HostRuntime) -> Result<(), Fail> {
     let alloc = rt.alloc();
     for run in &RUNS {
-        let shows = run.shows;
-        let mut shelf = shelf_of(alloc, run)?;
-        let mut say = MemorySink::new(alloc, Vec::new(alloc));
-        let status = status_of(&rt, alloc, run.words, &mut shelf, &mut say)?;
-        assert_eq!(rt; status, run.status, "{shows}");
-        assert_eq!(rt; say.text(), run.text.as_bytes(), "{shows}");
-        assert!(rt; leaves_its_files(alloc, &shelf, run)?, "{shows}");
+        assert!(rt; ends_as_shown(&rt, alloc, run)?, "{}", run.shows);
+    }
+    Ok(())
+}
+
+#[test]
+fn refused_words_and_edits_are_told(rt: HostRuntime) -> Result<(), Fail> {
+    let alloc = rt.alloc();
+    for run in &REFUSED_EDITS {
+        assert!(rt; ends_as_shown(&rt, alloc, run)?, "{}", run.shows);
+    }
+    Ok(())
+}
+
+#[test]
+fn refused_traces_are_told(rt: HostRuntime) -> Result<(), Fail> {
+    let alloc = rt.alloc();
+    for run in &REFUSED_TRACES {
+        assert!(rt; ends_as_shown(&rt, alloc, run)?, "{}", run.shows);
     }
     Ok(())
 }
