@@ -1,6 +1,11 @@
 -- Where a text is cut.
-use Rattle.std.proofs.Common.{◌≡◌, Bool, true, false, cond, List, [], ◌∷◌, ◌++◌, refl, sym, ap, ◌∙◌}
-use Rattle.std.specs.List.{take_while}
+use Rattle.std.proofs.Common.{◌≡◌, ℕ, suc, ◌+◌, ◌<◌, ◌≤◌, ◌⊎◌, inl, inr, Bool, true, false, cond, List, [], ◌∷◌, ◌++◌, length, drop, Some, None, refl, sym, ap, ◌∙◌, arith, length-append}
+use Rattle.std.specs.Prelude.{not, nat_lt, position}
+use Rattle.std.specs.List.{take_while, position_or_len}
+use Rattle.std.specs.Option.{option_map}
+use Rattle.std.proofs.lemmas.Bool.{cases_lt}
+use Rattle.std.proofs.lemmas.Bool.Decides.{nat_tests}
+use Rattle.std.proofs.lemmas.List.{drop-append-le, drop_all}
 use Rattle.std.proofs.lemmas.List.Sums.{take_while-cons}
 
 -- what stands after an element that ends the front is no part of the front
@@ -8,3 +13,45 @@ pub take_while-ended : {X : Type 0} (p : X → Bool) (xs rest : List X) (x : X) 
 take_while-ended p [] rest x e = rw e refl
 take_while-ended p (y ∷ ys) rest x e =
     take_while-cons p y (ys ++ x ∷ rest) ∙ (ap (λ front. cond (p y) (y ∷ front) []) (take_while-ended p ys rest x e) ∙ sym (take_while-cons p y ys))
+
+-- one more element that passes is the last of the front, or stands after it
+pub take_while-more : {X : Type 0} (p : X → Bool) (xs : List X) (x : X) → p x ≡ true
+    → (take_while p (xs ++ x ∷ []) ≡ take_while p xs) ⊎ (take_while p (xs ++ x ∷ []) ≡ take_while p xs ++ x ∷ [])
+take_while-more p [] x e = inr (rw e refl)
+take_while-more p (y ∷ ys) x e = by_test y x (p y) (take_while-more p ys x e) (take_while-cons p y (ys ++ x ∷ [])) (take_while-cons p y ys)
+  where
+    by_test : {X : Type 0} {longer shorter l s : List X} (y x : X) (t : Bool) → (l ≡ s) ⊎ (l ≡ s ++ x ∷ [])
+        → longer ≡ cond t (y ∷ l) [] → shorter ≡ cond t (y ∷ s) [] → (longer ≡ shorter) ⊎ (longer ≡ shorter ++ x ∷ [])
+    by_test y x false ih a b = inl (a ∙ sym b)
+    by_test y x true (inl same) a b = inl (a ∙ (ap (λ l. y ∷ l) same ∙ sym b))
+    by_test y x true (inr more) a b = inr (a ∙ (ap (λ l. y ∷ l) more ∙ ap (λ l. l ++ x ∷ []) (sym b)))
+
+-- where the first element stands that passes
+pub position-cons : {X : Type 0} (p : X → Bool) (x : X) (xs : List X) → position p (x ∷ xs) ≡ cond (p x) (Some 0) (option_map (λ i. 1 + i) (position p xs))
+position-cons p x xs = by_test (p x) (position_or_len p xs) (length xs)
+  where
+    found : (n : ℕ) (t : Bool) → cond t (Some (1 + n)) None ≡ option_map (λ i. 1 + i) (cond t (Some n) None)
+    found n true = refl
+    found n false = refl
+
+    by_test : (t : Bool) (n len : ℕ) → cond (nat_lt (cond (not t) (1 + n) 0) (suc len)) (Some (cond (not t) (1 + n) 0)) None ≡ cond t (Some 0) (option_map (λ i. 1 + i) (cond (nat_lt n len) (Some n) None))
+    by_test true n len = let within : nat_lt 0 (suc len) ≡ true = grind (arith, nat_tests) in rw within refl
+    by_test false n len =
+        let same : nat_lt (1 + n) (suc len) ≡ nat_lt n len = grind (arith, nat_tests) in
+        rw same (found n (nat_lt n len))
+
+pub position-more : {X : Type 0} (p : X → Bool) (xs : List X) (x : X) → p x ≡ false → position p (xs ++ x ∷ []) ≡ position p xs
+position-more p [] x e = position-cons p x [] ∙ rw e refl
+position-more p (y ∷ ys) x e =
+    position-cons p y (ys ++ x ∷ []) ∙ (ap (λ o. cond (p y) (Some 0) (option_map (λ i. 1 + i) o)) (position-more p ys x e) ∙ sym (position-cons p y ys))
+
+-- what stands from a place on, with one more element at the end
+pub drop-more : {X : Type 0} (at : ℕ) (xs : List X) (x : X) → (drop at (xs ++ x ∷ []) ≡ drop at xs) ⊎ (drop at (xs ++ x ∷ []) ≡ drop at xs ++ x ∷ [])
+drop-more at xs x = by_place at xs x (cases_lt (length xs) at)
+  where
+    by_place : {X : Type 0} (at : ℕ) (xs : List X) (x : X) → (length xs < at) ⊎ (at ≤ length xs)
+        → (drop at (xs ++ x ∷ []) ≡ drop at xs) ⊎ (drop at (xs ++ x ∷ []) ≡ drop at xs ++ x ∷ [])
+    by_place at xs x (inl past) =
+        let longer : length (xs ++ x ∷ []) ≤ at = omega (arith, length-append xs (x ∷ [])) in
+        inl (drop_all at (xs ++ x ∷ []) longer ∙ sym (drop_all at xs (omega arith)))
+    by_place at xs x (inr within) = inr (drop-append-le at xs (x ∷ []) within)

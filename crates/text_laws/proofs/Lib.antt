@@ -1,2 +1,5 @@
 mod Cuts
 mod CommentLaws
+mod Ends
+mod SeparatorLaws
+mod Rows
