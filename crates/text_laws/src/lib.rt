@@ -1,10 +1,35 @@
-//! Laws of flows as text. Each is the contract of a function that does nothing, so that to call it is to have its facts.
+//! Laws of flows as text, which stand above the grammar of `spec_flow_text`. Each is the contract of a function that does
+//! nothing, so that to call it is to have its facts.
+//!
+//! The grammar says what a line is, byte by byte. A reader of it has to believe it rule by rule; these laws are to be
+//! believed at a glance, and a mistake in a rule would show in one of them.
+//!
+//! # What is promised
+//!
+//! - A comment changes nothing of what is read of a line (`comments_change_nothing`).
+//! - Nor do separators at its end (`separators_at_the_end_change_nothing`), in front of a match or of a list of actions
+//!   (`separators_in_front_change_nothing`), or doubled (`words_have_separators_between_them`).
+//! - What is printed of a list of actions or of a match is part of one line, and begins no comment
+//!   (`printed_actions_are_one_line`, `printed_match_is_one_line`).
+//!
+//! # How
+//!
+//! All that is read of a line is read of its bytes before a number sign. A list of actions that was read has closed all
+//! its brackets at its end, so that a separator there stands outside of them. Values are printed in digits, letters,
+//! colons and dots by the laws of `value_laws`, and the rest of what is printed is written out in the definitions.
+//!
+//! # What is left to others
+//!
+//! That programs read and print by the grammar is the contract of `match_text`, `action_text` and `edit_script`. These
+//! laws stand apart, so that a new one proves no reader again.
 #![tactic(auto)]
 
 mod comments;
+mod printed;
 mod separators;
 
 pub use comments::comments_change_nothing;
+pub use printed::{printed_actions_are_one_line, printed_match_is_one_line};
 pub use separators::{
     separators_at_the_end_change_nothing, separators_in_front_change_nothing,
     words_have_separators_between_them,
