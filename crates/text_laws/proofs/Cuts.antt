@@ -1,12 +1,14 @@
 -- Where a text is cut.
-use Rattle.std.proofs.Common.{◌≡◌, ℕ, suc, ◌+◌, ◌<◌, ◌≤◌, ◌⊎◌, inl, inr, Bool, true, false, cond, List, [], ◌∷◌, ◌++◌, length, drop, Some, None, refl, sym, ap, ◌∙◌, arith, length-append}
-use Rattle.std.specs.Prelude.{not, nat_lt, position}
-use Rattle.std.specs.List.{take_while, position_or_len}
+use Rattle.std.proofs.Common.{◌≡◌, ℕ, suc, ◌+◌, ◌<◌, ◌≤◌, ◌⊎◌, inl, inr, Bool, true, false, cond, List, [], ◌∷◌, ◌++◌, length, take, drop, Some, None, refl, sym, ap, ◌∙◌, arith, length-append, eqb-true, eq-eqb}
+use Rattle.std.specs.Prelude.{not, ◌==◌, nat_lt, position}
+use Rattle.std.specs.List.{list_all, take_while, position_or_len}
 use Rattle.std.specs.Option.{option_map}
-use Rattle.std.proofs.lemmas.Bool.{cases_lt}
+use Rattle.std.proofs.Math.Seq.{take-append_seam, drop-append-add}
+use Rattle.std.proofs.lemmas.Bool.{cases_lt, and_from, and_parts, both_ways, not-true}
 use Rattle.std.proofs.lemmas.Bool.Decides.{nat_tests}
 use Rattle.std.proofs.lemmas.List.{drop-append-le, drop_all}
 use Rattle.std.proofs.lemmas.List.Sums.{take_while-cons}
+use Rattle.spec_numbers.specs.Numbers.{split_once}
 
 -- what stands after an element that ends the front is no part of the front
 pub take_while-ended : {X : Type 0} (p : X → Bool) (xs rest : List X) (x : X) → p x ≡ false → take_while p (xs ++ x ∷ rest) ≡ take_while p xs
@@ -55,3 +57,49 @@ drop-more at xs x = by_place at xs x (cases_lt (length xs) at)
         let longer : length (xs ++ x ∷ []) ≤ at = omega (arith, length-append xs (x ∷ [])) in
         inl (drop_all at (xs ++ x ∷ []) longer ∙ sym (drop_all at xs (omega arith)))
     by_place at xs x (inr within) = inr (drop-append-le at xs (x ∷ []) within)
+
+-- ---- at a byte
+
+-- a text has this byte nowhere
+abbrev pub lacks : ℕ → List ℕ → Bool
+lacks byte text = list_all (λ c. not (c == byte)) text
+
+-- what passes a test that the byte fails
+pub lacks_by : (q : ℕ → Bool) (byte : ℕ) (text : List ℕ) → q byte ≡ false → list_all q text ≡ true → lacks byte text ≡ true
+lacks_by q byte [] e h = refl
+lacks_by q byte (c ∷ cs) e h =
+    let p = and_parts (q c) (list_all q cs) h in
+    and_from (not (c == byte)) (lacks byte cs) (by_test (c == byte) refl p.0) (lacks_by q byte cs e p.1)
+  where
+    by_test : (t : Bool) → (c == byte) ≡ t → q c ≡ true → not t ≡ true
+    by_test false is k = refl
+    by_test true is k = absurd (both_ways (q c) (rw (eqb-true c byte is) e) k)
+
+position-front : (byte : ℕ) (front rest : List ℕ) → lacks byte front ≡ true → position (λ c. c == byte) (front ++ byte ∷ rest) ≡ Some (length front)
+position-front byte [] rest h = position-cons (λ c. c == byte) byte rest ∙ rw (eq-eqb byte byte refl) refl
+position-front byte (c ∷ cs) rest h =
+    let p = and_parts (not (c == byte)) (lacks byte cs) h in
+    let one : 1 + length cs ≡ length (c ∷ cs) = omega arith in
+    position-cons (λ x. x == byte) c (cs ++ byte ∷ rest) ∙ (rw (not-true (c == byte) p.0, position-front byte cs rest p.1) (ap Some one))
+
+pub split_once-front : (byte : ℕ) (front rest : List ℕ) → lacks byte front ≡ true → split_once byte (front ++ byte ∷ rest) ≡ Some (front, rest)
+split_once-front byte front rest h = rw (position-front byte front rest h, take-append_seam front (byte ∷ rest), drop-append-add front (byte ∷ rest) 1) refl
+
+take_while-all : (p : ℕ → Bool) (xs : List ℕ) → list_all p xs ≡ true → take_while p xs ≡ xs
+take_while-all p [] h = refl
+take_while-all p (x ∷ xs) h =
+    let k = and_parts (p x) (list_all p xs) h in
+    take_while-cons p x xs ∙ (rw k.0 (ap (λ ys. x ∷ ys) (take_while-all p xs k.1)))
+
+-- the front up to a byte
+pub take_while-front : (byte : ℕ) (front rest : List ℕ) → lacks byte front ≡ true → take_while (λ c. not (c == byte)) (front ++ byte ∷ rest) ≡ front
+take_while-front byte front rest h = take_while-ended (λ c. not (c == byte)) front rest byte (rw (eq-eqb byte byte refl) refl) ∙ take_while-all (λ c. not (c == byte)) front h
+
+position-lacks : (byte : ℕ) (text : List ℕ) → lacks byte text ≡ true → position (λ c. c == byte) text ≡ None
+position-lacks byte [] h = refl
+position-lacks byte (c ∷ cs) h =
+    let p = and_parts (not (c == byte)) (lacks byte cs) h in
+    position-cons (λ x. x == byte) c cs ∙ (rw (not-true (c == byte) p.0, position-lacks byte cs p.1) refl)
+
+pub split_once-lacks : (byte : ℕ) (text : List ℕ) → lacks byte text ≡ true → split_once byte text ≡ None
+split_once-lacks byte text h = rw (position-lacks byte text h) refl

@@ -4,4 +4,7 @@ mod Ends
 mod SeparatorLaws
 mod PlainValues
 mod PlainPrinted
+mod ItemTexts
+mod ValuesBack
+mod ActionsBack
 mod Rows

@@ -26,10 +26,12 @@
 
 mod comments;
 mod printed;
+mod read_back;
 mod separators;
 
 pub use comments::comments_change_nothing;
 pub use printed::{printed_actions_are_one_line, printed_match_is_one_line};
+pub use read_back::printed_action_reads_back;
 pub use separators::{
     separators_at_the_end_change_nothing, separators_in_front_change_nothing,
     words_have_separators_between_them,

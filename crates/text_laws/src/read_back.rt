@@ -1,0 +1,32 @@
+ghost use Rattle.std.specs.Prelude.{◌≡◌, ℕ, Bool, List, [], ◌∷◌, Ok, IsTrue};
+ghost use Rattle.spec_actions.specs.declared.action.OfAction.{OfAction};
+ghost use Rattle.spec_flow_text.specs.Items.{Word};
+ghost use Rattle.spec_flow_text.specs.Actions.{actions_of_item};
+ghost use Rattle.spec_flow_text.specs.Printed.{action_text};
+ghost use Rattle.text_laws.specs.Spelled.{is_spellable, is_goto};
+
+use value_laws::{
+    addresses_have_value_characters, decimal_reads_back, hexadecimal_reads_back,
+    hexadecimal4_reads_back, ipv4_mask_reads_back, ipv4_reads_back, ipv6_mask_reads_back,
+    ipv6_reads_back, mac_reads_back, masks_have_value_characters, numbers_have_value_characters,
+};
+
+/// A printed action reads back: as the one item of a list, or among others, where a `goto_table` has to be the last.
+pub fn printed_action_reads_back()
+    ensures { (only last : Bool) (place : ℕ) (action : OfAction)
+        → IsTrue (is_spellable action)
+        → (IsTrue (is_goto action) → IsTrue last)
+        → actions_of_item only last (record { at = place; text = action_text action }) ≡ Ok (action ∷ []) }
+{
+    numbers_have_value_characters();
+    addresses_have_value_characters();
+    masks_have_value_characters();
+    decimal_reads_back();
+    hexadecimal_reads_back();
+    hexadecimal4_reads_back();
+    mac_reads_back();
+    ipv4_reads_back();
+    ipv6_reads_back();
+    ipv4_mask_reads_back();
+    ipv6_mask_reads_back();
+}
