@@ -1,9 +1,8 @@
 -- A printed action is read as that action, of whatever kind.
-use Rattle.std.proofs.Common.{◌≡◌, ℕ, zero, suc, ◌+◌, ◌-◌, ◌<◌, ◌≤◌, ◌^◌, Bool, true, false, cond, List, [], ◌∷◌, ◌++◌, length, refl, sym, subst, ap, ◌∙◌, arith, Option, Some, None, Result, Ok, Err, eqb-true}
-use Rattle.std.specs.Prelude.{not, ◌&&◌, ◌||◌, ◌==◌, codes, nat_lt, nat_le, bit_and}
+use Rattle.std.proofs.Common.{◌≡◌, ℕ, ◌+◌, ◌-◌, ◌<◌, ◌≤◌, ◌^◌, Bool, true, false, cond, List, [], ◌∷◌, ◌++◌, length, refl, sym, subst, ap, ◌∙◌, arith, Some, None, eqb-true}
+use Rattle.std.specs.Prelude.{◌&&◌, ◌||◌, ◌==◌, codes, nat_lt, nat_le, bit_and}
 use Rattle.std.specs.List.{list_all, fold}
-use Rattle.std.specs.Option.{option_map}
-use Rattle.std.proofs.lemmas.Bool.{and_from, and_parts, both_ways, ltb-true, leb-true}
+use Rattle.std.proofs.lemmas.Bool.{and_parts, both_ways, ltb-true, leb-true}
 use Rattle.std.proofs.lemmas.Bool.Decides.{nat_tests}
 use Rattle.spec_base.specs.Bits.{all_bits}
 use Rattle.spec_actions.specs.declared.named_field.NamedField.{NamedField}
@@ -14,18 +13,14 @@ use Rattle.spec_actions.specs.declared.action.OfAction.TheVariants.{Output, Outp
 use Rattle.spec_actions.specs.Named.{named}
 use Rattle.spec_actions.specs.Sound.{is_written, fits_name, is_sound, is_sound_slice, last_table, last_vid, last_pcp}
 use Rattle.spec_numbers.specs.Characters.{hyphen, greater_than, slash}
-use Rattle.spec_numbers.specs.Numbers.{where_found, split_once, digits_upto, decimal_upto, number_upto, last_port, mac, octet_before_colon}
+use Rattle.spec_numbers.specs.Numbers.{digits_upto, decimal_upto, number_upto, last_port, mac, octet_before_colon}
 use Rattle.spec_numbers.specs.Addresses.{ipv4, ipv6, decimal_octet_before_dot, eight_groups, groups, last_groups, group, groups_of_ipv4, elided_groups, split_at_elision}
 use Rattle.spec_flow_text.specs.declared.names.ActionName.TheVariants as action
-use Rattle.spec_flow_text.specs.declared.part.ValueForm.{ValueForm}
-use Rattle.spec_flow_text.specs.declared.part.ValueForm.TheVariants as form
 use Rattle.spec_flow_text.specs.Names.{name_of, action_named, reserved_port_named}
-use Rattle.spec_flow_text.specs.Items.{Word}
-use Rattle.spec_flow_text.specs.Values.{Bits, bits, form_of, most_of, value_in, whole_value, masked_value, value_of}
-use Rattle.spec_flow_text.specs.Actions.{open_after, is_closed, argument_of, set_field, set_of, has_tag_bit, is_respellable, actions_of_item}
-use Rattle.spec_flow_text.specs.Printed.{printed_form, value_text, masked_text, mask_text, value_and_mask, value_in_text, action_text}
+use Rattle.spec_flow_text.specs.Values.{Bits, bits, form_of, most_of, value_in, whole_value, value_of}
+use Rattle.spec_flow_text.specs.Actions.{open_after, is_closed, argument_of, set_field, has_tag_bit, is_respellable, actions_of_item}
+use Rattle.spec_flow_text.specs.Printed.{printed_form, value_text, masked_text, mask_text, value_in_text, action_text}
 use Rattle.text_laws.specs.Spelled.{is_spellable, is_goto}
-use Rattle.text_laws.proofs.PlainValues.{HasValueCharacters}
 use Rattle.text_laws.proofs.ValuesBack.{ReadValues, AreAlike, Fits, IsSpelled, value_has, masked_has, mask_has, no_word, read_as_value, bits_back}
 use Rattle.text_laws.proofs.ItemTexts.{NumberTexts, IsQuiet, quiet, quiet_append, quiet_lacks, quiet_over, quiet_end, item_at, IsReadBack, IsWideEnough, name_quiet, name_there, arrow_there, ends_back, arrow_argument-from, written_back, output_back, output_field_back, in_port_back, all_back, flood_back, resubmit_back, goto_back, move_back, dec_ttl_back, push_vlan_back, pop_vlan_back, set_vid_back, set_pcp_back}
 
@@ -50,7 +45,7 @@ fits_written : (f : NamedField) (n : ℕ) → n < 2 ^ (named f).bits → Fits (p
 fits_written field.IpFrag n lt = omega arith
 fits_written f n lt = omega arith
 
-value_quiet : ReadValues → (f : NamedField) (b : Bits) → IsSpelled f b → IsQuiet (value_in_text f b)
+pub value_quiet : ReadValues → (f : NamedField) (b : Bits) → IsSpelled f b → IsQuiet (value_in_text f b)
 unfolding value_in_text
 value_quiet r f b h = ap (list_all _) (no_word (form_of f) (printed_form f) h.alike (all_bits (named f).bits) b) ∙ by_test (b.mask == all_bits (named f).bits)
   where
@@ -124,7 +119,7 @@ slice_wide s h =
     let high = ltb-true s.high (named s.name).bits p.1 in
     (widest s.name s.low (omega (arith, low, high)), widest s.name s.high high)
 
-set_spelled : (f : NamedField) (value mask : ℕ) → is_sound (Set f value mask) ≡ true → is_respellable (Set f value mask) ≡ true → IsSpelled f (bits value mask)
+pub set_spelled : (f : NamedField) (value mask : ℕ) → is_sound (Set f value mask) ≡ true → is_respellable (Set f value mask) ≡ true → IsSpelled f (bits value mask)
 set_spelled f value mask sound again =
     let p = and_parts (is_written f) (fits_name f value && fits_name f mask) sound in
     let q = and_parts (fits_name f value) (fits_name f mask) p.1 in

@@ -1,5 +1,5 @@
 -- Where a text is cut.
-use Rattle.std.proofs.Common.{◌≡◌, ℕ, suc, ◌+◌, ◌<◌, ◌≤◌, ◌⊎◌, inl, inr, Bool, true, false, cond, List, [], ◌∷◌, ◌++◌, length, take, drop, Some, None, refl, sym, ap, ◌∙◌, arith, length-append, eqb-true, eq-eqb}
+use Rattle.std.proofs.Common.{◌≡◌, ℕ, suc, ◌+◌, ◌<◌, ◌≤◌, ◌⊎◌, inl, inr, Bool, true, false, cond, List, [], ◌∷◌, ◌++◌, length, drop, Some, None, refl, sym, ap, ◌∙◌, arith, length-append, eqb-true, eq-eqb}
 use Rattle.std.specs.Prelude.{not, ◌==◌, nat_lt, position}
 use Rattle.std.specs.List.{list_all, take_while, position_or_len}
 use Rattle.std.specs.Option.{option_map}
@@ -85,7 +85,7 @@ position-front byte (c ∷ cs) rest h =
 pub split_once-front : (byte : ℕ) (front rest : List ℕ) → lacks byte front ≡ true → split_once byte (front ++ byte ∷ rest) ≡ Some (front, rest)
 split_once-front byte front rest h = rw (position-front byte front rest h, take-append_seam front (byte ∷ rest), drop-append-add front (byte ∷ rest) 1) refl
 
-take_while-all : (p : ℕ → Bool) (xs : List ℕ) → list_all p xs ≡ true → take_while p xs ≡ xs
+pub take_while-all : (p : ℕ → Bool) (xs : List ℕ) → list_all p xs ≡ true → take_while p xs ≡ xs
 take_while-all p [] h = refl
 take_while-all p (x ∷ xs) h =
     let k = and_parts (p x) (list_all p xs) h in

@@ -80,7 +80,7 @@ not_opened c opening other e = by_test (c == opening) refl
     by_test true is = absurd (both_ways (is_separator c) (rw (eqb-true c opening is) other) e)
 
 -- no bracket is open after what ends an item
-ended_open : (brackets : List ℕ) (c : ℕ) → ends_item brackets c ≡ true → open_after brackets c ≡ []
+pub ended_open : (brackets : List ℕ) (c : ℕ) → ends_item brackets c ≡ true → open_after brackets c ≡ []
 ended_open [] c e = rw (not_opened c left_parenthesis refl e, not_opened c left_bracket refl e) refl
 ended_open (close ∷ outer) c e = cc
 
@@ -89,12 +89,12 @@ unfolding up_to_end
 up_to_end-ended brackets [] s e closed = subst (λ bs. up_to_end bs (s ∷ []) ≡ []) (sym closed) (rw e refl)
 up_to_end-ended brackets (c ∷ cs) s e closed = ap (λ rest. cond (ends_item brackets c) [] (c ∷ rest)) (up_to_end-ended (open_after brackets c) cs s e closed)
 
-items-cons : (brackets : List ℕ) (fresh : Bool) (at c : ℕ) (cs : List ℕ) → items brackets fresh at (c ∷ cs)
+pub items-cons : (brackets : List ℕ) (fresh : Bool) (at c : ℕ) (cs : List ℕ) → items brackets fresh at (c ∷ cs)
     ≡ cond (ends_item brackets c) (items [] true (at + 1) cs) (cond fresh (record { at = at; text = up_to_end brackets (c ∷ cs) } ∷ items (open_after brackets c) false (at + 1) cs) (items (open_after brackets c) false (at + 1) cs))
 unfolding items
 items-cons brackets fresh at c cs = refl
 
-items-none : (brackets : List ℕ) (fresh : Bool) (at : ℕ) → items brackets fresh at [] ≡ []
+pub items-none : (brackets : List ℕ) (fresh : Bool) (at : ℕ) → items brackets fresh at [] ≡ []
 unfolding items
 items-none brackets fresh at = refl
 
@@ -123,7 +123,7 @@ closed_item-closed : (w : Word) (name : ActionName) (only last : Bool) (list : L
 closed_item-closed w action.Unsupported only last list h = cc
 closed_item-closed w name only last list h = tested (is_closed w.text) (actions_named name only last w) (fault.Syntax (column w)) list h
 
-item_closed : (only last : Bool) (w : Word) (list : List OfAction) → actions_of_item only last w ≡ Ok list → is_closed w.text ≡ true
+pub item_closed : (only last : Bool) (w : Word) (list : List OfAction) → actions_of_item only last w ≡ Ok list → is_closed w.text ≡ true
 unfolding actions_of_item
 item_closed only last w list h = by_name (action_named (name_in w)) h
   where
@@ -169,7 +169,7 @@ none_open : (brackets : List ℕ) → (length brackets == 0) ≡ true → bracke
 none_open [] h = refl
 none_open (b ∷ bs) h = absurd (grind (arith, nat_tests, h))
 
-none_open_after : (text : List ℕ) → is_closed text ≡ true → fold open_after [] text ≡ []
+pub none_open_after : (text : List ℕ) → is_closed text ≡ true → fold open_after [] text ≡ []
 unfolding is_closed
 none_open_after text h = none_open (fold open_after [] text) h
 

@@ -1,6 +1,6 @@
 -- One printed action is read as that action.
-use Rattle.std.proofs.Common.{◌≡◌, ℕ, zero, suc, ◌+◌, ◌-◌, ◌/◌, ◌%◌, ◌<◌, ◌≤◌, ◌^◌, Bool, true, false, cond, List, [], ◌∷◌, ◌++◌, length, take, drop, refl, sym, subst, ap, ◌∙◌, arith, Option, Some, None, Result, Ok, Err, decimal, eqb-true, append_assoc, append-nil, length-append, eq-eqb}
-use Rattle.std.specs.Prelude.{not, ◌&&◌, ◌||◌, ◌==◌, codes, nat_lt, nat_eq}
+use Rattle.std.proofs.Common.{◌≡◌, ℕ, zero, suc, ◌+◌, ◌-◌, ◌/◌, ◌%◌, ◌<◌, ◌≤◌, ◌^◌, Bool, true, false, cond, List, [], ◌∷◌, ◌++◌, length, take, drop, refl, sym, ap, ◌∙◌, arith, Some, None, Ok, decimal, eqb-true, append_assoc, append-nil, length-append, eq-eqb}
+use Rattle.std.specs.Prelude.{not, ◌||◌, ◌==◌, codes, nat_eq}
 use Rattle.std.specs.List.{list_all, fold, slice_split, onto_first, take_while}
 use Rattle.std.specs.Option.{option_map}
 use Rattle.std.proofs.Math.Seq.{take-append_seam, drop-append_seam, drop-append-add}
@@ -13,11 +13,10 @@ use Rattle.spec_actions.specs.declared.named_field.NamedField.{NamedField}
 use Rattle.spec_actions.specs.declared.named_field.NamedField.TheVariants as field
 use Rattle.spec_actions.specs.declared.action.Slice.{Slice}
 use Rattle.spec_actions.specs.declared.action.OfAction.{OfAction}
-use Rattle.spec_actions.specs.declared.action.OfAction.TheVariants.{Output, OutputField, InPort, All, Flood, Resubmit, Goto, Set, Move, DecTtl, PushVlan, PopVlan, SetVid, SetPcp}
+use Rattle.spec_actions.specs.declared.action.OfAction.TheVariants.{Output, OutputField, InPort, All, Flood, Resubmit, Goto, Move, DecTtl, PushVlan, PopVlan, SetVid, SetPcp}
 use Rattle.spec_actions.specs.Sound.{is_sound, is_written, is_sound_slice, last_table, last_vid, last_pcp}
-use Rattle.spec_numbers.specs.Characters.{dot, colon, hyphen, greater_than, slash, comma, left_parenthesis, right_parenthesis, left_bracket, right_bracket, is_value_character}
+use Rattle.spec_numbers.specs.Characters.{dot, hyphen, greater_than, slash, comma, left_parenthesis, right_parenthesis, left_bracket, right_bracket, is_value_character}
 use Rattle.spec_numbers.specs.Numbers.{where_found, split_once, digits_upto, number_upto, last_port}
-use Rattle.spec_flow_text.specs.declared.names.ActionName.{ActionName}
 use Rattle.spec_flow_text.specs.declared.names.ActionName.TheVariants as action
 use Rattle.spec_flow_text.specs.Names.{name_of, field_named, action_named, reserved_port_named, begins_with_digit}
 use Rattle.spec_flow_text.specs.Items.{◌>>=◌, Word}
@@ -58,13 +57,13 @@ apart c other e h = by_test (c == other) refl
     by_test false is = is
     by_test true is = none (rw (eqb-true c other is) e) h
 
-abbrev AreClosing : List ℕ → Type 0
+abbrev pub AreClosing : List ℕ → Type 0
 AreClosing brackets = list_all (λ b. (b == right_parenthesis) || (b == right_bracket)) brackets ≡ true
 
 closing_apart : (c close : ℕ) → ((close == right_parenthesis) || (close == right_bracket)) ≡ true → is_quiet_character c ≡ true → (c == close) ≡ false
 closing_apart c close h q = grind (arith, nat_tests)
 
-quiet_after : (brackets : List ℕ) (c : ℕ) → AreClosing brackets → is_quiet_character c ≡ true → open_after brackets c ≡ brackets
+pub quiet_after : (brackets : List ℕ) (c : ℕ) → AreClosing brackets → is_quiet_character c ≡ true → open_after brackets c ≡ brackets
 quiet_after [] c h q = rw (apart c left_parenthesis refl q, apart c left_bracket refl q) refl
 quiet_after (close ∷ outer) c h q =
     rw (closing_apart c close (and_parts ((close == right_parenthesis) || (close == right_bracket)) _ h).0 q, apart c left_parenthesis refl q, apart c left_bracket refl q) refl
@@ -229,7 +228,7 @@ digits_quiet (c ∷ cs) h =
     let p = and_parts (is_ascii_digit c) (list_all is_ascii_digit cs) h in
     and_from (is_quiet_character c) (list_all is_quiet_character cs) (digit_quiet c p.0) (digits_quiet cs p.1)
 
-decimal_quiet : (n : ℕ) → IsQuiet (decimal n)
+pub decimal_quiet : (n : ℕ) → IsQuiet (decimal n)
 decimal_quiet n = digits_quiet (decimal n) (decimal_digits n)
 
 decimal_lacks : (byte n : ℕ) → is_ascii_digit byte ≡ false → lacks byte (decimal n) ≡ true
@@ -352,7 +351,7 @@ slice_of_back v at s h sound =
     ∙ ap (value_or_fault (item_at at (slice_text s))) (slice_after_back v s h sound)
 
 -- a slice closes its brackets
-slice_and_more : (s : Slice) (rest : List ℕ) → slice_text s ++ rest ≡ name_of s.name ++ (left_bracket ∷ (decimal s.low ++ (dot ∷ dot ∷ (decimal s.high ++ (right_bracket ∷ rest)))))
+pub slice_and_more : (s : Slice) (rest : List ℕ) → slice_text s ++ rest ≡ name_of s.name ++ (left_bracket ∷ (decimal s.low ++ (dot ∷ dot ∷ (decimal s.high ++ (right_bracket ∷ rest)))))
 slice_and_more s rest =
     append_assoc (name_of s.name) (left_bracket ∷ after_bracket s) rest
     ∙ ap (λ t. name_of s.name ++ (left_bracket ∷ t)) (append_assoc (decimal s.low) (dot ∷ dot ∷ (decimal s.high ++ right_bracket ∷ [])) rest)

@@ -7,4 +7,5 @@ mod PlainPrinted
 mod ItemTexts
 mod ValuesBack
 mod ActionsBack
+mod ListsBack
 mod Rows

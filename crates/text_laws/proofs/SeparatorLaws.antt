@@ -30,10 +30,10 @@ separator_ascii : (s : ℕ) → is_separator s ≡ true → not (is_ascii s) ≡
 separator_ascii s e = grind (arith, nat_tests)
 
 -- the fault of a text that isn't ASCII
-abbrev ascii_text : ℕ → List ℕ → Result (List ℕ) TextFault
+abbrev pub ascii_text : ℕ → List ℕ → Result (List ℕ) TextFault
 ascii_text at text = text_or_fault text (option_map (λ i. at + i + 1) (position (λ c. not (is_ascii c)) text))
 
-abbrev list_of : ℕ → List ℕ → Result (List OfAction) TextFault
+abbrev pub list_of : ℕ → List ℕ → Result (List OfAction) TextFault
 list_of at text = ascii_text at text >>= (λ t. actions.read_items [] (items [] true at t))
 
 abbrev stated_by : EditWord → ℕ → List ℕ → Result Stated TextFault

@@ -1,25 +1,21 @@
 -- Printed bits of a named field are read as those bits.
-use Rattle.std.proofs.Common.{◌≡◌, ℕ, ◌-◌, ◌<◌, ◌≤◌, ◌^◌, Bool, true, false, cond, List, [], ◌∷◌, ◌++◌, length, refl, sym, ap, ◌∙◌, arith, Option, Some, None, decimal, eqb-true}
-use Rattle.std.specs.Prelude.{not, ◌&&◌, ◌||◌, ◌==◌}
-use Rattle.std.specs.List.{list_all}
-use Rattle.std.specs.Option.{option_map}
-use Rattle.std.proofs.lemmas.Bool.{or_cases, both_ways}
-use Rattle.std.proofs.lemmas.Bool.Decides.{nat_tests}
+use Rattle.std.proofs.Common.{◌≡◌, ℕ, ◌<◌, ◌≤◌, ◌^◌, Bool, true, false, cond, List, ◌∷◌, ◌++◌, refl, sym, ap, ◌∙◌, Some, decimal, eqb-true}
+use Rattle.std.specs.Prelude.{◌||◌, ◌==◌}
+use Rattle.std.proofs.lemmas.Bool.{both_ways}
 use Rattle.spec_base.specs.Bits.{all_bits}
-use Rattle.spec_keys.specs.Fields.{Form, Decimal, Hexadecimal, FourDigits, Mac, Ipv4, Ipv6, Fragment}
+use Rattle.spec_keys.specs.Fields.{Form, Decimal, Hexadecimal, FourDigits, Mac, Ipv4, Ipv6}
 use Rattle.spec_actions.specs.declared.named_field.NamedField.{NamedField}
 use Rattle.spec_actions.specs.declared.named_field.NamedField.TheVariants as field
 use Rattle.spec_actions.specs.Named.{named}
-use Rattle.spec_actions.specs.Sound.{is_written}
 use Rattle.spec_numbers.specs.Characters.{slash, is_value_character}
-use Rattle.spec_numbers.specs.Numbers.{where_found, split_once, digits_upto, decimal_upto, number_upto, mac, octet_before_colon}
+use Rattle.spec_numbers.specs.Numbers.{where_found, split_once, number_upto, mac}
 use Rattle.spec_numbers.specs.Addresses.{ipv4, ipv6, ipv4_mask, ipv6_mask}
 use Rattle.spec_numbers.specs.Printed.{hexadecimal, hexadecimal4, mac_text, ipv4_text, ipv6_text, ipv4_mask_text, ipv6_mask_text}
 use Rattle.spec_flow_text.specs.declared.part.ValueForm.{ValueForm}
 use Rattle.spec_flow_text.specs.declared.part.ValueForm.TheVariants as form
 use Rattle.spec_flow_text.specs.Values.{Bits, bits, form_of, most_of, value_in, mask_in, whole_value, masked_value, value_of}
 use Rattle.spec_flow_text.specs.Printed.{printed_form, value_text, masked_text, mask_text, value_and_mask, value_of_form, value_in_text}
-use Rattle.text_laws.proofs.Cuts.{lacks, lacks_by, split_once-front, split_once-lacks}
+use Rattle.text_laws.proofs.Cuts.{lacks_by, split_once-front, split_once-lacks}
 use Rattle.text_laws.proofs.PlainValues.{ValueTexts, HasValueCharacters}
 
 -- what is known of printed values that are read

@@ -11,12 +11,17 @@
 //!   (`separators_in_front_change_nothing`), or doubled (`words_have_separators_between_them`).
 //! - What is printed of a list of actions or of a match is part of one line, and begins no comment
 //!   (`printed_actions_are_one_line`, `printed_match_is_one_line`).
+//! - A printed action reads back as that action (`printed_action_reads_back`), and a printed list as that list
+//!   (`printed_actions_read_back`), where the flow text can spell it (`Spelled.are_spellable`): sound actions of at most
+//!   64, nothing behind a `goto_table`, ports that a switch can have, and writes with a mask that can be named and no
+//!   bits outside it.
 //!
 //! # How
 //!
 //! All that is read of a line is read of its bytes before a number sign. A list of actions that was read has closed all
 //! its brackets at its end, so that a separator there stands outside of them. Values are printed in digits, letters,
-//! colons and dots by the laws of `value_laws`, and the rest of what is printed is written out in the definitions.
+//! colons and dots by the laws of `value_laws`, and the rest of what is printed is written out in the definitions. So the
+//! reader finds each bracket, arrow, slash and comma of what is printed, and each value between them reads back.
 //!
 //! # What is left to others
 //!
@@ -31,7 +36,7 @@ mod separators;
 
 pub use comments::comments_change_nothing;
 pub use printed::{printed_actions_are_one_line, printed_match_is_one_line};
-pub use read_back::printed_action_reads_back;
+pub use read_back::{printed_action_reads_back, printed_actions_read_back};
 pub use separators::{
     separators_at_the_end_change_nothing, separators_in_front_change_nothing,
     words_have_separators_between_them,

@@ -1,9 +1,10 @@
-ghost use Rattle.std.specs.Prelude.{◌≡◌, ℕ, Bool, List, [], ◌∷◌, Ok, IsTrue};
+ghost use Rattle.std.specs.Prelude.{◌≡◌, ℕ, Bool, List, [], ◌∷◌, ◌++◌, length, Ok, IsTrue};
 ghost use Rattle.spec_actions.specs.declared.action.OfAction.{OfAction};
 ghost use Rattle.spec_flow_text.specs.Items.{Word};
-ghost use Rattle.spec_flow_text.specs.Actions.{actions_of_item};
-ghost use Rattle.spec_flow_text.specs.Printed.{action_text};
-ghost use Rattle.text_laws.specs.Spelled.{is_spellable, is_goto};
+ghost use Rattle.spec_flow_text.specs.Matches.{uncommented};
+ghost use Rattle.spec_flow_text.specs.Actions.{actions_of_item, read_actions};
+ghost use Rattle.spec_flow_text.specs.Printed.{action_text, actions_printed};
+ghost use Rattle.text_laws.specs.Spelled.{is_spellable, is_goto, are_spellable};
 
 use value_laws::{
     addresses_have_value_characters, decimal_reads_back, hexadecimal_reads_back,
@@ -17,6 +18,28 @@ pub fn printed_action_reads_back()
         → IsTrue (is_spellable action)
         → (IsTrue (is_goto action) → IsTrue last)
         → actions_of_item only last (record { at = place; text = action_text action }) ≡ Ok (action ∷ []) }
+{
+    numbers_have_value_characters();
+    addresses_have_value_characters();
+    masks_have_value_characters();
+    decimal_reads_back();
+    hexadecimal_reads_back();
+    hexadecimal4_reads_back();
+    mac_reads_back();
+    ipv4_reads_back();
+    ipv6_reads_back();
+    ipv4_mask_reads_back();
+    ipv6_mask_reads_back();
+}
+
+/// A printed list of actions that can be spelled reads back, alone and behind the front of a line.
+pub fn printed_actions_read_back()
+    ensures alone { (actions : List OfAction)
+        → IsTrue (are_spellable actions) → read_actions 0 (actions_printed actions) ≡ Ok actions }
+    ensures behind { (front : List ℕ) (actions : List OfAction)
+        → uncommented front ≡ front
+        → IsTrue (are_spellable actions)
+        → read_actions (length front) (front ++ actions_printed actions) ≡ Ok actions }
 {
     numbers_have_value_characters();
     addresses_have_value_characters();
