@@ -1,12 +1,13 @@
 -- What the operations on keys and masks keep: a number for each field, within its width.
-use Rattle.std.proofs.Common.{◌≡◌, ℕ, zero, suc, ◌<◌, ◌≤◌, ◌^◌, List, [], ◌∷◌, length, set, replicate, bit_or, refl, sym, ap, ◌∙◌, subst, ⊎_elim, lit<, arith}
+use Rattle.std.proofs.Common.{Bool, true, false, if◌then◌else◌, nat_le, le_refl, ◌≡◌, ℕ, zero, suc, ◌<◌, ◌≤◌, ◌^◌, List, [], ◌∷◌, length, set, replicate, bit_or, refl, sym, ap, ◌∙◌, subst, ⊎_elim, lit<, arith}
 use Rattle.std.proofs.lemmas.Bool.{cases_eq, cases_lt}
 use Rattle.std.proofs.lemmas.List.{length-set, length-replicate, get_or-set_same, get_or-set_other, get_or-replicate, get_or_past}
 use Rattle.std.proofs.lemmas.Nat.{and_le_l, or_lt, pow_pos}
 use Rattle.std.specs.Int.Bits.{or_zero_r}
 use Rattle.spec_keys.specs.declared.field_id.FieldId.{FieldId}
 use Rattle.spec_keys.specs.declared.field_id.FieldId.TheVariants.{InPort}
-use Rattle.spec_keys.specs.Fields.{place_of, width_of, widths, field_count}
+use Rattle.spec_keys.specs.Fields.{place_of, width_of, widths, stages, field_count}
+use Rattle.spec_keys.specs.Stages.{through, staged}
 use Rattle.spec_keys.specs.Keys.{number_at, value_of, none, masked, joined, common_bits, only_at, IsKey}
 
 -- a field has its place in the key
@@ -92,3 +93,50 @@ joined-only_at [] p more within = absurd (omega arith)
 joined-only_at (a ∷ []) zero more within = refl
 joined-only_at (a ∷ b ∷ m) zero more within = refl
 joined-only_at (a ∷ m) (suc p) more within = rw (or_zero_r, joined-only_at m p more (omega arith)) refl
+
+length-joined : (m n : List ℕ) → length m ≡ length n → length (joined m n) ≡ length m
+unfolding joined
+length-joined [] n e = sym e
+length-joined (a ∷ m) [] e = refl
+length-joined (a ∷ m) (b ∷ n) e = ap suc (length-joined m n (omega arith))
+
+number_at-joined : (m n : List ℕ) (p w : ℕ) → number_at m p < 2 ^ w → number_at n p < 2 ^ w → number_at (joined m n) p < 2 ^ w
+unfolding joined
+number_at-joined [] n p w h k = k
+number_at-joined (a ∷ m) [] p w h k = h
+number_at-joined (a ∷ m) (b ∷ n) zero w h k = or_lt w a b h k
+number_at-joined (a ∷ m) (b ∷ n) (suc p) w h k = number_at-joined m n p w h k
+
+-- the bits of either of two masks
+pub joined-is_key : (m n : List ℕ) → IsKey m → IsKey n → IsKey (joined m n)
+joined-is_key m n a b = record {
+  fields = length-joined m n (a.fields ∙ sym b.fields) ∙ a.fields;
+  fit = λ p. number_at-joined m n p (number_at widths p) (a.fit p) (b.fit p);
+}
+
+length-through : (stage : ℕ) (list m : List ℕ) → length list ≡ length m → length (through stage list m) ≡ length m
+unfolding through
+length-through stage [] [] e = refl
+length-through stage [] (b ∷ m) e = e
+length-through stage (s ∷ list) [] e = refl
+length-through stage (s ∷ list) (b ∷ m) e = ap suc (length-through stage list m (omega arith))
+
+number_at-through : (stage : ℕ) (list m : List ℕ) (p : ℕ) → number_at (through stage list m) p ≤ number_at m p
+unfolding through
+number_at-through stage [] [] p = le_refl (number_at [] p)
+number_at-through stage [] (b ∷ m) p = let z : number_at [] p ≡ 0 = get_or_past {X = ℕ} [] p 0 (omega arith) in omega arith
+number_at-through stage (s ∷ list) [] p = le_refl (number_at [] p)
+number_at-through stage (s ∷ list) (b ∷ m) zero = at (nat_le s stage)
+  where
+    at : (t : Bool) → (if t then b else 0) ≤ b
+    at true = le_refl b
+    at false = omega arith
+number_at-through stage (s ∷ list) (b ∷ m) (suc p) = number_at-through stage list m p
+
+-- the bits of a mask in the fields of some stages
+pub staged-is_key : (stage : ℕ) (m : List ℕ) → IsKey m → IsKey (staged stage m)
+unfolding stages
+staged-is_key stage m a = record {
+  fields = length-through stage stages m (sym a.fields) ∙ a.fields;
+  fit = λ p. omega (arith, number_at-through stage stages m p, a.fit p);
+}

@@ -1,4 +1,5 @@
 pub mod Equality
+pub mod Hashing
 pub mod Lists
 pub mod Packed
 pub mod Runs

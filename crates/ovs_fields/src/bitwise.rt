@@ -1,5 +1,6 @@
 ghost use Rattle.std.specs.Prelude.{◌≡◌};
-ghost use Rattle.spec_keys.specs.Keys.{agree, covers, common_bits};
+ghost use Rattle.spec_keys.specs.Keys.{agree, covers, common_bits, joined, masked};
+ghost use Rattle.spec_keys.specs.Stages.{staged, metadata_stage, ethernet_stage, network_stage};
 ghost use Rattle.ovs_fields.specs.Packed.{numbers, bits};
 
 use crate::field_list::with_fields;
@@ -50,5 +51,89 @@ pub fn and(a: &Mask, b: &Mask) -> Mask
     let (a, b) = (&a.fields, &b.fields);
     Mask {
         fields: with_fields!(in_common(a, b)),
+    }
+}
+
+/// The bits of a key that a mask has, and 0 elsewhere.
+#[tactic(auto, unfolding(spec_keys::specs::Keys::masked))]
+pub fn masked(key: &Key, mask: &Mask) -> Key
+    ensures { numbers result ≡ masked (numbers key.now) (bits mask.now) }
+{
+    let (key, mask) = (&key.fields, &mask.fields);
+    Key {
+        fields: with_fields!(in_common(key, mask)),
+    }
+}
+
+macro_rules! in_either {
+    (($a:ident, $b:ident) $([$variant:ident $name:ident $($more:tt)*])*) => {
+        Fields { $($name: $a.$name | $b.$name,)* }
+    };
+}
+
+/// The bits of either mask.
+#[tactic(auto, unfolding(spec_keys::specs::Keys::joined))]
+pub fn or(a: &Mask, b: &Mask) -> Mask
+    ensures { bits result ≡ joined (bits a.now) (bits b.now) }
+{
+    let (a, b) = (&a.fields, &b.fields);
+    Mask {
+        fields: with_fields!(in_either(a, b)),
+    }
+}
+
+/// The numbers of the fields that a macro keeps, which is called with a field's stage and its number.
+macro_rules! part {
+    (($mask:ident, $kept:ident) $([$variant:ident $name:ident $type:ident $bits:literal $stage:tt])*) => {
+        Fields { $($name: $kept!($stage $mask.$name),)* }
+    };
+}
+
+macro_rules! through_metadata {
+    (0 $number:expr) => { $number };
+    ($stage:tt $number:expr) => { 0 };
+}
+
+macro_rules! through_ethernet {
+    (0 $number:expr) => { $number };
+    (1 $number:expr) => { $number };
+    ($stage:tt $number:expr) => { 0 };
+}
+
+macro_rules! through_network {
+    (3 $number:expr) => { 0 };
+    ($stage:tt $number:expr) => { $number };
+}
+
+/// The bits of a mask in the fields of stage 0: the packet's metadata.
+#[tactic(auto, unfolding(spec_keys::specs::Stages::through, spec_keys::specs::Fields::stages))]
+pub fn metadata_part(mask: &Mask) -> Mask
+    ensures { bits result ≡ staged metadata_stage (bits mask.now) }
+{
+    let mask = &mask.fields;
+    Mask {
+        fields: with_fields!(part(mask, through_metadata)),
+    }
+}
+
+/// The bits of a mask in the fields of stages 0 and 1: metadata and Ethernet.
+#[tactic(auto, unfolding(spec_keys::specs::Stages::through, spec_keys::specs::Fields::stages))]
+pub fn ethernet_part(mask: &Mask) -> Mask
+    ensures { bits result ≡ staged ethernet_stage (bits mask.now) }
+{
+    let mask = &mask.fields;
+    Mask {
+        fields: with_fields!(part(mask, through_ethernet)),
+    }
+}
+
+/// The bits of a mask in the fields of stages 0 to 2: all but the ports.
+#[tactic(auto, unfolding(spec_keys::specs::Stages::through, spec_keys::specs::Fields::stages))]
+pub fn network_part(mask: &Mask) -> Mask
+    ensures { bits result ≡ staged network_stage (bits mask.now) }
+{
+    let mask = &mask.fields;
+    Mask {
+        fields: with_fields!(part(mask, through_network)),
     }
 }

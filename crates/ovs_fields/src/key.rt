@@ -4,6 +4,8 @@ ghost use Rattle.ovs_fields.specs.Lists.{list_of};
 
 use crate::FieldId;
 use crate::fields::Fields;
+use crate::hash::key_hash;
+use std::hash::{Hash, Hasher};
 
 /// The key of a packet: a number for each field, within the field's width.
 ///
@@ -68,6 +70,18 @@ impl Eq for Key {
     ghost use Rattle.ovs_fields.specs.Equality.{same_equivalence};
 
     ghost laws = { same_equivalence numbers };
+}
+
+impl Hash for Key {
+    ghost use Rattle.ovs_fields.specs.Hashing.{key_writes, key_writes_alike};
+
+    ghost hash_input = { key_writes };
+
+    ghost respects_eq = { key_writes_alike };
+
+    fn hash<H: Hasher>(&self, state: &mut H) {
+        state.write_u64(key_hash(self));
+    }
 }
 
 // Two and a half lines of a processor's cache.

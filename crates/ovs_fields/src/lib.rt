@@ -13,9 +13,11 @@
 //! - Each number is within the width of its field. The types keep this: `k.is_key` and `m.is_key` are the facts
 //!   `IsKey (numbers k)` and `IsKey (bits m)`, at hand for every `Key` and `Mask`.
 //! - `set` changes one field and `add` adds bits to one, and the other fields stay.
-//! - `agree`, `covers` and `and` answer by bits, exactly as the definitions `agree`, `covers` and `common_bits` do. Two
-//!   keys are equal, as are two masks, exactly where their lists are.
-//! - `key_hash` is the 64-bit FNV-1a of the fields' bytes, for every key.
+//! - `agree`, `covers`, `and`, `or` and `masked` answer by bits, exactly as the definitions `agree`, `covers`,
+//!   `common_bits`, `joined` and `masked` do. Two keys are equal, as are two masks, exactly where their lists are.
+//! - `metadata_part`, `ethernet_part` and `network_part` are the bits of a mask through a stage, as the definition `staged`
+//!   of `spec_keys` has them.
+//! - `key_hash` is the 64-bit FNV-1a of the fields' bytes, for every key. Keys and masks feed it to hash functions.
 //! - `all_fields` lists the fields in the order of the key; `width` and `stage` are those of the table.
 //! - No call takes memory, and none can fail.
 //!
@@ -47,10 +49,8 @@ mod hash;
 mod key;
 mod mask;
 mod table;
-#[cfg(test)]
-mod tests;
 
-pub use bitwise::{agree, and, covers};
+pub use bitwise::{agree, and, covers, ethernet_part, masked, metadata_part, network_part, or};
 pub use field_list::{FIELD_COUNT, all_fields};
 pub use hash::key_hash;
 pub use key::Key;

@@ -3,7 +3,9 @@ ghost use Rattle.spec_keys.specs.Keys.{IsKey};
 ghost use Rattle.ovs_fields.specs.Lists.{list_of};
 
 use crate::fields::Fields;
+use crate::hash::key_hash;
 use crate::{FieldId, Key};
+use std::hash::{Hash, Hasher};
 
 /// A mask of keys: which bits of each field count.
 ///
@@ -69,6 +71,22 @@ impl Eq for Mask {
     ghost use Rattle.ovs_fields.specs.Equality.{same_equivalence};
 
     ghost laws = { same_equivalence bits };
+}
+
+// A mask is hashed as the key with its numbers would be.
+impl Hash for Mask {
+    ghost use Rattle.ovs_fields.specs.Hashing.{mask_writes, mask_writes_alike};
+
+    ghost hash_input = { mask_writes };
+
+    ghost respects_eq = { mask_writes_alike };
+
+    fn hash<H: Hasher>(&self, state: &mut H) {
+        let key = Key {
+            fields: self.fields,
+        };
+        state.write_u64(key_hash(&key));
+    }
 }
 
 const _: () = prove!(size_of::<Mask>() == size_of::<Key>());

@@ -21,7 +21,8 @@ use Rattle.spec_xlate.specs.Needs.{is_met, fields_needed}
 use Rattle.spec_xlate.specs.Tags.{outer_tags, commit_tags}
 use Rattle.spec_xlate.specs.Commit.{commit, commit_field, commit_fields}
 use Rattle.spec_xlate.specs.Translation.{pipe, act, run, look, last_state, write, output, output_all, emit, emit_all, committed, inserted, rising}
-use Rattle.spec_xlate.specs.Lookup.{through, length_up_to, common_length, deciding, probe, consults}
+use Rattle.spec_keys.specs.Stages.{through}
+use Rattle.spec_xlate.specs.Lookup.{length_up_to, common_length, deciding, probe, consults}
 use Rattle.spec_xlate.specs.Consulted.{act_bits, run_bits, look_bits, consulted}
 use Rattle.spec_pcap.specs.Pcap.{Frame, Capture}
 use Rattle.spec_tables.specs.declared.sync_point.SyncPoint.{SyncPoint}

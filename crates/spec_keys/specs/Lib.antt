@@ -2,3 +2,4 @@ pub mod Fields
 pub mod Keys
 pub mod Hash
 pub mod Protocols
+pub mod Stages

@@ -6,6 +6,7 @@
 //! - `Fields`: the one table of the fields, with the number, width, stage and printed form of each.
 //! - `Keys`: two keys *agree* under a mask where they have the same bits wherever the mask has 1; a mask *covers*
 //!   another where it has all its bits; two pairs of key and mask *overlap* where some key agrees with both.
+//! - `Stages`: where the stages of a lookup end, and the part of a mask that each reaches.
 //! - `Protocols`: the numbers by which frames and keys say what they carry.
 //! - `Hash`: the 64-bit hash of a key (FNV-1a), by which the exact-match cache finds its slots.
 //!

@@ -1,12 +1,13 @@
 -- The bits that a lookup in one table consults: tuple space search with staged lookup and prefix tracking (NSDI 2015,
--- sections 5.1, 5.3 and 5.4). Where the stages end, and which fields are tracked, is this profile's.
+-- sections 5.1, 5.3 and 5.4). Which fields are tracked is this profile's.
 use Rattle.std.specs.Prelude.{ℕ, zero, suc, min, max, Bool, true, false, ◌&&◌, not, ◌==◌, nat_le, if◌then◌else◌, List, [], ◌∷◌, map, filter, fold, Option, Some, None, bit_and}
 use Rattle.std.specs.List.{list_any, flat_map}
 use Rattle.spec_base.specs.Bits.{leading_bits}
 use Rattle.spec_keys.specs.declared.field_id.FieldId.{FieldId}
 use Rattle.spec_keys.specs.declared.field_id.FieldId.TheVariants.{NwSrc, NwDst, Ipv6Src, Ipv6Dst}
-use Rattle.spec_keys.specs.Fields.{place_of, width_of, stages}
+use Rattle.spec_keys.specs.Fields.{place_of, width_of}
 use Rattle.spec_keys.specs.Keys.{value_of, same, agree, joined, none, only_at}
+use Rattle.spec_keys.specs.Stages.{metadata_stage, ethernet_stage, network_stage, staged}
 use Rattle.spec_tables.specs.Rules.{Rule, winner}
 
 -- Masks
@@ -24,26 +25,6 @@ when true masks = masks
 when false masks = []
 
 -- Stages (NSDI 2015, section 5.3)
-
--- the last of the fields that each stage but the last one reaches: the packet's metadata, Ethernet and IP
-abbrev pub metadata_stage : ℕ
-metadata_stage = 0
-
-abbrev pub ethernet_stage : ℕ
-ethernet_stage = 1
-
-abbrev pub network_stage : ℕ
-network_stage = 2
-
--- the numbers of a mask in the fields whose stage, listed in the same order, is this one or an earlier one, and else 0
-unfoldable pub through : ℕ → List ℕ → List ℕ → List ℕ
-through stage list [] = []
-through stage [] (b ∷ bits) = []
-through stage (s ∷ list) (b ∷ bits) = (if nat_le s stage then b else 0) ∷ through stage list bits
-
--- the bits of a mask in the fields of this stage and those before
-abbrev pub staged : ℕ → List ℕ → List ℕ
-staged stage mask = through stage stages mask
 
 -- whether some rule of this mask agrees with the key on this part of the mask
 abbrev pub some_agrees : List Rule → List ℕ → List ℕ → List ℕ → Bool

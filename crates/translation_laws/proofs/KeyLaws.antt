@@ -4,7 +4,7 @@ use Rattle.std.proofs.lemmas.Nat.{and_comm, and_assoc, and_or_self, or_comm}
 use Rattle.std.proofs.lemmas.List.{ext_get_or}
 use Rattle.std.proofs.lemmas.Bool.Decides.{nat_tests}
 use Rattle.spec_keys.specs.Keys.{number_at, masked, same, agree, joined, only_at}
-use Rattle.spec_xlate.specs.Lookup.{through}
+use Rattle.spec_keys.specs.Stages.{through}
 
 -- The two keys have the same bits wherever one of the masks has 1.
 abbrev pub SameBits : List ℕ → List ℕ → List (List ℕ) → Type 0

@@ -6,7 +6,8 @@ use Rattle.spec_keys.specs.declared.field_id.FieldId.{FieldId}
 use Rattle.spec_keys.specs.Fields.{place_of, width_of, stages}
 use Rattle.spec_keys.specs.Keys.{value_of, masked, same, agree, none, covers}
 use Rattle.spec_tables.specs.Rules.{Rule, is_matched, winner}
-use Rattle.spec_xlate.specs.Lookup.{added, union, when, staged, some_agrees, stage_test, prefix_of, prefixes, deciding, begins_with, some_begins, tracked_fields, leading, prefix_test, prefix_tests, metadata_stage, ethernet_stage, network_stage, probe, priority_to_beat, rules_from, consults}
+use Rattle.spec_keys.specs.Stages.{staged, metadata_stage, ethernet_stage, network_stage}
+use Rattle.spec_xlate.specs.Lookup.{added, union, when, some_agrees, stage_test, prefix_of, prefixes, deciding, begins_with, some_begins, tracked_fields, leading, prefix_test, prefix_tests, probe, priority_to_beat, rules_from, consults}
 use Rattle.translation_laws.proofs.KeyLaws.{same_refl, agree-masked, agree_from-masked, masked_through-same, number_at-masked}
 use Rattle.translation_laws.specs.Best.{AreMasksOf}
 use Rattle.translation_laws.proofs.MemberLaws.{Among_from-Contains, All-Among, Among, Among_in-filter, Among_in-map, Among-flat_map, Among_in-flat_map}

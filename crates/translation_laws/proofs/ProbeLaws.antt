@@ -7,7 +7,8 @@ use Rattle.spec_keys.specs.declared.field_id.FieldId.{FieldId}
 use Rattle.spec_keys.specs.Fields.{place_of, width_of, stages}
 use Rattle.spec_keys.specs.Keys.{value_of, masked, same, agree}
 use Rattle.spec_tables.specs.Rules.{Rule, is_matched, winner}
-use Rattle.spec_xlate.specs.Lookup.{when, staged, some_agrees, stage_test, prefix_of, prefixes, starts_alike, deciding, some_begins, tracked_fields, leading, prefix_test, prefix_tests, metadata_stage, ethernet_stage, network_stage, probe, priority_to_beat, rules_from, consults}
+use Rattle.spec_keys.specs.Stages.{staged, metadata_stage, ethernet_stage, network_stage}
+use Rattle.spec_xlate.specs.Lookup.{when, some_agrees, stage_test, prefix_of, prefixes, starts_alike, deciding, some_begins, tracked_fields, leading, prefix_test, prefix_tests, probe, priority_to_beat, rules_from, consults}
 use Rattle.translation_laws.proofs.KeyLaws.{SameBits, same_refl, same-eq, masked_through-same, number_at-masked, only_at-same, SameBits-append}
 use Rattle.translation_laws.proofs.MemberLaws.{Among, Among-filter, list_any-Among, Among_in-filter, Among_in-map}
 use Rattle.translation_laws.proofs.PrefixLaws.{length_up_to-le, prefix_length-is, prefixes-AreShort, deciding-same}

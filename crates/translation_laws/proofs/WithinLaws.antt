@@ -24,7 +24,8 @@ use Rattle.spec_xlate.specs.Tags.{tag_fields, is_tag_field}
 use Rattle.spec_xlate.specs.Needs.{is_ip, is_met, fields_needed}
 use Rattle.spec_xlate.specs.Translation.{Switch, State, Mode, deepest, in_field, slice_bits, written_bits, act, visited, with_lookups_left, look, start}
 use Rattle.spec_xlate.specs.Translation.Mode.{Going, ListEnded, Stopped}
-use Rattle.spec_xlate.specs.Lookup.{added, union, when, through, staged, stage_test, some_agrees, prefix_test, prefix_tests, prefixes, prefix_length, some_begins, leading, tracked_fields, metadata_stage, ethernet_stage, network_stage, probe, priority_to_beat, rules_from, consults}
+use Rattle.spec_keys.specs.Stages.{through, staged, metadata_stage, ethernet_stage, network_stage}
+use Rattle.spec_xlate.specs.Lookup.{added, union, when, stage_test, some_agrees, prefix_test, prefix_tests, prefixes, prefix_length, some_begins, leading, tracked_fields, probe, priority_to_beat, rules_from, consults}
 use Rattle.spec_xlate.specs.Consulted.{whole, bits_read, bits_written, slice_read, under, write_bits, act_bits, in_mode_bits, run_bits, follow_bits, enter_bits, look_bits, start_bits, without, consulted}
 use Rattle.translation_laws.proofs.KeyLaws.{number_at-joined}
 use Rattle.translation_laws.proofs.MemberLaws.{Among, Among-append, Among-filter, Among-flat_map}
