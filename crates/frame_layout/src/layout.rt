@@ -1,6 +1,8 @@
 //! Where the headers of a frame stand.
-ghost use Rattle.std.specs.Prelude.{◌≡◌};
+ghost use Rattle.std.specs.Prelude.{◌≡◌, length};
 ghost use Rattle.spec_frames.specs.Layout.{place_of_network, is_routed, layout_with, layout_of};
+ghost use Rattle.frame_headers.specs.Within.{end_of, IsBefore};
+ghost use Rattle.frame_layout.specs.Laid.{AreBefore};
 
 use frame_headers::{HEADER_SIZE, carried, is_tagged, network_at, transport};
 use spec_frames::{L3, Layout, Network};
@@ -29,7 +31,8 @@ fn is_routed(network: &Network) -> bool
 
 #[inline]
 fn layout_with(tagged: bool, network: &Network) -> Layout
-    ensures { result ≡ layout_with tagged network.now }
+    ensures value { result ≡ layout_with tagged network.now }
+    ensures before { IsBefore (end_of network.now) result.l4 }
 {
     Layout {
         tagged,
@@ -43,7 +46,8 @@ fn layout_with(tagged: bool, network: &Network) -> Layout
 /// takes no memory.
 #[tactic(auto, unfolding(spec_frames::specs::Layout::layout_of))]
 pub fn layout_of(frame: &[u8]) -> Layout
-    ensures { result ≡ layout_of frame.now }
+    ensures value { result ≡ layout_of frame.now }
+    ensures within { AreBefore (length frame.now) result }
 {
     if frame.len() < HEADER_SIZE {
         return layout_with(false, &Network::Nothing);

@@ -1,0 +1,4 @@
+pub mod Shapes
+pub mod Placed
+pub mod Following
+pub mod Visits
