@@ -1,3 +1,4 @@
 pub mod Prefixes
-pub mod Sends
+mod Sends
 pub mod Decided
+mod Written

@@ -2,7 +2,8 @@
 use Rattle.std.proofs.Common.{◌≡◌, ℕ, suc, ◌+◌, ◌-◌, ◌<◌, List, ◌∷◌, ◌++◌, length, get_or, take, drop, replicate, sym, ap, ◌∙◌, append_assoc, refl, inl, inr, arith}
 use Rattle.std.specs.Prelude.{[], Result, Err}
 use Rattle.std.specs.List.{flat_map}
-use Rattle.std.proofs.lemmas.List.{drop_more, replicate-append-replicate, take-append-drop}
+use Rattle.std.proofs.Math.Seq.{take-append_seam}
+use Rattle.std.proofs.lemmas.List.{append-nil, drop_more, replicate-append-replicate, take-append-drop}
 use Rattle.std.proofs.lemmas.Grind.{flat_map-append}
 use Rattle.spec_base.specs.Files.{IsPrefixOf}
 use Rattle.edge_io.specs.declared.outside.Failed.{Failed}
@@ -21,6 +22,24 @@ copy_cut bytes t u v x i n lt first prefix =
     let all : replicate n x ≡ replicate i x ++ (x ∷ replicate (n - (i + 1)) x) = sym (replicate-append-replicate i (suc (n - (i + 1))) x ∙ ap (λ m. replicate m x) more) in
     prefix_within t u v (flat_map bytes (replicate i x)) (bytes x) (flat_map bytes (replicate (n - (i + 1)) x)) (flat_map bytes (replicate n x))
     (ap (flat_map bytes) all ∙ flat_map-append bytes (replicate i x) (x ∷ replicate (n - (i + 1)) x)) first prefix
+
+pub wrote_nothing : (t : Told) → t ≡ wrote t []
+wrote_nothing t = ap (λ (xs : List ℕ). let told : Told = record t { current = xs } in told) (sym (append-nil t.current))
+
+-- the one piece and then the other
+pub wrote_both : (before between after : Told) (xs ys : List ℕ) → between ≡ wrote before xs → after ≡ wrote between ys → after ≡ wrote before (xs ++ ys)
+wrote_both before between after xs ys first second =
+    second ∙ ap (λ (t : Told). wrote t ys) first
+    ∙ ap (λ (zs : List ℕ). let told : Told = record before { current = zs } in told) (append_assoc before.current xs ys)
+
+-- all of a piece is a prefix of it with what stands after it
+pub wrote_prefix : (before after : Told) (xs ys : List ℕ) → after ≡ wrote before xs → WrotePrefix before after (xs ++ ys)
+wrote_prefix before after xs ys first =
+    (length xs, first ∙ ap (wrote before) (sym (take-append_seam xs ys)))
+
+-- the bytes of one record alone
+pub of_one : {X : Type 0} (bytes : X → List ℕ) (x : X) → flat_map bytes (x ∷ []) ≡ bytes x
+of_one bytes x = append-nil (bytes x)
 
 module _ {X Z : Type 0} (pieces : X → List Z) (bytes : Z → List ℕ) where
   -- the bytes of the pieces of these

@@ -16,7 +16,8 @@
 //!
 //! The arrivals are made once for all ports. Each port's file is one walk along them: the board of an arrival's port is
 //! found by going through the ports, of which there are few, and lends the actions of the frame, whose bytes go from
-//! its trace to the shelf. Nothing is copied, and no memory is taken.
+//! its trace to the shelf. What only sends is written from there. A frame that is rewritten on the way is copied into a
+//! buffer first (`action_exec`), one for each file, and only where it goes out at the port after it was rewritten.
 //!
 //! # What is left to others
 //!
@@ -25,5 +26,6 @@
 #![tactic(auto)]
 
 mod port_file;
+mod sending;
 
 pub use port_file::write_port;

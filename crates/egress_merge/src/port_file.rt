@@ -1,4 +1,4 @@
-ghost use Rattle.std.specs.Prelude.{◌≡◌, map, count_by, All, IsTrue, OnOk, OnErr, Err};
+ghost use Rattle.std.specs.Prelude.{◌≡◌, ◌≤◌, length, map, All, IsTrue, OnOk, OnErr, Err};
 ghost use Rattle.std.specs.List.{flat_map};
 ghost use Rattle.spec_pcap.specs.Pcap.{record_of, file_of};
 ghost use Rattle.spec_case.specs.Run.{is_nanos};
@@ -12,35 +12,19 @@ ghost use Rattle.run_blocks.specs.Places.{HasPort};
 ghost use Rattle.pmd_board.specs.BoardView.{journals_view};
 ghost use Rattle.frame_arrivals.specs.Arrivals.{IsArrival};
 ghost use Rattle.egress_merge.specs.Boards.{IsAllDecided};
-ghost use Rattle.egress_merge.specs.Sending.{sends_to};
+ghost use Rattle.spec_xlate.specs.Translation.{action_limit};
 ghost use Rattle.edge_io.specs.Written.{written, WrotePrefix};
 ghost use Rattle.spec_base.specs.Files.{IsPrefixOf};
 
+use crate::sending::send;
+use action_exec::FrameBuffer;
 use edge_io::{Failed, Shelf};
 use pcap_writer::PcapWriter;
 use pmd_board::Board;
 use run_case::{Case, RunData};
 use spec_actions::DpAction;
 use spec_case::Arrival;
-
-fn is_output_to(action: &DpAction, port: u16) -> bool
-    ensures { result ≡ sends_to port action.now }
-{
-    match action {
-        DpAction::Output(number) => *number == port,
-        _ => false,
-    }
-}
-
-// How often a frame with these actions goes out at a port.
-fn copies(actions: &[DpAction], port: u16) -> usize
-    ensures { result ≡ count_by (sends_to port) actions.now }
-{
-    actions
-        .iter()
-        .filter(|action| is_output_to(action, port))
-        .count()
-}
+use std::alloc::Global;
 
 // The board of a port.
 fn board_of<'a, C: Case>(run: &RunData<C>, boards: &'a [Board<C>], port: u16) -> &'a Board<C>
@@ -66,7 +50,8 @@ fn actions_of<'a, C: Case>(
     requires boards { map (λ b. b.port) boards.now ≡ C.run.ports }
     requires there { IsArrival C.run arrival }
     requires decided { All (IsAllDecided C.run) boards.now }
-    ensures { result.now ≡ actions_for C.run (journals_view boards.now) arrival.port arrival.place }
+    ensures actions { result.now ≡ actions_for C.run (journals_view boards.now) arrival.port arrival.place }
+    ensures few { length result.now ≤ action_limit }
 {
     match board_of(run, boards, arrival.port).decision(arrival.place) {
         Some((_, actions)) => actions,
@@ -75,16 +60,18 @@ fn actions_of<'a, C: Case>(
 }
 
 // Writes an arrived frame as often as its actions send it out at the port.
-fn send<C: Case, S: Shelf>(
+fn send_arrived<C: Case, S: Shelf>(
     shelf: &mut S,
     writer: &mut PcapWriter,
     run: &RunData<C>,
     arrival: Arrival,
     actions: &[DpAction],
     port: u16,
+    buffer: &mut FrameBuffer,
 ) -> Result<(), Failed>
     requires in_use { S.in_use shelf.old ≡ Created }
     requires there { IsArrival C.run arrival }
+    requires few { length actions.now ≤ action_limit }
     ensures nanos { writer.new ≡ writer.old }
     ensures in_use { S.in_use shelf.new ≡ Created }
     ensures ok { let bytes = flat_map (record_of writer.old) (frames_by C.run actions.now port arrival) in
@@ -95,24 +82,22 @@ fn send<C: Case, S: Shelf>(
 {
     let time = run.time(arrival.port, arrival.place);
     let frame = run.frame(arrival.port, arrival.place);
-    'sends: for copy in 0..copies(actions, port) {
-        writer.frame(shelf, time, frame)?;
-    }
-    Ok(())
+    send(shelf, writer, time, frame, actions, port, buffer)
 }
 
 /// Writes the capture file of a port under a name: what the decided frames of a run send out at it, in the order of
 /// their arrivals. Its times are in nanoseconds where those of a trace of the run are.
 ///
-/// It takes no memory, and copies no frame.
+/// A frame that its actions rewrite is copied into a buffer, which is kept from frame to frame; no other one is.
 ///
 /// # Errors
 ///
 /// - `Fault`: the shelf failed in creating, writing or closing the file, and its count of writing rose.
-/// - `OutOfMemory`: there was no memory for the shelf.
+/// - `OutOfMemory`: there was no memory for the shelf, or for the copy of a frame.
 ///
 /// After an error the file has a prefix of its bytes, or was not created; it may still be in use.
 pub fn write_port<C: Case, S: Shelf>(
+    alloc: Global,
     shelf: &mut S,
     name: &str,
     port: u16,
@@ -136,10 +121,19 @@ pub fn write_port<C: Case, S: Shelf>(
     // The ports differ, so that each arrival is a frame of its port's own trace.
     let ports = run.ports().len() as usize;
     prove!(boards.len() == ports);
+    let mut buffer = FrameBuffer::new(alloc);
     let mut writer = PcapWriter::start(shelf, name, run.nanos())?;
     'arrivals: for arrival in arrivals {
         let actions = actions_of(run, boards, *arrival);
-        send(shelf, &mut writer, run, *arrival, actions, port)?;
+        send_arrived(
+            shelf,
+            &mut writer,
+            run,
+            *arrival,
+            actions,
+            port,
+            &mut buffer,
+        )?;
     }
     writer.end(shelf)
 }

@@ -1,7 +1,6 @@
 -- What becomes of a run before anything is written. The words come first, then the file of edits, then the traces in the
 -- order of the words; the first input that is refused decides.
 use Rattle.std.specs.Prelude.{ℕ, ◌-◌, nat_lt, false, if◌then◌else◌, List, [], ◌∷◌, ◌++◌, length, map, Option, Result, Ok, Err, codes}
-use Rattle.std.specs.List.{list_all}
 use Rattle.std.specs.Option.{ok_or}
 use Rattle.spec_pcap.specs.declared.fault.PcapFault.{PcapFault}
 use Rattle.spec_pcap.specs.declared.fault.PcapFault.TheVariants.{TooManyFrames}
@@ -9,7 +8,6 @@ use Rattle.spec_pcap.specs.Pcap.{Capture, capture_of}
 use Rattle.spec_case.specs.Run.{Run}
 use Rattle.spec_words.specs.Words.{PortWord, Command, command_of, has_trace}
 use Rattle.spec_tables.specs.Changes.{changes_to}
-use Rattle.spec_tables.specs.Outputs.{only_sends}
 use Rattle.spec_flow_text.specs.declared.fault.TextFault.TheVariants as text
 use Rattle.spec_script.specs.declared.fault.ScriptFault.{ScriptFault}
 use Rattle.spec_script.specs.declared.fault.ScriptFault.TheVariants as script
@@ -75,12 +73,8 @@ script_within name bytes =
 abbrev pub with_few_changes : Script → Result Script Refusal
 with_few_changes s = if nat_lt most_changes (changes_to s.edits (length s.edits)) then Err (Limit Changes) else Ok s
 
--- actions that rewrite frames or look up again aren't built yet
-abbrev pub with_built_actions : List ℕ → Script → Result Script Refusal
-with_built_actions name s = if list_all only_sends s.edits then Ok s else Err (NotBuilt name)
-
 unfoldable pub script_in : Files → List ℕ → Result Script Refusal
-script_in files name = bytes_in files name >>= script_within name >>= with_few_changes >>= with_built_actions name
+script_in files name = bytes_in files name >>= script_within name >>= with_few_changes
 
 -- ---- the traces
 

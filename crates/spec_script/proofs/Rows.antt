@@ -1,5 +1,5 @@
 -- Worked rows: files of edits, and sync lines.
-use Rattle.std.specs.Prelude.{◌≡◌, ℕ, List, [], ◌∷◌, ◌++◌, map, replicate, Option, Some, None, Ok, Err, codes, refl}
+use Rattle.std.specs.Prelude.{◌≡◌, ℕ, List, [], ◌∷◌, ◌++◌, map, replicate, Some, None, Ok, Err, codes, refl}
 use Rattle.std.specs.Result.{result_err}
 use Rattle.spec_keys.specs.Keys.{none, joined, only_at}
 use Rattle.spec_actions.specs.declared.action.OfAction.TheVariants.{Output}
@@ -7,7 +7,7 @@ use Rattle.spec_tables.specs.declared.edit_word.EditWord.TheVariants.{Add}
 use Rattle.spec_tables.specs.declared.sync_point.SyncPoint.{SyncPoint}
 use Rattle.spec_tables.specs.Edits.{Edit}
 use Rattle.spec_numbers.specs.Numbers.{digits_upto, decimal_upto, number_upto}
-use Rattle.spec_flow_text.specs.declared.fault.TextFault.TheVariants.{Syntax, UnknownName, BadValue, Repeated, TooManyActions}
+use Rattle.spec_flow_text.specs.declared.fault.TextFault.TheVariants.{Syntax, UnknownName, BadValue, Repeated}
 use Rattle.spec_flow_text.specs.Names.{field_named, is_field_left_out, shorthand_named, keyword_named, item_named, reserved_port_named, is_action_left_out, action_named}
 use Rattle.spec_flow_text.specs.Values.{value_in, whole_value, value_of, bits_stated, field_stated}
 use Rattle.spec_flow_text.specs.Items as items

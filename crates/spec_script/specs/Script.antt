@@ -3,7 +3,7 @@
 --     sync SECONDS [. FRACTION]
 --
 -- A sync line has two words, and gives a time: the edits after it begin a new block then. From `#` on a line is comment.
-use Rattle.std.specs.Prelude.{ℕ, ◌+◌, ◌-◌, ◌*◌, ◌^◌, ◌==◌, nat_lt, nat_le, Bool, true, false, if◌then◌else◌, List, [], ◌∷◌, ◌++◌, length, slice_get, Option, Some, None, Result, Ok, Err, codes, bytes_eq}
+use Rattle.std.specs.Prelude.{ℕ, ◌+◌, ◌-◌, ◌*◌, ◌^◌, ◌==◌, nat_lt, nat_le, Bool, true, false, if◌then◌else◌, List, [], ◌∷◌, ◌++◌, length, slice_get, Option, None, Result, Ok, Err, codes, bytes_eq}
 use Rattle.std.specs.List.{list_all, slice_split}
 use Rattle.std.specs.Option.{ok_or, option_map, option_map_or, option_and_then}
 use Rattle.spec_numbers.specs.Characters.{line_feed, dot}

@@ -1,5 +1,4 @@
 pub mod Rules
 pub mod Edits
 pub mod Live
-pub mod Outputs
 pub mod Changes

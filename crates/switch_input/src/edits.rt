@@ -5,12 +5,11 @@ ghost use Rattle.std.specs.Prelude.{◌≡◌, ◌<◌, ◌≤◌, ◌^◌, leng
 ghost use Rattle.std.specs.List.{list_all};
 ghost use Rattle.edge_io.specs.declared.outside.InUse.TheVariants.{Nothing};
 ghost use Rattle.edge_io.specs.ReadAll.{OnlyRead};
-ghost use Rattle.spec_tables.specs.Outputs.{is_sending, only_sends};
 ghost use Rattle.spec_case.specs.Blocks.{AreInOrder};
 ghost use Rattle.spec_script.specs.Script.{most_edits, most_syncs};
 ghost use Rattle.spec_script.specs.declared.fault.ScriptFault.TheVariants as script;
 ghost use Rattle.spec_run.specs.Limits.{most_edits_bytes};
-ghost use Rattle.spec_run.specs.Verdict.{refused_script, script_within, with_few_changes, with_built_actions, script_in};
+ghost use Rattle.spec_run.specs.Verdict.{refused_script, script_within, with_few_changes, script_in};
 ghost use Rattle.rule_tables.specs.History.{history_of};
 ghost use Rattle.edit_script.specs.Plain.{has_sound_actions};
 ghost use Rattle.edit_script.specs.ScriptViews.{script_view};
@@ -21,7 +20,7 @@ use crate::reading::read_file;
 use crate::rules::rules_of;
 use edge_io::Shelf;
 use edit_script::{Script, ScriptFault, read_script};
-use rule_tables::{Edit, OfAction, VersionedRules};
+use rule_tables::VersionedRules;
 use spec_flow_text::TextFault;
 use spec_run::Quantity;
 use std::alloc::Global;
@@ -87,40 +86,6 @@ fn rules_within<'a>(alloc: Global, script: &Script) -> Result<VersionedRules, In
     Ok(rules)
 }
 
-fn is_sending(action: &OfAction) -> bool
-    ensures { result ≡ is_sending action.now }
-{
-    matches!(
-        action,
-        OfAction::Output(_) | OfAction::InPort | OfAction::All | OfAction::Flood
-    )
-}
-
-fn only_sends(edit: &Edit) -> bool
-    ensures { result ≡ only_sends edit.now }
-{
-    edit.actions.as_slice().iter().all(is_sending)
-}
-
-fn all_only_send(edits: &[Edit]) -> bool
-    ensures { result ≡ list_all only_sends edits.now }
-{
-    edits.iter().all(only_sends)
-}
-
-// Refuses edits that do more than send.
-fn refuse_other_actions<'a>(name: &'a str, script: &Script) -> Result<(), InputRefusal<'a>>
-    ensures ok { OnOk result (with_built_actions name.now (script_view script.now) ≡ Ok (script_view script.now)) }
-    ensures err { IfErr result (Explains (with_built_actions name.now (script_view script.now))) }
-    ensures no_fault { IfErr result (λ r. IfReadFault r (λ _. ⊥)) }
-{
-    if all_only_send(&script.edits) {
-        Ok(())
-    } else {
-        Err(InputRefusal::Input(InputFault::NotBuilt { what: name }))
-    }
-}
-
 // The script of the bytes of a file and its rules, where it is accepted.
 fn edits_in<'a>(alloc: Global, name: &'a str, bytes: &[u8]) -> Result<EditsFile, InputRefusal<'a>>
     requires { length bytes.now ≤ most_edits_bytes }
@@ -135,7 +100,6 @@ fn edits_in<'a>(alloc: Global, name: &'a str, bytes: &[u8]) -> Result<EditsFile,
 {
     let script = script_of(alloc, name, bytes)?;
     let rules = rules_within(alloc, &script)?;
-    refuse_other_actions(name, &script)?;
     Ok(EditsFile { script, rules })
 }
 

@@ -13,7 +13,7 @@
 //! - What was read is what the verdict accepts: the command, the edits and the sync points, and a trace for each port. All
 //!   of it has the form that is built, and is within the limits. The actions of the edits are sound. The rules are those of
 //!   every version that the edits make, by the history that `rule_tables` gives to them.
-//! - An input is refused only as the verdict refuses it: the words or the edits as a form that isn't built, the edits or a
+//! - An input is refused only as the verdict refuses it: the words as a form that isn't built, the edits or a
 //!   trace by the name and the first fault, or a quantity as above its limit.
 //! - A read fault is told only where calls of reading failed, and of the file that was last asked for. Before that file none
 //!   is refused.

@@ -57,7 +57,7 @@ fn write_port_file<C: Case, S: Shelf>(
     ensures cause { IfErr result (HasCause (S.counts shelf.old) (S.counts shelf.new)) }
 {
     let name = port_file_name(alloc, out, port)?;
-    match write_port(shelf, name.as_str(), port, run, boards, arrivals) {
+    match write_port(alloc, shelf, name.as_str(), port, run, boards, arrivals) {
         Ok(()) => Ok(()),
         Err(Failed::Fault) => Err(WriteRefusal::WriteFault { name }),
         Err(Failed::OutOfMemory) => Err(WriteRefusal::OutOfMemory),

@@ -24,19 +24,19 @@ actions_of-actions-requires-clause-there g c =
     let distinct = rw c.ports.ensures at c.len-ports.ensures.distinct in
     rw (← c.requires.arrivals) at (are_arrivals g.C.Case.run distinct) c.arrivals.arrival-index _ c.arrivals-test.true
 
-pub send-requires-clause-there : goal.send-requires-clause-there
-send-requires-clause-there g c =
+pub send_arrived-requires-clause-there : goal.send_arrived-requires-clause-there
+send_arrived-requires-clause-there g c =
     let distinct = rw c.ports.ensures at c.len-ports.ensures.distinct in
     rw (← c.requires.arrivals) at (are_arrivals g.C.Case.run distinct) c.arrivals.arrival-index _ c.arrivals-test.true
 
-pub returns-in_err-send-clause-err : goal.returns-in_err-send-clause-err
-returns-in_err-send-clause-err g c = λ t.
+pub returns-in_err-send_arrived-clause-err : goal.returns-in_err-send_arrived-clause-err
+returns-in_err-send_arrived-clause-err g c = λ t.
     let run = g.C.Case.run in
-    let p = err_from_is_err_and c.from_residual-in_err-send.result c.from_residual-in_err-send.ensures.1 in
+    let p = err_from_is_err_and c.from_residual-in_err-send_arrived.result c.from_residual-in_err-send_arrived.ensures.1 in
     let before = g.S.Shelf.told c.args.shelf.now in
     let created : Told = record before { current = []; last = c.args.name.now } in
-    let w = rw (c.arrivals.invariant.nanos, c.actions_of-actions.ensures) at c.in_err-send.ensures.err t in
-    rw (p.1, ← c.requires.arrivals) (created_prefix before (g.S.Shelf.told c.send.new.shelf) (c.args.name.now, _) _ created c.send.ensures.in_use refl
+    let w = rw (c.arrivals.invariant.nanos, c.actions_of-actions.ensures.actions) at c.in_err-send_arrived.ensures.err t in
+    rw (p.1, ← c.requires.arrivals) (created_prefix before (g.S.Shelf.told c.send_arrived.new.shelf) (c.args.name.now, _) _ created c.send_arrived.ensures.in_use refl
     (pieces_cut (sent_to run (journals_view c.args.boards.now) c.args.port) (record_of (is_nanos run)) created _ _ (header (is_nanos run)) c.args.arrivals.now c.arrivals.arrival-index _ c.arrivals-test.true (c.arrivals.invariant.told t) w))
 
 pub returns-clause-err : goal.returns-clause-err
