@@ -28,9 +28,9 @@ use Rattle.key_laws.proofs.Chains.{upper_layer-keeps}
 -- ---- the type field
 
 -- What a frame carries begins at this offset or after, right after its type, if it has one.
-record IsTyped (frame : List ℕ) (least : ℕ) (c : Carried) : Type 0 where
-  begins : least ≤ c.at
-  after_type : c.dl_type ≢ no_type → big_endian_at type_size frame (c.at - type_size) ≡ c.dl_type
+pub record IsTyped (frame : List ℕ) (least : ℕ) (c : Carried) : Type 0 where
+  pub begins : least ≤ c.at
+  pub after_type : c.dl_type ≢ no_type → big_endian_at type_size frame (c.at - type_size) ≡ c.dl_type
 
 carried_by-IsTyped : (frame : List ℕ) (at : ℕ) → IsTyped frame (at + type_size) (carried_by frame at)
 unfolding carried_by
@@ -41,7 +41,7 @@ carried_by-IsTyped frame at =
     (λ s. record { begins = omega arith; after_type = λ ne. ap (big_endian_at type_size frame) (omega arith) })
     (λ s. record { begins = omega arith; after_type = λ ne. absurd (ne refl) }))
 
-carried-IsTyped : (frame : List ℕ) → IsTyped frame (if is_tagged frame then header_size + tag_size else header_size) (carried frame)
+pub carried-IsTyped : (frame : List ℕ) → IsTyped frame (if is_tagged frame then header_size + tag_size else header_size) (carried frame)
 unfolding carried
 carried-IsTyped frame = at (is_tagged frame)
   where
@@ -59,7 +59,7 @@ carried-least frame = by (is_tagged frame) (carried-IsTyped frame).begins
 -- ---- network headers
 
 -- A network header lies in the frame, its upper layer begins after it, and its packet ends in the frame.
-abbrev IsPlaced : List ℕ → Network → Type 0
+abbrev pub IsPlaced : List ℕ → Network → Type 0
 IsPlaced frame Nothing = Unit {0}
 IsPlaced frame (Arp at) = at + packet_size ≤ length frame
 IsPlaced frame (Ipv4 at d) =
@@ -110,7 +110,7 @@ ipv6-IsPlaced frame at =
 
 -- ---- the laws
 
-network-IsPlaced : (frame : List ℕ) → IsPlaced frame (network frame)
+pub network-IsPlaced : (frame : List ℕ) → IsPlaced frame (network frame)
 network-IsPlaced frame =
     by_network frame (carried frame).dl_type (carried frame).at (IsPlaced frame) tt (λ e. is_arp-IsPlaced frame (carried frame).at)
     (λ e h. is_ipv4-IsPlaced frame (carried frame).at (is_ipv4-HasSizes frame (carried frame).at h))

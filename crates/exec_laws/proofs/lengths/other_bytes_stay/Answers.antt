@@ -1,0 +1,5 @@
+use Rattle.exec_laws.proofs.EachField.{any-untouched}
+use Rattle.exec_laws.proofs.lengths.other_bytes_stay.Goals as goal
+
+pub returns : goal.returns
+returns c = any-untouched

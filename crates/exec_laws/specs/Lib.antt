@@ -1,0 +1,4 @@
+pub mod ReadBack
+pub mod Elsewhere
+pub mod Sends
+pub mod Become

@@ -1,0 +1,57 @@
+ghost use Rattle.std.specs.Prelude.{◌≡◌, ℕ, ◌<◌, ◌≤◌, ◌^◌, true, false, List, length, bit_or};
+ghost use Rattle.spec_keys.specs.declared.field_id.FieldId.{FieldId};
+ghost use Rattle.spec_keys.specs.declared.field_id.FieldId.TheVariants.{VlanTci};
+ghost use Rattle.spec_keys.specs.Fields.{width_of};
+ghost use Rattle.spec_keys.specs.Protocols.{tag_bit};
+ghost use Rattle.spec_frames.specs.Ethernet.{header_size, is_tagged};
+ghost use Rattle.spec_frames.specs.Layout.{layout_of};
+ghost use Rattle.spec_frames.specs.Key.{with_value, key_of};
+ghost use Rattle.spec_actions.specs.declared.action.DpAction.{DpAction};
+ghost use Rattle.spec_actions.specs.declared.action.DpAction.TheVariants.{PopVlan, PushVlan, Set};
+ghost use Rattle.spec_exec.specs.Places.{place_in};
+ghost use Rattle.spec_exec.specs.Rewriting.{after_action};
+ghost use Rattle.exec_laws.specs.ReadBack.{AreBytes, shows, ReadsBack};
+
+/// A field whose header is there reads back: the frame's key has the bits that were written, and all other bits as
+/// before. Those are the addresses of Ethernet, the fields of ARP, of IPv4 and of IPv6, and the ports of TCP and UDP
+/// over either IP, unless the packet is a fragment.
+pub fn fields_read_back()
+    ensures { (port : ℕ) (frame : List ℕ) (f : FieldId) (value mask : ℕ)
+        → AreBytes frame → header_size ≤ length frame
+        → shows port frame f ≡ true → mask < 2 ^ width_of f → ReadsBack port frame f value mask }
+{}
+
+/// A write to a field whose header isn't there changes nothing. One that the key doesn't show, as the ports of a first
+/// fragment, leaves the key as it is.
+pub fn other_fields_stay()
+    ensures absent { (frame : List ℕ) (f : FieldId) (value mask : ℕ)
+        → place_in (layout_of frame) f ≡ None → after_action (Set f value mask) frame ≡ frame }
+    ensures hidden { (port : ℕ) (frame : List ℕ) (f : FieldId) (value mask : ℕ)
+        → AreBytes frame → header_size ≤ length frame
+        → shows port frame f ≡ false → key_of port (after_action (Set f value mask) frame) ≡ key_of port frame }
+{}
+
+/// A frame of fewer than 14 bytes, which has no whole Ethernet header, stays as it is whatever the action, and one without
+/// a tag stays where a tag is popped.
+pub fn frames_without_the_header_stay()
+    ensures short { (action : DpAction) (frame : List ℕ)
+        → length frame < header_size → after_action action frame ≡ frame }
+    ensures untagged { (frame : List ℕ)
+        → is_tagged frame ≡ false → after_action PopVlan frame ≡ frame }
+{}
+
+/// A tag that is pushed onto a frame without one is the tag of the key, and so is one that takes the place of another. A
+/// tag that is popped is gone, if no second one then stands after the addresses (IEEE 802.1Q, 9.3). All other fields of
+/// the key stay.
+pub fn tags_read_back()
+    ensures push { (port tci : ℕ) (frame : List ℕ)
+        → header_size ≤ length frame → is_tagged frame ≡ false → tci < 2 ^ 16
+        → key_of port (after_action (PushVlan tci) frame) ≡ with_value VlanTci (bit_or tci tag_bit) (key_of port frame) }
+    ensures replace { (port tci : ℕ) (frame : List ℕ)
+        → header_size ≤ length frame → is_tagged frame ≡ true → tci < 2 ^ 16
+        → key_of port (after_action (PushVlan tci) (after_action PopVlan frame))
+        ≡ with_value VlanTci (bit_or tci tag_bit) (key_of port frame) }
+    ensures pop { (port : ℕ) (frame : List ℕ)
+        → header_size ≤ length frame → is_tagged frame ≡ true → is_tagged (after_action PopVlan frame) ≡ false
+        → key_of port (after_action PopVlan frame) ≡ with_value VlanTci 0 (key_of port frame) }
+{}

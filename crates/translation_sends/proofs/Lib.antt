@@ -1,0 +1,7 @@
+pub mod Emitted
+pub mod MadeKeys
+pub mod MadeOutputs
+pub mod LaterCommits
+pub mod WholeHeaders
+pub mod Sent
+mod Rows
