@@ -1,5 +1,6 @@
 -- A flow as items with separators between them (ovs-ofctl(8), "Flow Syntax"): what they state, one after the other, and
--- the first fault. Each item is tested by its name, then whether it repeats an earlier one, then by its value.
+-- the first fault. Each item is tested by its name and its form, then by its value, then whether it states a bit again;
+-- `table`, `priority` and `cookie` are tested for repetition before their value.
 use Rattle.std.specs.Prelude.{ℕ, ◌+◌, ◌-◌, ◌==◌, Bool, true, false, not, ◌&&◌, ◌||◌, if◌then◌else◌, List, [], ◌∷◌, ◌++◌, length, is_some, Option, Some, None, Result, Ok, Err, codes, bit_and}
 use Rattle.std.specs.List.{list_any, take_while}
 use Rattle.std.specs.Option.{ok_or, option_map, option_or}

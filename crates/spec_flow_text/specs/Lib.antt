@@ -6,4 +6,3 @@ pub mod Actions
 pub mod Printed
 pub mod Lines
 pub mod Given
-pub mod FlowText

@@ -7,7 +7,6 @@
 //! - `Matches`: which of the stated bits are kept, and the match that they make; what a line says before its actions.
 //! - `Actions`: the actions of a list, one after the other, and the first fault.
 //! - `Printed`: the one text of a match and of an action list.
-//! - `FlowText`: the edit that a line of the first built form spells; what is built above it stands on it for now.
 #![tactic(auto)]
 
 mod fault;
