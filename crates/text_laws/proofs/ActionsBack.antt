@@ -41,7 +41,7 @@ most_written field.Icmpv6Type h n lt = absurd (both_ways false refl h)
 most_written field.Icmpv6Code h n lt = absurd (both_ways false refl h)
 most_written f h n lt = below (named f).bits n lt
 
-fits_written : (f : NamedField) (n : ℕ) → n < 2 ^ (named f).bits → Fits (printed_form f) n
+pub fits_written : (f : NamedField) (n : ℕ) → n < 2 ^ (named f).bits → Fits (printed_form f) n
 fits_written field.IpFrag n lt = omega arith
 fits_written f n lt = omega arith
 
@@ -68,7 +68,7 @@ empty_back f b alike h =
     let none : value_of f [] ≡ None = read_as_value f [] alike ∙ (rw (no_value f (most_of f)) refl) in
     cc
 
-value_there : (f : NamedField) (b : Bits) → AreAlike (form_of f) (printed_form f) → (text : List ℕ) → value_of f text ≡ Some b → (length text == 0) ≡ false
+pub value_there : (f : NamedField) (b : Bits) → AreAlike (form_of f) (printed_form f) → (text : List ℕ) → value_of f text ≡ Some b → (length text == 0) ≡ false
 value_there f b alike [] h = absurd (empty_back f b alike h)
 value_there f b alike (c ∷ cs) h = grind (arith, nat_tests)
 
@@ -128,7 +128,7 @@ set_spelled f value mask sound again =
     record {
       alike = alike_written f p.0;
       value_most = most_written f p.0 value v;
-      mask_most = most_written f p.0 mask m;
+      mask_most = λ maskable. most_written f p.0 mask m;
       value_fits = fits_written f value v;
       mask_fits = fits_written f mask m;
       maskable = (and_parts ((named f).maskable || (mask == all_bits (named f).bits)) (has_tag_bit f (bits value mask)) again).0;

@@ -36,12 +36,12 @@ cond_texts true fresh x y u v w z text front rest = front
 cond_texts false false x y u v w z text front rest = rest
 cond_texts false true x y u v w z text front rest = rw (text, rest) refl
 
-words-cons : (separates : ℕ → Bool) (fresh : Bool) (at c : ℕ) (cs : List ℕ) → words separates fresh at (c ∷ cs)
+pub words-cons : (separates : ℕ → Bool) (fresh : Bool) (at c : ℕ) (cs : List ℕ) → words separates fresh at (c ∷ cs)
     ≡ cond (separates c) (words separates true (at + 1) cs) (cond fresh (record { at = at; text = up_to_separator separates (c ∷ cs) } ∷ words separates false (at + 1) cs) (words separates false (at + 1) cs))
 unfolding words
 words-cons separates fresh at c cs = refl
 
-words-none : (separates : ℕ → Bool) (fresh : Bool) (at : ℕ) → words separates fresh at [] ≡ []
+pub words-none : (separates : ℕ → Bool) (fresh : Bool) (at : ℕ) → words separates fresh at [] ≡ []
 unfolding words
 words-none separates fresh at = refl
 
@@ -53,7 +53,7 @@ words-elsewhere separates fresh at other (c ∷ cs) =
     ∙ cond_texts (separates c) fresh (words separates true (at + 1) cs) (words separates true (other + 1) cs) (words separates false (at + 1) cs) (words separates false (other + 1) cs) (record { at = at; text = up_to_separator separates (c ∷ cs) }) (record { at = other; text = up_to_separator separates (c ∷ cs) }) refl (words-elsewhere separates true (at + 1) (other + 1) cs) (words-elsewhere separates false (at + 1) (other + 1) cs)
     ∙ ap texts_of (sym (words-cons separates fresh other c cs))
 
-words-separated : (separates : ℕ → Bool) (fresh : Bool) (at c : ℕ) (cs : List ℕ) → separates c ≡ true → words separates fresh at (c ∷ cs) ≡ words separates true (at + 1) cs
+pub words-separated : (separates : ℕ → Bool) (fresh : Bool) (at c : ℕ) (cs : List ℕ) → separates c ≡ true → words separates fresh at (c ∷ cs) ≡ words separates true (at + 1) cs
 words-separated separates fresh at c cs e = words-cons separates fresh at c cs ∙ rw e refl
 
 -- and so has a text with two separators in place of one

@@ -1,11 +1,11 @@
-mod Cuts
-mod CommentLaws
-mod Ends
-mod SeparatorLaws
-mod PlainValues
-mod PlainPrinted
-mod ItemTexts
-mod ValuesBack
-mod ActionsBack
-mod ListsBack
-mod Rows
+pub mod Cuts
+pub mod CommentLaws
+pub mod Ends
+pub mod SeparatorLaws
+pub mod PlainValues
+pub mod PlainPrinted
+pub mod ItemTexts
+pub mod ValuesBack
+pub mod ActionsBack
+pub mod ListsBack
+pub mod Rows

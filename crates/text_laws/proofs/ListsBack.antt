@@ -214,7 +214,7 @@ spelled_sound (Output port) h = refl
 spelled_sound (Set f value mask) h = (and_parts (is_sound (Set f value mask)) (is_respellable (Set f value mask) && (bit_and value mask == value)) h).0
 spelled_sound a h = h
 
-all_sound : (actions : List OfAction) → list_all is_spellable actions ≡ true → list_all is_sound actions ≡ true
+pub all_sound : (actions : List OfAction) → list_all is_spellable actions ≡ true → list_all is_sound actions ≡ true
 all_sound [] h = refl
 all_sound (a ∷ actions) h =
     let p = and_parts (is_spellable a) (list_all is_spellable actions) h in
@@ -223,14 +223,14 @@ all_sound (a ∷ actions) h =
 plain_ascii : (c : ℕ) → is_plain_character c ≡ true → not (is_ascii c) ≡ false
 plain_ascii c h = grind (arith, nat_tests)
 
-all_ascii : (text : List ℕ) → IsPlain text → position (λ c. not (is_ascii c)) text ≡ None
+pub all_ascii : (text : List ℕ) → IsPlain text → position (λ c. not (is_ascii c)) text ≡ None
 all_ascii [] h = refl
 all_ascii (c ∷ cs) h =
     let p = and_parts (is_plain_character c) (list_all is_plain_character cs) h in
     position-cons (λ x. not (is_ascii x)) c cs ∙ (rw (plain_ascii c p.0, all_ascii cs p.1) refl)
 
 -- a list behind a front without a comment
-uncommented_all : (front text : List ℕ) → uncommented front ≡ front → IsPlain text → uncommented (front ++ text) ≡ front ++ text
+pub uncommented_all : (front text : List ℕ) → uncommented front ≡ front → IsPlain text → uncommented (front ++ text) ≡ front ++ text
 uncommented_all [] text h plain = take_while-all (λ c. not (c == number_sign)) text (lacks_by is_plain_character number_sign text refl plain)
 uncommented_all (c ∷ cs) text h plain =
     take_while-cons (λ x. not (x == number_sign)) c (cs ++ text) ∙ by_test (not (c == number_sign)) (sym (take_while-cons (λ x. not (x == number_sign)) c cs) ∙ h) (uncommented_all cs text)

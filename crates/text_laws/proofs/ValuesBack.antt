@@ -129,7 +129,7 @@ read_as_value f text h = refl
 pub record IsSpelled (f : NamedField) (b : Bits) : Type 0 where
   pub alike : AreAlike (form_of f) (printed_form f)
   pub value_most : b.value ≤ most_of f
-  pub mask_most : b.mask ≤ most_of f
+  pub mask_most : (named f).maskable ≡ true → b.mask ≤ most_of f
   pub value_fits : Fits (printed_form f) b.value
   pub mask_fits : Fits (printed_form f) b.mask
   pub maskable : ((named f).maskable || (b.mask == all_bits (named f).bits)) ≡ true
@@ -150,7 +150,7 @@ parts_back r f b h maskable =
     rw (
       split_once-front slash (masked_text (printed_form f) b.value) (mask_text (printed_form f) b.mask) (lacks_by is_value_character slash (masked_text (printed_form f) b.value) refl (masked_has r (form_of f) (printed_form f) h.alike b.value h.value_fits)),
       masked_back r (form_of f) (printed_form f) h.alike (most_of f) b.value h.value_most h.value_fits,
-      mask_back r (form_of f) (printed_form f) h.alike (most_of f) b.mask h.mask_most h.mask_fits,
+      mask_back r (form_of f) (printed_form f) h.alike (most_of f) b.mask (h.mask_most maskable) h.mask_fits,
       maskable,
     ) refl
 

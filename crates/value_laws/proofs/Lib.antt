@@ -5,3 +5,4 @@ mod GroupLaws
 mod AddressLaws
 mod MaskLaws
 mod CharacterLaws
+pub mod WithinLaws

@@ -12,9 +12,10 @@
 //!   whether it is a prefix or not (`ipv4_mask_reads_back`, `ipv6_mask_reads_back`).
 //! - All that is printed has digits, letters, colons and dots alone (`numbers_have_value_characters`,
 //!   `addresses_have_value_characters`, `masks_have_value_characters`). So a reader of flows finds where a value ends.
+//! - All that is read is within its range (`numbers_are_within`, `addresses_are_within`, `masks_are_within`).
 //!
-//! Each law holds of all numbers within the width of what is printed: 128 bits for plain numbers, which is the widest that
-//! a field has.
+//! What is printed reads back for all numbers within the width of what is printed: 128 bits for plain numbers, which is
+//! the widest that a field has.
 //!
 //! # How
 //!
@@ -31,6 +32,7 @@
 mod addresses;
 mod characters;
 mod numbers;
+mod ranges;
 
 pub use addresses::{
     ipv4_mask_reads_back, ipv4_reads_back, ipv6_mask_reads_back, ipv6_reads_back, mac_reads_back,
@@ -39,3 +41,4 @@ pub use characters::{
     addresses_have_value_characters, masks_have_value_characters, numbers_have_value_characters,
 };
 pub use numbers::{decimal_reads_back, hexadecimal_reads_back, hexadecimal4_reads_back};
+pub use ranges::{addresses_are_within, masks_are_within, numbers_are_within};

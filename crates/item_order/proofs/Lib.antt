@@ -1,0 +1,5 @@
+mod Effects
+mod SwappedParts
+mod SwappedItems
+mod SwappedLines
+mod Rows

@@ -1,0 +1,11 @@
+pub mod PartsRead
+pub mod StatableParts
+pub mod LinesRead
+pub mod Gathered
+pub mod Needs
+pub mod KeptNumbers
+pub mod FieldsSpelled
+pub mod ReadSpelled
+pub mod ActionsRead
+pub mod ListsRead
+pub mod EditTexts
