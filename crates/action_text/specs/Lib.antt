@@ -2,6 +2,5 @@ pub mod ActionsRead
 pub mod Arguments
 pub mod Brackets
 pub mod ItemStarts
-pub mod PrintedLists
 pub mod Spelled
 pub mod WordsRead

@@ -42,8 +42,6 @@ mod ports;
 mod printing;
 mod resubmit;
 mod slices;
-#[cfg(test)]
-mod tests;
 mod words;
 mod writes;
 

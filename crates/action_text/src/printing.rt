@@ -4,7 +4,7 @@ ghost use Rattle.spec_actions.specs.Sound.{is_sound, AreSound};
 ghost use Rattle.spec_flow_text.specs.Printed as printed;
 ghost use Rattle.text_numbers.specs.Prefix.{IsPrefix};
 ghost use Rattle.field_text.specs.Views.{Fits};
-ghost use Rattle.action_text.specs.PrintedLists.{after_commas};
+ghost use Rattle.field_text.specs.CommaLists.{after_commas};
 
 use field_text::{Bits, name_of, print_value};
 use spec_actions::{NamedField, OfAction, Slice};
@@ -100,7 +100,7 @@ fn print_action_after_comma(out: &mut String, action: OfAction) -> Result<(), Al
 // Actions that stand after another one.
 fn print_others(others: &[OfAction], out: &mut String) -> Result<(), AllocError>
     requires { AreSound others.now }
-    ensures text { OnOk result (string_bytes out.new ≡ string_bytes out.old ++ after_commas others.now) }
+    ensures text { OnOk result (string_bytes out.new ≡ string_bytes out.old ++ after_commas printed.action_text others.now) }
     ensures kept { OnErr result (IsPrefix (string_bytes out.old) (string_bytes out.new)) }
 {
     'others: for action in others {

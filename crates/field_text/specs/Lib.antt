@@ -1,3 +1,4 @@
 pub mod Views
 pub mod WordViews
 pub mod PrintedForms
+pub mod CommaLists

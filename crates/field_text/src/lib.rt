@@ -9,11 +9,11 @@
 //! # What is promised
 //!
 //! - A name means what the tables of `spec_flow_text` say, one that is known and left out is told from one that is
-//!   unknown, and `name_of` is the name that is printed.
+//!   unknown, and `name_of` is the name that is printed. `own_name` is the one that a field of the key has by itself.
 //! - `read_value` reads a value and its mask exactly where the definition has one. Both are within the bits of the name.
 //! - `field_stated` and `vlan_stated` are the bits of a field of the key that an item of a match states, with what they
 //!   need of the flow. They are within the field, and the value within its mask.
-//! - `print_value` adds the text of a value that the definition gives. After a refusal for want of memory the text begins
+//! - `print_value` adds the text of a value that the definition gives. Where memory runs out the text begins
 //!   with what it was.
 //! - A `Word` knows that its columns are numbers of 32 bits, and `text_from` gives the text of a line without its comment,
 //!   or the column of its first byte that isn't ASCII.
@@ -35,6 +35,7 @@ mod fields;
 mod items;
 mod line;
 mod lines;
+mod own_names;
 mod parts;
 mod printing;
 mod protocols;
@@ -48,6 +49,7 @@ pub use fields::{field_named, name_of};
 pub use items::{item_named, word_of};
 pub use line::Word;
 pub use lines::{is_separator, is_white, text_from, uncommented};
+pub use own_names::own_name;
 pub use parts::{field_stated, protocol_part, type_part, vlan_stated};
 pub use printing::print_value;
 pub use protocols::{

@@ -9,8 +9,8 @@
 //! # What is promised
 //!
 //! `spec_flow_text` says what a line states and which fault it has (`read_match` of `Matches`), and this crate answers just
-//! that, unless memory runs out. `print_match` adds the text that `match_printed` of `Printed` gives; after a refusal for
-//! want of memory the text begins with what it was.
+//! that, unless memory runs out. `print_match` adds the text that `match_printed` of `Printed` gives; where memory runs
+//! out the text begins with what it was.
 //!
 //! - Of several faults the first item's is told. In an item its name is tested first, then whether it gives a second
 //!   table, priority or cookie, then its value, and last whether it states a bit again. A byte that isn't ASCII comes
@@ -47,8 +47,6 @@ mod showing;
 mod shown;
 mod sofar;
 mod stating;
-#[cfg(test)]
-mod tests;
 mod words;
 
 pub use printing::print_match;

@@ -91,7 +91,7 @@ fn print_fields(
 
 /// Adds the text of a match: its items in the order of the fields, with commas between them.
 ///
-/// After a refusal for want of memory the text begins with what it was.
+/// Where memory runs out the text begins with what it was.
 #[tactic(auto, unfolding(spec_flow_text::specs::Printed::shown, spec_flow_text::specs::Printed::match_printed))]
 pub fn print_match(m: &Match, out: &mut String) -> Result<(), AllocError>
     ensures text { OnOk result (string_bytes out.new ≡ string_bytes out.old ++ printed.match_printed (match_view m.now)) }
