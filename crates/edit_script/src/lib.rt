@@ -39,8 +39,6 @@ mod edit_line;
 mod line_words;
 mod script;
 mod sync_line;
-#[cfg(test)]
-mod tests;
 mod told;
 
 pub use rule_tables::{Edit, SyncPoint};

@@ -38,8 +38,6 @@ mod outputs;
 mod rising;
 mod state;
 mod switch;
-#[cfg(test)]
-mod tests;
 
 pub use interpreter::plain;
 pub use lists::{Plain, Visits};

@@ -61,8 +61,6 @@ mod matching;
 mod rule;
 mod search;
 mod stored;
-#[cfg(test)]
-mod tests;
 mod versions;
 
 pub use actions::Actions;

@@ -479,7 +479,7 @@ pub static RUNS: [Run; 14] = [
 ];
 
 /// Runs whose words or edits are refused.
-pub static REFUSED_EDITS: [Run; 7] = [
+pub static REFUSED_EDITS: [Run; 6] = [
     // Forms that aren't built.
     Run {
         shows: "a port that stands twice",
@@ -495,21 +495,6 @@ pub static REFUSED_EDITS: [Run; 7] = [
         written: &[],
         in_use: &[],
     },
-    Run {
-        shows: "an action that isn't built",
-        words: WORDS,
-        edits: "in_port=1,actions=resubmit(,1)",
-        traces: &[File {
-            name: "a.pcap",
-            bytes: Bytes::At(&[1]),
-        }],
-        failing_call: 0,
-        status: 9,
-        text: "not built: edits\n",
-        written: &[],
-        in_use: &[],
-    },
-
     // Files of edits that are wrong.
     Run {
         shows: "an action that is left out",

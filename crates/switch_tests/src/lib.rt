@@ -10,4 +10,8 @@ mod cases;
 #[cfg(test)]
 mod made;
 #[cfg(test)]
+mod rewrites;
+#[cfg(test)]
+mod rewriting;
+#[cfg(test)]
 mod tests;

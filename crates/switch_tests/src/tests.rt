@@ -76,8 +76,8 @@ fn shelf_of(alloc: Global, run: &Run) -> Result<MemoryShelf, AllocError>
     Ok(MemoryShelf::new(alloc, files, fails))
 }
 
-// Runs the switch, and gives its status.
-fn status_of<R: Threads + Wait + Sync, S: Shelf>(
+/// Runs the switch, and gives its status.
+pub(crate) fn status_of<R: Threads + Wait + Sync, S: Shelf>(
     rt: &R,
     alloc: Global,
     words: &[&str],

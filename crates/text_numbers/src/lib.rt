@@ -35,6 +35,3 @@ pub use printing::{
     print_decimal, print_hexadecimal, print_hexadecimal4, print_ipv4, print_ipv4_mask, print_ipv6,
     print_ipv6_mask, print_mac,
 };
-
-#[cfg(test)]
-mod tests;

@@ -1,5 +1,8 @@
-use super::*;
 use std::test::Fail;
+use text_numbers::{
+    print_decimal, print_hexadecimal, print_hexadecimal4, print_ipv4, print_ipv4_mask, print_ipv6,
+    print_ipv6_mask, print_mac,
+};
 
 #[test]
 fn values_are_printed_one_after_the_other(rt: HostRuntime) -> Result<(), Fail> {

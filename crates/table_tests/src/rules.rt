@@ -1,8 +1,8 @@
 ghost use Rattle.std.specs.Prelude.{◌≡◌, IfOk};
 ghost use Rattle.rule_tables.specs.History.{newest};
 
-use crate::{Actions, Edit, EditWord, Match, OfAction, VersionedRules};
 use ovs_fields::{FieldId, Key, Mask};
+use rule_tables::{Actions, Edit, EditWord, Match, OfAction, VersionedRules};
 use std::alloc::{AllocError, Global};
 use std::test::Fail;
 

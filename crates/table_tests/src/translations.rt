@@ -4,8 +4,8 @@ ghost use Rattle.spec_tables.specs.declared.edit_word.EditWord.TheVariants.{Add}
 ghost use Rattle.rule_tables.specs.History.{newest, rules_of};
 ghost use Rattle.pipe_model.specs.Runnable.{AreRunnable};
 
-use crate::plain;
 use ovs_fields::{FieldId, Key};
+use pipe_model::plain;
 use rule_tables::{Actions, Edit, EditWord, Match, OfAction, VersionedRules};
 use std::alloc::{AllocError, Global};
 use std::test::Fail;

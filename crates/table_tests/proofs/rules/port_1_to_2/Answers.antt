@@ -4,7 +4,7 @@ use Rattle.spec_keys.specs.declared.field_id.FieldId.TheVariants.{InPort, DlDst}
 use Rattle.spec_keys.specs.Fields.{place_of}
 use Rattle.spec_keys.specs.Keys.{none, masked, joined, only_at}
 use Rattle.ovs_fields.specs.Packed.{numbers, bits}
-use Rattle.rule_tables.proofs.tests.port_1_to_2.Goals as goal
+use Rattle.table_tests.proofs.rules.port_1_to_2.Goals as goal
 
 pub invariant_of-result : goal.invariant_of-result
 unfolding none masked joined only_at

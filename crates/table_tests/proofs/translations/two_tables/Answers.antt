@@ -5,7 +5,7 @@ use Rattle.rule_tables.specs.History.{History, rules_of, edited_by, history_of}
 use Rattle.rule_tables.proofs.Histories.{history-none, history-push}
 use Rattle.pipe_model.specs.Runnable.{AreRunnable, has_sound_actions}
 use Rattle.pipe_model.proofs.Versions.{runnable-history}
-use Rattle.pipe_model.proofs.tests.two_tables.Goals as goal
+use Rattle.table_tests.proofs.translations.two_tables.Goals as goal
 
 pub returns-clause-runnable : goal.returns-clause-runnable
 returns-clause-runnable c =

@@ -1,4 +1,4 @@
-use crate::{Script, ScriptFault, read_script};
+use edit_script::{Script, ScriptFault, read_script};
 use field_text::TextFault;
 use ovs_fields::FieldId;
 use rule_tables::{EditWord, OfAction, SyncPoint};

@@ -1,0 +1,41 @@
+use action_text::{OfAction, TextFault, print_actions, read_actions};
+use spec_actions::{NamedField, Slice};
+use std::process::Abort;
+use std::test::Fail;
+
+#[test]
+fn actions_of_a_line_and_their_text(rt: HostRuntime) -> Result<(), Fail> {
+    let line = b"actions=load:5->reg0[4..7] output:in_port[],resubmit(,1),goto_table:254 # 9";
+    let actions = read_actions(rt.alloc(), line, 8)?;
+    let port = Slice {
+        name: NamedField::InPort,
+        low: 0,
+        high: 15,
+    };
+    let expected = [
+        OfAction::Set {
+            name: NamedField::Reg0,
+            value: 0x50,
+            mask: 0xf0,
+        },
+        OfAction::OutputField(port),
+        OfAction::Resubmit(1),
+        OfAction::Goto(254),
+    ];
+    assert_eq!(rt; actions.as_slice(), expected.as_slice());
+    let mut text = String::new(rt.alloc());
+    print_actions(actions.as_slice(), &mut text)?;
+    let printed = "set_field:0x50/0xf0->reg0,output:in_port[0..15],resubmit(,1),goto_table:254";
+    assert_eq!(rt; text.as_str(), printed);
+    Ok(())
+}
+
+#[test]
+fn a_fault_has_its_column_in_the_line(rt: HostRuntime) -> Result<(), Fail> {
+    let line = b"actions=1,set_field:1->foo";
+    match read_actions(rt.alloc(), line, 8) {
+        Err(TextFault::UnknownName { col }) => assert_eq!(rt; col, 24),
+        _ => assert!(rt; false),
+    }
+    Ok(())
+}

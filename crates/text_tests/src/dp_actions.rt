@@ -1,0 +1,45 @@
+use dp_text::{DpAction, print_dp_actions};
+use ovs_fields::FieldId;
+use std::process::Abort;
+use std::test::Fail;
+
+#[test]
+fn datapath_actions_have_their_texts(rt: HostRuntime) -> Result<(), Fail> {
+    let mut text = String::new(rt.alloc());
+    print_dp_actions(&[], &mut text)?;
+    text.push('\n')?;
+    let tagged = [DpAction::PushVlan { tci: 0x1005 }, DpAction::Output(2)];
+    print_dp_actions(&tagged, &mut text)?;
+    text.push('\n')?;
+    let written = [
+        DpAction::Set {
+            field: FieldId::DlDst,
+            value: 0,
+            mask: 5,
+        },
+        DpAction::PopVlan,
+        DpAction::Set {
+            field: FieldId::NwSrc,
+            value: 8,
+            mask: 8,
+        },
+        DpAction::Set {
+            field: FieldId::NwTtl,
+            value: 0x3f,
+            mask: 0x7f,
+        },
+        DpAction::Output(2),
+        DpAction::Set {
+            field: FieldId::NwTtl,
+            value: 0xff,
+            mask: 0xff,
+        },
+        DpAction::Output(3),
+    ];
+    print_dp_actions(&written, &mut text)?;
+    let expected = "drop\npush_vlan(vid=5,pcp=0),2\n\
+        set(dl_dst=00:00:00:00:00:00/00:00:00:00:00:05),pop_vlan,set(nw_src=0.0.0.8/0.0.0.8),\
+        set(nw_ttl=0x3f/0x7f),2,set(nw_ttl=255),3";
+    assert_eq!(rt; text.as_str(), expected);
+    Ok(())
+}

@@ -1,0 +1,16 @@
+//! Tests of the crates that read and print text: each public function once, with ample memory.
+//!
+//! A contract says what is read and printed where there is memory, so a body that always says that there is none would
+//! meet it. Such a body fails here. The tests stand in a crate of their own, since a crate with tests is proved twice.
+#![tactic(auto)]
+
+#[cfg(test)]
+mod actions;
+#[cfg(test)]
+mod dp_actions;
+#[cfg(test)]
+mod matches;
+#[cfg(test)]
+mod scripts;
+#[cfg(test)]
+mod values;
