@@ -1,12 +1,13 @@
 #!/usr/bin/env python3
 """Compares how flow text is read and printed with `ovs-ofctl parse-flows` of Open vSwitch, which needs no daemon.
 
-    python3 parse_flows.py
+    python3 parse_flows.py [FLOW_PRINT]
 
 takes the lines of flow_lines.txt and those of the examples' files of edits, but for sync lines. Of each line it is
 compared whether it is accepted; where both accept it, what ovs-ofctl prints of it is read here and has to mean the
-same, and what is printed here of it, as a line of dumped rules, is read by ovs-ofctl and has to mean the same. What is
-printed here is printed by the simulation in examples/, as long as the program prints no rules.
+same, and what is printed here of it, as a line of dumped rules, is read by ovs-ofctl and has to mean the same. It is the
+simulation in examples/ that prints here. Where the program FLOW_PRINT is given, which crates/flow_print is, it has to
+print the match and the actions of each line that is accepted here alike.
 
 docs/OPEN_VSWITCH.md says where the two differ by intention. Each such difference is a kind below, with its reason. A
 line that differs otherwise is printed, as is a kind that no line shows, and the status is then 1.
@@ -19,8 +20,10 @@ import re
 import shutil
 import subprocess
 import sys
+import tempfile
 from collections import namedtuple
 from concurrent.futures import ThreadPoolExecutor
+from itertools import zip_longest
 
 sys.dont_write_bytecode = True
 HERE = os.path.dirname(os.path.abspath(__file__))
@@ -122,11 +125,15 @@ def read_here(line):
         return f"{over.quantity} {over.most}"
 
 
+def print_flow(edit):
+    """The match and the actions of an edit."""
+    return f"{print_match(edit.matching)} actions={print_actions(edit.actions)}"
+
+
 def print_here(edit):
     """The edit as a line of dumped rules."""
     head = f"cookie={edit.cookie or 0:#x}, table={edit.table or 0}, n_packets=0, n_bytes=0, priority={edit.priority}"
-    match = print_match(edit.matching)
-    return f"{head}{',' if match else ''}{match} actions={print_actions(edit.actions)} # rule=1"
+    return f"{head}{',' if print_match(edit.matching) else ''}{print_flow(edit)} # rule=1"
 
 
 def read_there(line, version):
@@ -162,6 +169,26 @@ def meaning_of(action):
     slices = [it for it in action.arguments if isinstance(it, Slice)]
     bits = [(it.field.key, it.field.low + it.low, it.field.low + it.high) for it in slices]
     return action.kind, bits or action.arguments
+
+
+# ---- what the program prints
+
+
+def printed_by(program, lines):
+    """What the program prints of these lines, each the flow of an edit."""
+    with tempfile.NamedTemporaryFile("w", suffix=".edits") as file:
+        file.writelines(line + "\n" for line in lines)
+        file.flush()
+        return subprocess.run([program, file.name], capture_output=True, text=True).stdout.split("\n")[:-1]
+
+
+def printed_otherwise(program, lines):
+    """The lines of which the program prints something else than the simulation, with what it prints."""
+    edits = [(line, read_here(line)) for line in lines]
+    accepted = [(line, edit) for line, edit in edits if not isinstance(edit, str)]
+    printed = printed_by(program, [line for line, _ in accepted])
+    pairs = zip_longest(accepted, printed, fillvalue=None)
+    return [f"{it and it[0]}: {text} is printed" for it, text in pairs if it is None or print_flow(it[1]) != text]
 
 
 # ---- the comparison
@@ -212,6 +239,8 @@ def main():
         print("skipped: ovs-ofctl is not installed")
         return 0
     lines, comparison = [*table_lines(), *example_lines()], Comparison()
+    for program in sys.argv[1:]:
+        comparison.wrong += printed_otherwise(program, lines)
     with ThreadPoolExecutor(os.cpu_count()) as pool:
         list(pool.map(comparison.compare, lines))
     for wrong in sorted(comparison.wrong):
