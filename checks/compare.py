@@ -1,9 +1,9 @@
 #!/usr/bin/env python3
 """Compares the program with examples/simulate.py on made-up runs, some of them out of form.
 
-Their traces are of all four formats, mixed in a run: both orders of bytes, microseconds and nanoseconds. Their rules
-match bits of frames that are in the traces, among them those of vectors/, by fields of all kinds, and are modified and
-deleted in all ways.
+Their traces are of all four formats, mixed in a run: both orders of bytes, microseconds and nanoseconds. Their frames
+are of all protocols, some of them cut anywhere. Their rules are in several tables, match bits of frames that are in the
+traces by fields of all kinds, have actions of all kinds, and are modified and deleted in all ways.
 
     python3 compare.py PROGRAM ROUNDS
 
@@ -25,7 +25,7 @@ sys.path[:0] = [os.path.join(TOP, "examples"), os.path.join(TOP, "vectors")]
 from flow_fields import KEY_FIELD, NAMED_FIELDS, full, packed
 from flow_text import Match, print_match
 from frame_key import key_of
-from frames import ALL_FRAMES
+from made_actions import KINDS, REGISTERS, SMALL, TABLES, ActionMaker, Picker
 from simulate import simulate
 
 PORTS = [1, 2, 3, 9, 40, 65279]
@@ -35,8 +35,8 @@ PRIORITIES = ["0", "5", "0x5", "0x0005", "32768", "65535", "0xFFFF"]
 BAD_NUMBERS = ["", "00", "05", "65536", "0x", "0X5", "-1", "+1", "1e1", "5 ", "99999999999999999999"]
 ODD_LINES = ["", " ", "\t \r", "add", "add ", "actions", "actions=", "in_port=1", "# none"]
 ODD_LINES += ["delete actions=1", "ip,tcp,actions=1"]
-ODD_OUTPUTS = [["drop", "1"], ["drop "], ["0"], ["65280"], [""], ["1", ""], ["output:"], ["1"] * 64, ["1"] * 65]
-ODD_OUTPUTS += [["dec_ttl", "1"], ["resubmit(,1)"], ["load:1->reg0[]"], ["normal"], ["all"] * 64, ["flood"] * 33]
+ODD_ACTIONS = [["drop", "1"], ["drop "], ["0"], ["65280"], [""], ["1", ""], ["output:"], ["1"] * 64, ["1"] * 65]
+ODD_ACTIONS += [["normal"], ["all"] * 64, ["flood"] * 33, ["resubmit(,0)"], ["resubmit(,1)"] * 64, ["dec_ttl"] * 64]
 WORDS = ["modify", "modify_strict", "delete", "delete_strict"]
 # The fields that may be matched in part, and those of the headers, which need a type and a protocol to be matched.
 MASKED = {field.key for field in NAMED_FIELDS if field.masked}
@@ -78,28 +78,15 @@ def trace_of(order, header, records):
     return b"".join(made)
 
 
-class Maker:
+class Maker(Picker):
     """Makes the words and the files of a run."""
 
     def __init__(self, number):
-        self.pick = random.Random(number)
+        super().__init__(random.Random(number))
         self.ports = self.pick.sample(PORTS, self.pick.randrange(1, len(PORTS) + 1))
-
-    def one(self, *of):
-        return self.pick.choice(of)
-
-    def chance(self, share):
-        return self.pick.random() < share
-
-    def rarely(self):
-        return self.chance(0.01)
-
-    def port(self):
-        port = self.one(*self.ports[1:], *self.ports[1:], *PORTS)
-        return self.one(f"{port}", f"0x{port:x}", f"output:{port}", f"output:0x00{port:X}")
-
-    def output(self):
-        return self.one("in_port", "all", "FLOOD", "output:IN_PORT") if self.chance(0.2) else self.port()
+        self.frames = [self.one(*self.one(*KINDS)) for _ in range(6)]
+        # Rules mostly send to ports of the run.
+        self.actions = ActionMaker(self.pick, [*self.ports[1:], *self.ports[1:], *PORTS], self.frames)
 
     def item(self):
         name, good, bad = self.one(
@@ -117,17 +104,20 @@ class Maker:
         return full(width) if is_whole else self.one(prefix, prefix, self.pick.getrandbits(width) or 1)
 
     def match(self):
-        """Some bits of a frame, with the type and the protocol where they are needed."""
-        key = key_of(self.one(*self.ports), self.one(*ALL_FRAMES).bytes)
-        names = self.pick.sample([*ETHERNET, *NETWORK, *TRANSPORT], self.pick.randrange(4))
+        """Some bits of a frame, with the type and the protocol where they are needed, and perhaps of a register."""
+        key = key_of(self.one(*self.ports), self.one(*self.frames)) | {self.one(*REGISTERS): self.one(*SMALL)}
+        names = [name for name in REGISTERS if name in key and self.chance(0.2)]
+        names += self.pick.sample([*ETHERNET, *NETWORK, *TRANSPORT], self.pick.randrange(4))
         names += ["dl_type"] * any(name in NETWORK + TRANSPORT for name in names)
         names += ["nw_proto"] * any(name in TRANSPORT for name in names)
         mask = {name: self.bits(name, key) for name in names if name in key}
         return print_match(Match(packed(key) & packed(mask), packed(mask)))
 
     def items(self):
-        """Items with their commas: a few of three names, or a priority and bits of a frame."""
-        if self.chance(0.5):
+        """Items with their commas: none, or a few of three names, or a priority and bits of a frame."""
+        if self.chance(0.3):
+            return ""
+        if self.chance(0.6):
             return "".join(it + "," for it in [f"priority={self.one(*PRIORITIES)}", self.match()] if it)
         return "".join(it + "," for it in {it.partition("=")[0]: it for it in self.some_items()}.values())
 
@@ -137,13 +127,14 @@ class Maker:
     def line(self, items):
         if self.rarely():
             return self.one(*ODD_LINES)
-        outputs = ["drop"] if self.chance(0.2) else [self.output() for _ in range(self.pick.randrange(1, 5))]
+        number = self.one(0, 0, 0, *TABLES)
+        actions = ["drop"] if self.chance(0.1) else self.actions.list(number)
         if self.rarely():
-            outputs = self.one(*ODD_OUTPUTS)
+            actions = self.one(*ODD_ACTIONS)
         word = self.one(*WORDS) if self.chance(0.2) else self.one("", "add")
-        table = f"table={self.one(0, 0, 0, 1, 254)}," if self.chance(0.2) else ""
-        actions = "" if word.startswith("delete") else "actions=" + ",".join(outputs)
-        line = f"{word} {table}{items}{actions}".lstrip()
+        table = f"table={number}," if number or self.chance(0.2) else ""
+        rest = "" if word.startswith("delete") else "actions=" + ",".join(actions)
+        line = f"{word} {table}{items}{rest}".lstrip()
         if self.rarely() and line:
             at = self.pick.randrange(len(line))
             line = line[:at] + self.one("", ",", " ", "=", "x", line[at] * 2) + line[at + 1 :]
@@ -152,7 +143,7 @@ class Maker:
     def rules(self):
         """Lines that edit rules. Some have the items of one before, whose rule they replace, modify or delete."""
         items = []
-        for _ in range(self.pick.randrange(13)):
+        for _ in range(self.pick.randrange(25)):
             items.append(self.one(*items) if items and self.chance(0.3) else self.items())
         return [self.line(it) for it in items]
 
@@ -181,8 +172,9 @@ class Maker:
         return ("\n".join(lines) + self.one("", "\n")).encode()
 
     def frame(self):
-        if self.chance(0.5):
-            return self.one(*ALL_FRAMES).bytes
+        if self.chance(0.8):
+            frame = self.one(*self.frames)
+            return frame[: self.pick.randrange(len(frame) + 1)] if self.chance(0.1) else frame
         octets = self.one(*ADDRESSES).split(":")
         body = bytes(int(it, 16) for it in octets) + bytes(self.pick.randrange(256) for _ in range(8))
         return body.ljust(200, b"\x5a")[: self.one(*FRAME_LENGTHS)]
@@ -197,7 +189,7 @@ class Maker:
         order, unit = self.one(*ORDERS), self.one(1000, 1000, 1)
         header = Header(MAGICS[unit], (2, 4), self.one(65535, SNAP_LENGTH), self.one(*LINK_TYPES))
         records = [self.record(unit) for _ in range(self.pick.randrange(12))]
-        for _ in range(self.one(0, 0, 0, 0, 0, 0, 0, 1, 2)):
+        for _ in range(self.one(*[0] * 14, 1, 2)):
             what = self.one("header", "record", "record", "file")
             if what == "header":
                 header = self.bad_header(header)

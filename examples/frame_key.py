@@ -1,4 +1,4 @@
-"""The key of a frame: the numbers of its headers that flow text matches.
+"""The headers of a frame, and its key: the numbers of its headers that flow text matches.
 
 After IEEE 802.1Q, RFC 826 (ARP), 791 (IPv4), 8200 (IPv6), 9293 (TCP), 768 (UDP), 792 (ICMP) and 4443 (ICMPv6), in the
 profile of docs/FORMATS.md: one tag, no ports of fragments, and nothing of a header that is malformed.
@@ -22,12 +22,22 @@ MOST_EXTENSIONS = 8
 # The two bits of ip_frag.
 IS_FRAGMENT, IS_LATER = 1, 2
 
-# The bytes that a transport header needs, by the version of IP and the protocol.
+# The bytes that a transport header needs, by the type of the packet and the protocol.
 PORT_HEADERS = {PROTOCOL_TCP: 20, PROTOCOL_UDP: 8}
-ICMP_HEADERS = {(4, PROTOCOL_ICMP): 8, (6, PROTOCOL_ICMPV6): 4}
+TRANSPORT_HEADERS = {
+    **{(ETHERTYPE_IPV4, protocol): length for protocol, length in PORT_HEADERS.items()},
+    **{(ETHERTYPE_IPV6, protocol): length for protocol, length in PORT_HEADERS.items()},
+    (ETHERTYPE_IPV4, PROTOCOL_ICMP): 8,
+    (ETHERTYPE_IPV6, PROTOCOL_ICMPV6): 4,
+}
 
-# A network header: the version of IP, its fields, and the bytes behind it.
-Network = namedtuple("Network", "version fields rest")
+# The content of the tag or None; the type, and where what is behind it begins; the network header or None.
+Headers = namedtuple("Headers", "tci dl_type begin network")
+# A network header: its fields, the bytes behind it, how far on in the packet these begin, and whether a routing header
+# was passed.
+Network = namedtuple("Network", "fields rest rest_at routed")
+# What IPv6 carries: its protocol, the bits of ip_frag, how far on in the packet it begins, and as above.
+Upper = namedtuple("Upper", "protocol ip_frag at routed")
 
 
 def number(data, begin, end):
@@ -39,13 +49,21 @@ def key_of(port, frame):
     key = {"in_port": port}
     if len(frame) < ETHERNET_HEADER:
         return key
-    key |= {"dl_dst": number(frame, 0, 6), "dl_src": number(frame, 6, 12)}
-    at = 12
+    headers = headers_of(frame)
+    key |= {"dl_dst": number(frame, 0, 6), "dl_src": number(frame, 6, 12), "dl_type": headers.dl_type}
+    if headers.tci is not None:
+        key["vlan_tci"] = headers.tci | TAG
+    return key | (headers.network.fields | shown_transport(headers) if headers.network else {})
+
+
+def headers_of(frame):
+    """The headers of a frame that has a whole Ethernet header."""
+    at, tci = 12, None
     if number(frame, at, at + 2) in TAG_TYPES and len(frame) >= 18:
-        key["vlan_tci"] = number(frame, 14, 16) | TAG
-        at = 16
-    key["dl_type"], begin = type_at(frame, at)
-    return key | network_fields(key["dl_type"], frame[begin:])
+        at, tci = 16, number(frame, 14, 16)
+    dl_type, begin = type_at(frame, at)
+    read = {ETHERTYPE_ARP: read_arp, ETHERTYPE_IPV4: read_ipv4, ETHERTYPE_IPV6: read_ipv6}.get(dl_type)
+    return Headers(tci, dl_type, begin, read(frame[begin:]) if read else None)
 
 
 def type_at(frame, at):
@@ -60,27 +78,19 @@ def type_at(frame, at):
     return NO_TYPE, at + 2
 
 
-def network_fields(dl_type, packet):
-    if dl_type == ETHERTYPE_ARP:
-        return arp_fields(packet)
-    read = {ETHERTYPE_IPV4: read_ipv4, ETHERTYPE_IPV6: read_ipv6}.get(dl_type)
-    network = read(packet) if read else None
-    if network is None:
-        return {}
-    return network.fields | ({} if network.fields["ip_frag"] else transport_fields(network))
-
-
-def arp_fields(packet):
+def read_arp(packet):
+    """The message of ARP for IPv4 over Ethernet, or None where it is another."""
     if len(packet) < 28 or packet[:6] != bytes.fromhex("000108000604"):
-        return {}
+        return None
     operation = number(packet, 6, 8)
-    return {
+    fields = {
         "nw_proto": operation if operation < 256 else 0,
         "arp_sha": number(packet, 8, 14),
         "nw_src": number(packet, 14, 18),
         "arp_tha": number(packet, 18, 24),
         "nw_dst": number(packet, 24, 28),
     }
+    return Network(fields, packet[28:], 28, False)
 
 
 def read_ipv4(packet):
@@ -99,7 +109,7 @@ def read_ipv4(packet):
         "nw_dst": number(packet, 16, 20),
         "ip_frag": fragment_bits(offset, more),
     }
-    return Network(4, fields, packet[length:total])
+    return Network(fields, packet[length:total], length, False)
 
 
 def fragment_bits(offset, more):
@@ -111,24 +121,23 @@ def read_ipv6(packet):
     if len(packet) < 40 or packet[0] >> 4 != 6:
         return None
     packet = packet[: 40 + number(packet, 4, 6)]
-    extensions = pass_extensions(packet)
-    if extensions is None:
+    upper = pass_extensions(packet)
+    if upper is None:
         return None
-    nw_proto, ip_frag, at = extensions
     fields = {
         "nw_tos": number(packet, 0, 2) >> 4 & 0xFF,
         "nw_ttl": packet[7],
-        "nw_proto": nw_proto,
+        "nw_proto": upper.protocol,
         "ipv6_src": number(packet, 8, 24),
         "ipv6_dst": number(packet, 24, 40),
-        "ip_frag": ip_frag,
+        "ip_frag": upper.ip_frag,
     }
-    return Network(6, fields, packet[at:])
+    return Network(fields, packet[upper.at :], upper.at, upper.routed)
 
 
 def pass_extensions(packet):
-    """The upper protocol, the bits of ip_frag, and where the upper header begins, or None where one is malformed."""
-    following, at, ip_frag, count = packet[6], 40, 0, 0
+    """What stands after the extension headers, or None where one is malformed."""
+    following, at, ip_frag, routed, count = packet[6], 40, 0, False, 0
     while following in EXTENSIONS:
         count += 1
         length = extension_length(following, packet[at:])
@@ -138,9 +147,10 @@ def pass_extensions(packet):
             offset = number(packet, at + 2, at + 4) >> 3
             ip_frag |= fragment_bits(offset, packet[at + 3] & 1)
             if offset:
-                return FRAGMENT, ip_frag, at + length
+                return Upper(FRAGMENT, ip_frag, at + length, routed)
+        routed = routed or following == ROUTING
         following, at = packet[at], at + length
-    return following, ip_frag, at
+    return Upper(following, ip_frag, at, routed)
 
 
 def extension_length(kind, rest):
@@ -152,11 +162,21 @@ def extension_length(kind, rest):
     return length if length <= len(rest) else None
 
 
-def transport_fields(network):
-    """Ports, or type and code, where the header of the protocol is there."""
-    protocol, rest = network.fields["nw_proto"], network.rest
-    if len(rest) >= PORT_HEADERS.get(protocol, len(rest) + 1):
+def transport_protocol(headers):
+    """The protocol of the transport header, or None where there is none: in later fragments, or where it is cut."""
+    network = headers.network
+    if network is None or network.fields.get("ip_frag", 0) & IS_LATER:
+        return None
+    protocol = network.fields["nw_proto"]
+    needed = TRANSPORT_HEADERS.get((headers.dl_type, protocol))
+    return protocol if needed is not None and needed <= len(network.rest) else None
+
+
+def shown_transport(headers):
+    """Ports, or type and code, of a packet that is no fragment."""
+    protocol, rest = transport_protocol(headers), headers.network.rest
+    if protocol is None or headers.network.fields["ip_frag"]:
+        return {}
+    if protocol in PORT_HEADERS:
         return {"tp_src": number(rest, 0, 2), "tp_dst": number(rest, 2, 4)}
-    if len(rest) >= ICMP_HEADERS.get((network.version, protocol), len(rest) + 1):
-        return {"tp_src": rest[0], "tp_dst": rest[1]}
-    return {}
+    return {"tp_src": rest[0], "tp_dst": rest[1]}

@@ -66,15 +66,20 @@ def ethernet(target, source, ethertype, payload):
     return frame.ljust(SHORTEST_FRAME, b"\0")
 
 
+def tagged(frame, vlan, priority=0):
+    """A frame with a tag (IEEE 802.1Q, 9.3)."""
+    return frame[:12] + struct.pack("!HH", 0x8100, priority << 13 | vlan) + frame[12:]
+
+
 def arp(operation, sender_mac, sender, target_mac, target):
     """A message of ARP for IPv4 over Ethernet (RFC 826)."""
     header = struct.pack("!HHBBH", 1, ETHERTYPE_IPV4, 6, 4, operation)
     return header + mac(sender_mac) + address(sender) + mac(target_mac) + address(target)
 
 
-def ipv4(source, target, protocol, payload, identification):
-    """A packet of IPv4 without options, which isn't to be fragmented (RFC 791)."""
-    start = struct.pack("!BBHHHBB", 0x45, 0, 20 + len(payload), identification, 0x4000, 64, protocol)
+def ipv4(source, target, protocol, payload, identification, ttl=64, fragment=0x4000):
+    """A packet of IPv4 without options (RFC 791), which isn't to be fragmented unless it says that it is a fragment."""
+    start = struct.pack("!BBHHHBB", 0x45, 0, 20 + len(payload), identification, fragment, ttl, protocol)
     ends = address(source) + address(target)
     return start + struct.pack("!H", checksum(start + b"\0\0" + ends)) + ends + payload
 
@@ -85,11 +90,11 @@ def ipv6(source, target, following, payload, hops=64):
     return start + address(source) + address(target) + payload
 
 
-def packet(source, target, protocol, payload, identification):
+def packet(source, target, protocol, payload, identification, **rest):
     """A packet of the version that its addresses have."""
     if ipaddress.ip_address(source).version == 6:
         return ipv6(source, target, protocol, payload)
-    return ipv4(source, target, protocol, payload, identification)
+    return ipv4(source, target, protocol, payload, identification, **rest)
 
 
 def pseudo_header(source, target, protocol, length):
@@ -197,10 +202,10 @@ def connect(source, via, target, ports, identification, sequence, time):
     return routed(source[1], via[0], source[0], target, PROTOCOL_TCP, segment, identification)
 
 
-def routed(source, via_mac, source_mac, target, protocol, payload, identification):
+def routed(source, via_mac, source_mac, target, protocol, payload, identification, **rest):
     """A packet between two addresses, sent from the one station to the other that it goes by."""
     ethertype = ETHERTYPES[ipaddress.ip_address(source).version]
-    return ethernet(via_mac, source_mac, ethertype, packet(source, target, protocol, payload, identification))
+    return ethernet(via_mac, source_mac, ethertype, packet(source, target, protocol, payload, identification, **rest))
 
 
 # ---- first-switch
@@ -358,16 +363,129 @@ def access_point():
     )
 
 
+# ---- router
+
+# The router has an address of its own on each side.
+LAN_SIDE, SERVER_SIDE = ("02:00:00:00:01:01", "192.0.2.1"), ("02:00:00:00:02:01", "198.51.100.1")
+WEB_SERVER, MAIL_SERVER = ("02:00:00:00:02:07", "198.51.100.7"), ("02:00:00:00:02:08", "198.51.100.8")
+WEB_SERVER_ADDRESS_6 = "2001:db8:2::7"
+
+# In the second half of IPv4's header: that more fragments follow.
+MORE_FRAGMENTS = 0x2000
+
+
+def from_the_lan():
+    """What comes from the desks: to servers, to an address outside, and a packet at the end of its time."""
+    ask = arp(1, *DESK, NO_MAC, LAN_SIDE[1])
+    probe = udp(DESK[1], WEB_SERVER[1], 40033, 33434, b"traceroute")
+    segment = tcp_syn(DESK_ADDRESS_6, WEB_SERVER_ADDRESS_6, 40005, 443, 0x55555555, 5)
+    return trace(
+        (MORNING + after, frame)
+        for after, frame in [
+            (0, ethernet(BROADCAST, DESK[0], ETHERTYPE_ARP, ask)),
+            (100000, connect(DESK, LAN_SIDE, WEB_SERVER[1], (40000, 443), 0x1001, 0x11111111, 1)),
+            (200000, routed(DESK[1], LAN_SIDE[0], DESK[0], WEB_SERVER[1], PROTOCOL_UDP, probe, 0x1002, ttl=1)),
+            (300000, connect(DESK, LAN_SIDE, "203.0.113.80", (40001, 443), 0x1003, 0x22222222, 3)),
+            (400000, routed(DESK_ADDRESS_6, LAN_SIDE[0], DESK[0], WEB_SERVER_ADDRESS_6, PROTOCOL_TCP, segment, 0)),
+            (500000, ping(DESK, OTHER_DESK, 0x1004, 1)),
+            (5100000, connect(DESK, LAN_SIDE, WEB_SERVER[1], (40002, 443), 0x1005, 0x33333333, 51)),
+        ]
+    )
+
+
+def fragments(source, via, target, protocol, payload, identification, most=80):
+    """The packets that a message is sent in, with so many bytes of it in each."""
+    for begin in range(0, len(payload), most):
+        more = MORE_FRAGMENTS if begin + most < len(payload) else 0
+        part = payload[begin : begin + most]
+        yield routed(source[1], via[0], source[0], target, protocol, part, identification, fragment=more | begin // 8)
+
+
+def from_the_servers():
+    """What comes from the servers: one asks who the router is, and sends a datagram in two fragments."""
+    ask = arp(1, *MAIL_SERVER, NO_MAC, SERVER_SIDE[1])
+    datagram = udp(MAIL_SERVER[1], DESK[1], 40008, 40009, bytes(range(100)))
+    first, last = fragments(MAIL_SERVER, SERVER_SIDE, DESK[1], PROTOCOL_UDP, datagram, 0x8001)
+    reply = icmp_echo(ECHO_REPLY, 7, 1)
+    answer = routed(WEB_SERVER[1], SERVER_SIDE[0], WEB_SERVER[0], DESK[1], PROTOCOL_ICMP, reply, 0x7001)
+    return trace(
+        [
+            (MORNING + 50000, ethernet(BROADCAST, MAIL_SERVER[0], ETHERTYPE_ARP, ask)),
+            (MORNING + 150000, answer),
+            (MORNING + 600000, first),
+            (MORNING + 600010, last),
+        ]
+    )
+
+
+# ---- vlan-access
+
+PHONE = ("02:00:00:00:00:14", "192.0.2.130")
+CALL_SERVER = ("02:00:00:00:00:c0", "192.0.2.129")
+DATA_VLAN, VOICE_VLAN, OTHER_VLAN = 10, 20, 99
+VOICE_PRIORITY = 5
+
+
+def voice(source, target, identification):
+    """A frame of a call, with 20 ms of sound (RFC 3550 and 3551)."""
+    sound = struct.pack("!BBHII", 0x80, 0, identification, 160 * identification, 1) + b"\xff" * 160
+    datagram = udp(source[1], target[1], 16384, 16384, sound)
+    frame = routed(source[1], target[0], source[0], target[1], PROTOCOL_UDP, datagram, identification)
+    return tagged(frame, VOICE_VLAN, VOICE_PRIORITY)
+
+
+def from_a_desk():
+    """What comes from a desk, which knows of no VLAN, and once sends a tag of its own."""
+    ask = arp(1, *DESK, NO_MAC, GATEWAY[1])
+    return trace(
+        (MORNING + after, frame)
+        for after, frame in [
+            (0, ethernet(BROADCAST, DESK[0], ETHERTYPE_ARP, ask)),
+            (100000, connect(DESK, GATEWAY, WEB_SITE, (40000, 443), 0x1001, 0x11111111, 1)),
+            (200000, ping(DESK, OTHER_DESK, 0x1002, 1)),
+            (300000, tagged(ping(DESK, CALL_SERVER, 0x1003, 1), VOICE_VLAN)),
+            (5100000, ping(DESK, OTHER_DESK, 0x1004, 2)),
+        ]
+    )
+
+
+def from_a_phone():
+    """What comes from a phone, and without a tag from the computer that is plugged into it."""
+    return trace(
+        [
+            (MORNING + 20000, voice(PHONE, CALL_SERVER, 1)),
+            (MORNING + 120000, connect(STRANGER, GATEWAY, WEB_SITE, (40001, 443), 0x7001, 0x22222222, 2)),
+        ]
+    )
+
+
+def from_the_trunk():
+    """What comes from the next switch, all of it tagged."""
+    answer = ethernet(DESK[0], GATEWAY[0], ETHERTYPE_ARP, arp(2, *GATEWAY, *DESK))
+    return trace(
+        [
+            (MORNING + 10000, tagged(answer, DATA_VLAN)),
+            (MORNING + 30000, voice(CALL_SERVER, PHONE, 2)),
+            (MORNING + 40000, tagged(ping(GATEWAY, DESK, 0x3001, 1), OTHER_VLAN)),
+        ]
+    )
+
+
 TRACES = {
     "access-list/outside.pcap": outside,
     "access-list/inside.pcap": inside,
     "first-switch/desks.pcap": office,
     "flood-bridge/access-point.pcap": access_point,
     "flood-bridge/room-a.pcap": room_a,
+    "router/lan.pcap": from_the_lan,
+    "router/servers.pcap": from_the_servers,
     "rule-change/desk.pcap": pings,
     "rule-change/rack-a.pcap": old_place,
     "two-captures/desk.pcap": pings,
     "two-captures/server.pcap": replies,
+    "vlan-access/desks.pcap": from_a_desk,
+    "vlan-access/phone.pcap": from_a_phone,
+    "vlan-access/trunk.pcap": from_the_trunk,
 }
 
 

@@ -5,7 +5,8 @@
 
 has the words, files, texts and statuses of `megaswitch`. It shares no code and no definition with it, and nothing
 about it is proved. examples/*/expected was written by it. The edits are read by flow_text.py, over the table of fields
-in flow_fields.py; flow_rules.py has what they do, and frame_key.py what a frame is matched by.
+in flow_fields.py; flow_rules.py has what they do, frame_key.py what a frame is matched by, translation.py what the
+tables make of a packet, and rewriting.py what becomes of its bytes.
 """
 import re
 import struct
@@ -13,21 +14,18 @@ import sys
 from collections import namedtuple
 
 sys.dont_write_bytecode = True
-from flow_fields import packed
-from flow_rules import versions, winner
+from flow_rules import versions
 from flow_text import LAST_PORT, OverLimit, TextFault, read_script
 from frame_key import key_of
+from rewriting import sent
+from translation import translate
 
 DONE, BAD_TEXT, BAD_TRACE, READ_FAULT, WRITE_FAULT, LIMIT, NOT_BUILT = 0, 3, 4, 5, 6, 7, 9
 
 MOST_PORTS = 32
 MOST_TRACE_BYTES = 268435456
 MOST_FRAMES = 131072
-MOST_DATAPATH_ACTIONS = 128
 SNAP_LENGTH = 262144
-
-# What a list may have until the other actions are built.
-BUILT_ACTIONS = {"Output", "InPort", "All", "Flood"}
 
 # In nanoseconds.
 SECOND = 1000000000
@@ -56,9 +54,9 @@ class Refused(Exception):
     """The status and the text that a run ends with."""
 
 
-def check(holds, what):
+def check_words(holds):
     if not holds:
-        raise Refused(NOT_BUILT, f"not built: {what}")
+        raise Refused(NOT_BUILT, "not built: words")
 
 
 def check_trace(holds, name, reason):
@@ -76,12 +74,12 @@ def check_limit(holds, quantity, most):
 
 def read_words(words):
     """The name of the edits, the start of the names of outputs, and the name of each port's trace."""
-    check(len(words) >= 3 and words[0] and words[1], "words")
-    check(not any(word.startswith("-") for word in words) and len(words) - 2 <= MOST_PORTS, "words")
+    check_words(len(words) >= 3 and words[0] and words[1])
+    check_words(not any(word.startswith("-") for word in words) and len(words) - 2 <= MOST_PORTS)
     traces = {}
     for word in words[2:]:
         found = PORT_WORD.fullmatch(word)
-        check(found and int(found[1]) <= LAST_PORT and int(found[1]) not in traces, "words")
+        check_words(found and int(found[1]) <= LAST_PORT and int(found[1]) not in traces)
         traces[int(found[1])] = found[2]
     return words[0], words[1], traces
 
@@ -98,8 +96,6 @@ def read_edits(data, name):
         raise Refused(BAD_TEXT, f"{name}:{fault.line}:{fault.column}: {fault.reason}")
     except OverLimit as over:
         raise Refused(LIMIT, f"limit: {over.quantity} {over.most}")
-    kinds = {action.kind for edit in script.edits for action in edit.actions or []}
-    check(kinds <= BUILT_ACTIONS, name)
     return script, rules
 
 
@@ -169,28 +165,19 @@ def blocks_of(frames, script):
     return [*blocks, Block(frames, len(script.edits))]
 
 
-def outputs_of(rules, ports, frame):
-    """The ports that a frame goes out at, in order."""
-    rule = winner(rules, 0, packed(key_of(frame.port, frame.bytes)))
-    outputs = [port for action in (rule.actions if rule else []) for port in outputs_by(action, ports, frame.port)]
-    return outputs if len(outputs) <= MOST_DATAPATH_ACTIONS else []
-
-
-def outputs_by(action, ports, in_port):
-    others = [port for port in sorted(ports) if port != in_port]
-    if action.kind == "Output":
-        return [port for port in others if action.arguments == (port,)]
-    return [in_port] if action.kind == "InPort" else others
+def pieces_of(rules, ports, frame):
+    """The ports that a frame goes out at, and with which bytes, in order."""
+    return sent(translate(rules, ports, key_of(frame.port, frame.bytes)), frame.bytes)
 
 
 def sent_frames(blocks, rules, ports):
     """What leaves by each port, in the order of time, ingress port, place and position in the actions."""
-    decided = [(frame, outputs_of(rules[block.hi], ports, frame)) for block in blocks for frame in block.frames]
-    sent = {port: [] for port in ports}
-    for frame, outputs in sorted(decided, key=lambda it: it[0][:3]):
-        for port in outputs:
-            sent[port].append(frame)
-    return sent
+    decided = [(frame, rules[block.hi]) for block in blocks for frame in block.frames]
+    leaving = {port: [] for port in ports}
+    for frame, living in sorted(decided, key=lambda it: it[0][:3]):
+        for port, data in pieces_of(living, ports, frame):
+            leaving[port].append(frame._replace(bytes=data))
+    return leaving
 
 
 def journal_of(port, blocks):
@@ -223,8 +210,8 @@ def simulate(words, contents):
     except Refused as refused:
         return Result(refused.args[0], refused.args[1] + "\n", [])
     blocks = {port: blocks_of(frames[port], script) for port in traces}
-    sent = sent_frames([block for port in traces for block in blocks[port]], rules, traces)
-    files = [(f"{out}.p{port}.pcap", write_trace(sent[port], unit)) for port in traces]
+    leaving = sent_frames([block for port in traces for block in blocks[port]], rules, traces)
+    files = [(f"{out}.p{port}.pcap", write_trace(leaving[port], unit)) for port in traces]
     journal = "".join(journal_of(port, blocks[port]) for port in traces)
     return Result(DONE, "", [*files, (f"{out}.journal", journal.encode())])
 

@@ -1,0 +1,80 @@
+#!/usr/bin/env python3
+"""Compares what is sent of the frames of vectors/rewritten.tsv with what Open vSwitch sent.
+
+    python3 execution_vectors.py [PROGRAM]
+
+runs the program, or where none is named the simulation in examples/, once on all of them: one file of edits, and one
+trace with a frame in each second. A row that says that Open vSwitch differs has to differ. It prints each row that is
+otherwise, and then ends with 1.
+"""
+import os
+import subprocess
+import sys
+import tempfile
+
+sys.dont_write_bytecode = True
+TOP = os.path.join(os.path.dirname(os.path.abspath(__file__)), "..")
+sys.path[:0] = [os.path.join(TOP, "examples"), os.path.join(TOP, "vectors")]
+from make_rewritten import IN_PORT, PORTS, read_table
+from simulate import MICROSECOND, SECOND, Frame, read_format, read_frames, simulate, write_trace
+
+EDITS, TRACE, OUT = "edits", "frames.pcap", "out"
+WORDS = [EDITS, OUT, *(f"{port}={TRACE if port == IN_PORT else ''}" for port in PORTS)]
+
+
+def given_files(rows):
+    frames = [Frame(place * SECOND, IN_PORT, place, row.frame) for place, row in enumerate(rows)]
+    edits = "".join(flow + "\n" for row in rows for flow in row.flows)
+    return {EDITS: edits.encode(), TRACE: write_trace(frames, MICROSECOND)}
+
+
+def simulated(given):
+    result = simulate(WORDS, given.__getitem__)
+    return result.status, result.text, dict(result.files)
+
+
+def run(program, given):
+    with tempfile.TemporaryDirectory() as room:
+        for name, data in given.items():
+            with open(os.path.join(room, name), "wb") as file:
+                file.write(data)
+        ran = subprocess.run([program, *WORDS], cwd=room, stdin=subprocess.DEVNULL, stdout=subprocess.PIPE, text=True)
+        written = {}
+        for name in os.listdir(room):
+            with open(os.path.join(room, name), "rb") as file:
+                written[name] = file.read()
+    return ran.returncode, ran.stdout, written
+
+
+def sent_by_row(files, count):
+    """Ports and bytes for each row, port by port."""
+    sent = [[] for _ in range(count)]
+    for port in PORTS:
+        name = f"{OUT}.p{port}.pcap"
+        for frame in read_frames(files[name], read_format(files[name], name), port, name, sys.maxsize):
+            sent[frame.time // SECOND].append((port, frame.bytes))
+    return sent
+
+
+def shown(sent):
+    return " ".join(f"{port}:{data.hex()}" for port, data in sent) or "nothing"
+
+
+def main(words):
+    rows = list(read_table())
+    given = given_files(rows)
+    status, text, files = run(os.path.abspath(words[0]), given) if words else simulated(given)
+    if status:
+        print(f"status {status}: {text.strip()}")
+        return 1
+    wrong = 0
+    for row, sent in zip(rows, sent_by_row(files, len(rows)), strict=True):
+        if (sent == row.sent) == bool(row.differs):
+            wrong += 1
+            print(f"{row.name}: {shown(sent)}, and Open vSwitch {shown(row.sent)}")
+    print(f"{len(rows)} rows, {wrong} are otherwise")
+    return wrong > 0
+
+
+if __name__ == "__main__":
+    sys.exit(main(sys.argv[1:]))
