@@ -23,8 +23,7 @@
 //! # What is left to others
 //!
 //! Given schedules of steps, and tables that are published to threads: neither is built yet. What is written of the boards,
-//! `egress_merge` and `flow_dump` write. Of datapath actions only outputs are carried out so far, so whoever reads the edits
-//! lets no others in.
+//! `egress_merge` and `flow_dump` write; what datapath actions make of a frame is `action_exec`'s.
 #![tactic(auto)]
 
 mod finishing;
