@@ -51,7 +51,7 @@ impl Edit {
     }
 
     /// Whether the edit acts on a rule that is live: a loose word on each that it reaches, another on the one that it names.
-    pub(crate) fn picks(&self, rule: &Rule) -> bool
+    pub fn picks(&self, rule: &Rule) -> bool
         ensures { result ≡ picks self.now rule.now }
     {
         match self.word {

@@ -97,12 +97,11 @@ common-greatest w x v (suc n) j le h = at (starts_alike w x v (suc n)) refl (com
 -- ---- the length that decides one prefix
 
 -- that of a prefix given by its value and length
-decided : ℕ → ℕ → ℕ → ℕ → ℕ
+abbrev pub decided : ℕ → ℕ → ℕ → ℕ → ℕ
 decided w x v len = deciding_one w x (record { value = v; length = len })
 
 -- the bits up to the deciding one: each but the last is in common
-decided-below : (w x v len j : ℕ) → len ≤ w → suc j ≤ decided w x v len → (suc j ≤ len) × (starts_alike w x v j ≡ true)
-unfolding decided
+pub decided-below : (w x v len j : ℕ) → len ≤ w → suc j ≤ decided w x v len → (suc j ≤ len) × (starts_alike w x v j ≡ true)
 decided-below w x v len j lw h = at (starts_alike w x v len) refl h
   where
     at : (t : Bool) → starts_alike w x v len ≡ t → suc j ≤ (if t then len else suc (common_length w x v len))
@@ -114,8 +113,7 @@ decided-below w x v len j lw h = at (starts_alike w x v len) refl h
         let ne : common_length w x v len ≡ len → ⊥ = λ q. cc in
         (omega arith, alike-less w x v (common_length w x v len) j (omega arith) (omega arith) alike)
 
-decided-above : (w x v len j : ℕ) → suc j ≤ len → starts_alike w x v j ≡ true → suc j ≤ decided w x v len
-unfolding decided
+pub decided-above : (w x v len j : ℕ) → suc j ≤ len → starts_alike w x v j ≡ true → suc j ≤ decided w x v len
 decided-above w x v len j le h = at (starts_alike w x v len)
   where
     at : (t : Bool) → suc j ≤ (if t then len else suc (common_length w x v len))
@@ -149,7 +147,6 @@ decided-same w x y v l len c lw cw cl e h = squeeze len c (decided w x v l) (dec
 -- a number begins with a prefix of this length where the other does
 begins-same : (w x y v l len c : ℕ) → l ≤ w → c ≤ w → c ≤ len → bit_and x (leading_bits w c) ≡ bit_and y (leading_bits w c)
     → min (decided w x v l) len ≤ c → l ≡ len → starts_alike w y v l ≡ starts_alike w x v l
-unfolding decided
 begins-same w x y v l len c lw cw cl e h q = at (starts_alike w y v l) (starts_alike w x v l) refl refl (decided-same w x y v l len c lw cw cl e h)
   where
     whole : l ≤ c → starts_alike w y v l ≡ starts_alike w x v l
@@ -197,7 +194,7 @@ prefixes-AreShort f (r ∷ rs) = at (not ((prefix_of f r).length == 0)) (prefixe
 pub deciding-same : (ps : List Prefix) (w x y len c : ℕ) → AreShort w ps → c ≤ w → c ≤ len
     → bit_and x (leading_bits w c) ≡ bit_and y (leading_bits w c) → min (deciding w x ps) len ≤ c →
     (min (deciding w y ps) len ≡ min (deciding w x ps) len) × (some_begins w y len ps ≡ some_begins w x len ps)
-unfolding deciding decided
+unfolding deciding
 deciding-same [] w x y len c short cw cl e h = (refl, refl)
 deciding-same (p ∷ ps) w x y len c short cw cl e h =
     let hd : min (decided w x p.value p.length) len ≤ c = less_of-left (decided w x p.value p.length) (deciding w x ps) len c h in

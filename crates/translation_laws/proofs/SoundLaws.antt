@@ -1,5 +1,5 @@
 -- Wildcard soundness: from the one mask of a translation to what each of its steps consults, and the law itself.
-use Rattle.std.proofs.Common.{◌≡◌, ℕ, ◌+◌, ◌≤◌, Bool, true, false, ◌||◌, ◌==◌, List, [], ◌∷◌, ◌++◌, length, set, bit_and, refl, sym, ap, ap₂, ◌∙◌, arith, get_or-set_other}
+use Rattle.std.proofs.Common.{◌≡◌, ℕ, ◌+◌, Bool, true, false, ◌||◌, ◌==◌, List, [], ◌∷◌, ◌++◌, length, set, bit_and, refl, sym, ap, ap₂, ◌∙◌, get_or-set_other}
 use Rattle.std.specs.List.{list_any}
 use Rattle.std.proofs.lemmas.Bool.{and_parts, eqb-true}
 use Rattle.spec_keys.specs.declared.field_id.FieldId.{FieldId}

@@ -1,0 +1,196 @@
+-- What an add does to the live rules is what it does to the rules of a version.
+use Rattle.std.proofs.Common.{◌≡◌, ℕ, suc, ◌+◌, ◌^◌, ◌<◌, ◌≤◌, Bool, true, false, ◌&&◌, ◌==◌, not, if◌then◌else◌, List, [], ◌∷◌, ◌++◌, length, filter, get_or, Vec, inl, inr, ◌⊎◌, refl, sym, ap, ap₂, ◌∙◌, subst, arith, eq-eqb}
+use Rattle.std.specs.declared.alloc.Global.{Global}
+use Rattle.std.proofs.lemmas.Bool.{false≢true, and_parts}
+use Rattle.std.proofs.lemmas.List.{map-append, length-append, length-map}
+use Rattle.std.proofs.lemmas.List.Sums.{count_by-le-length}
+use Rattle.spec_actions.specs.declared.action.OfAction.{OfAction}
+use Rattle.spec_keys.specs.Keys.{same, masked}
+use Rattle.spec_tables.specs.declared.edit_word.EditWord.{EditWord}
+use Rattle.spec_tables.specs.declared.edit_word.EditWord.TheVariants.{Add}
+use Rattle.spec_tables.specs.Rules.{Match, Rule, is_same_match, rules_in}
+use Rattle.spec_tables.specs.Edits.{Edit, edited, is_named_by, table_of, rule_of}
+use Rattle.translation_laws.proofs.MemberLaws.{Among, Among_in-map, Among-filter, Among-append}
+use Rattle.ovs_fields.specs.Packed.{bits}
+use Rattle.rule_tables.specs.Views.{match_view, rule_view}
+use Rattle.tuple_classifier.specs.declared.live.LiveRule.{LiveRule}
+use Rattle.tuple_classifier.specs.declared.stage.Stage.{Stage}
+use Rattle.tuple_classifier.specs.declared.subtable.Subtable.{Subtable}
+use Rattle.tuple_classifier.specs.ByTable.{AreClassified, CountMoreRules}
+use Rattle.tuple_classifier.specs.Live.{live_view, live_rules, plain_rule, plain_rules, IsRising, AreIdentified}
+use Rattle.tuple_classifier.specs.Parts.{of_mask}
+use Rattle.tuple_classifier.specs.Sound.{AreSound}
+use Rattle.tuple_classifier.specs.Stages.{IsStage, CountsFewer}
+use Rattle.tuple_classifier.proofs.EditLaws.{is_unnamed, unnamed_rules, last_list, more_lists}
+use Rattle.tuple_classifier.proofs.LiveLaws.{plain_rising, seen_rising, rising_kept}
+use Rattle.tuple_classifier.proofs.Members.{among_map}
+use Rattle.tuple_classifier.proofs.Places.{turned}
+
+-- ---- there are so few rules that one more can be counted
+
+few_from : (rs : List Rule) (b v : ℕ) → b ≤ v + 1 → IsRising rs → ((r : Rule) → Among r rs → b ≤ r.number) → ((r : Rule) → Among r rs → r.number ≤ v) → b + length rs ≤ v + 1
+few_from [] b v le rising from to = omega arith
+few_from (r ∷ rs) b v le rising from to =
+    let h = from r (inl refl) in
+    let t = to r (inl refl) in
+    let more = few_from rs (r.number + 1) v (omega (arith, t)) rising.1 (λ s m. (let lt = rising.0 s m in omega (arith, lt))) (λ s m. to s (inr m)) in
+    omega (arith, h, more)
+
+shorter : (p : Rule → Bool) (rs : List Rule) → length (filter p rs) ≤ length rs
+shorter p [] = omega arith
+shorter p (r ∷ rs) = at (p r) (shorter p rs)
+  where
+    at : (t : Bool) → length (filter p rs) ≤ length rs → length (if t then r ∷ filter p rs else filter p rs) ≤ suc (length rs)
+    at true le = omega (arith, le)
+    at false le = omega (arith, le)
+
+counts_fewer : (s : Stage) (part : List ℕ) (rs : List Rule) → IsStage s part rs → length rs < 2 ^ 63 → CountsFewer s
+counts_fewer s part rs is few key =
+    let c = is.counted key in
+    let le = count_by-le-length (λ (r : Rule). same key (masked r.matching.key part)) rs in
+    omega (arith, c, le, few)
+
+pub counts_more : (rules : List Rule) (ts : List (Vec Subtable Global)) → AreClassified ts rules → length rules < 2 ^ 63 → CountMoreRules ts
+counts_more rules ts is few table i s at =
+    let of = (is table).each i s at in
+    let a = shorter (λ (r : Rule). same r.matching.mask (bits s.mask)) (rules_in table rules) in
+    let b = shorter (λ (r : Rule). r.table == table) rules in
+    let fewer : length (of_mask (bits s.mask) (rules_in table rules)) < 2 ^ 63 = omega (arith, a, b, few) in
+    record {
+      metadata = counts_fewer s.indexes.metadata _ _ of.indexed.metadata fewer;
+      ethernet = counts_fewer s.indexes.ethernet _ _ of.indexed.ethernet fewer;
+      network = counts_fewer s.indexes.network _ _ of.indexed.network fewer;
+    }
+
+pub few_rules : (version : ℕ) (live : List LiveRule) (lists : List (List OfAction)) (ts : List (Vec Subtable Global)) → AreSound version live lists ts → version + 1 < 2 ^ 32 → length (plain_rules live) < 2 ^ 63
+few_rules version live lists ts is room =
+    let few = few_from (live_rules lists live) 0 version (omega arith) is.of_version.rising (λ r m. omega arith) is.of_version.numbered in
+    let a = length-map live (live_view lists) in
+    let b = length-map live plain_rule in
+    omega (arith, few, a, b, room)
+
+-- ---- one rule more
+
+rising_more : (rs : List Rule) (r : Rule) → IsRising rs → ((s : Rule) → Among s rs → s.number < r.number) → IsRising (rs ++ r ∷ [])
+rising_more [] r rising less = ((λ s m. absurd m), tt)
+rising_more (q ∷ rs) r rising less = ((λ s m. first s (Among-append s rs (r ∷ []) m)), rising_more rs r rising.1 (λ s m. less s (inr m)))
+  where
+    first : (s : Rule) → Among s rs ⊎ Among s (r ∷ []) → q.number < s.number
+    first s (inl m) = rising.0 s m
+    first s (inr (inl e)) = let lt = less q (inl refl) in let h = ap (λ (x : Rule). x.number) e in omega (arith, lt, h)
+    first s (inr (inr m)) = absurd m
+
+match_turned : (m n : Match) → is_same_match m n ≡ true → is_same_match n m ≡ true
+match_turned m n is =
+    let a = and_parts (same m.key n.key) (same m.mask n.mask) is in
+    ap₂ (λ (t u : Bool). t && u) (turned m.key n.key true a.0) (turned m.mask n.mask true a.1)
+
+pub plain_more : (live : List LiveRule) (l : LiveRule) → plain_rules (live ++ l ∷ []) ≡ plain_rules live ++ plain_rule l ∷ []
+plain_more live l = map-append plain_rule live (l ∷ [])
+
+module _ (e : Edit) (version : ℕ) (live : List LiveRule) (lists : List (List OfAction)) (ts : List (Vec Subtable Global)) (is : AreSound version live lists ts) (l : LiveRule)
+    (view : (actions : List OfAction) → rule_view l.rule actions ≡ record (rule_of (version + 1) e) { actions = actions }) where
+  pub number_is : l.rule.number ≡ version + 1
+  number_is = ap (λ (r : Rule). r.number) (view [])
+
+  before : (k : LiveRule) → Among k live → k.rule.number < l.rule.number
+  before k m =
+      let n = is.of_version.numbered (live_view lists k) (Among_in-map (live_view lists) k live m) in
+      let q = number_is in
+      omega (arith, n, q)
+
+  pub rising_added : IsRising (plain_rules (live ++ l ∷ []))
+  rising_added =
+      subst IsRising (sym (plain_more live l)) (rising_more (plain_rules live) (plain_rule l) (plain_rising lists live is.of_version.rising) (λ s m. less s (among_map plain_rule s live m)))
+    where
+      less : (s : Rule) → (k : LiveRule) × Among k live × (s ≡ plain_rule k) → s.number < l.rule.number
+      less s k = let lt = before k.0 k.1 in let q = ap (λ (r : Rule). r.number) k.2 in omega (arith, lt, q)
+
+  among_kept : (k : LiveRule) → Among k (filter (is_unnamed e) live ++ l ∷ []) → (Among k live × (is_unnamed e k ≡ true)) ⊎ (k ≡ l)
+  among_kept k m = at (Among-append k (filter (is_unnamed e) live) (l ∷ []) m)
+    where
+      at : Among k (filter (is_unnamed e) live) ⊎ Among k (l ∷ []) → (Among k live × (is_unnamed e k ≡ true)) ⊎ (k ≡ l)
+      at (inl n) = inl (Among-filter (is_unnamed e) k live n)
+      at (inr (inl q)) = inr q
+      at (inr (inr n)) = absurd n
+
+  -- no live rule that the edit doesn't name is the one that it adds
+  apart : (k : LiveRule) → is_unnamed e k ≡ true → k.rule.table ≡ l.rule.table → k.rule.priority ≡ l.rule.priority → is_same_match (match_view k.rule.matching) (match_view l.rule.matching) ≡ true → ⊥
+  apart k unnamed a b d =
+      let named : is_named_by e (plain_rule k) ≡ true =
+      ap₂ (λ (t u : Bool). t && u) (eq-eqb k.rule.table (table_of e) (a ∙ ap (λ (r : Rule). r.table) (view [])))
+      (ap₂ (λ (t u : Bool). t && u) (eq-eqb k.rule.priority e.priority (b ∙ ap (λ (r : Rule). r.priority) (view [])))
+      (ap (is_same_match (match_view k.rule.matching)) (sym (ap (λ (r : Rule). r.matching) (view []))) ∙ d)) in
+      false≢true (sym (ap not named) ∙ unnamed)
+
+  one : (k j : LiveRule) → Among k (filter (is_unnamed e) live ++ l ∷ []) → Among j (filter (is_unnamed e) live ++ l ∷ []) → k.rule.table ≡ j.rule.table → k.rule.priority ≡ j.rule.priority
+      → is_same_match (match_view k.rule.matching) (match_view j.rule.matching) ≡ true → k.rule.number ≡ j.rule.number
+  one k j m n = at (among_kept k m) (among_kept j n)
+    where
+      at : (Among k live × (is_unnamed e k ≡ true)) ⊎ (k ≡ l) → (Among j live × (is_unnamed e j ≡ true)) ⊎ (j ≡ l) → k.rule.table ≡ j.rule.table → k.rule.priority ≡ j.rule.priority
+          → is_same_match (match_view k.rule.matching) (match_view j.rule.matching) ≡ true → k.rule.number ≡ j.rule.number
+      at (inl m) (inl n) a b d =
+          is.of_version.identified (live_view lists k) (live_view lists j) (Among_in-map (live_view lists) k live m.0) (Among_in-map (live_view lists) j live n.0) a b d
+      at (inl m) (inr q) a b d =
+          absurd (apart k m.1 (a ∙ ap (λ (y : LiveRule). y.rule.table) q) (b ∙ ap (λ (y : LiveRule). y.rule.priority) q)
+          (ap (λ (y : LiveRule). is_same_match (match_view k.rule.matching) (match_view y.rule.matching)) (sym q) ∙ d))
+      at (inr p) (inl n) a b d =
+          absurd (apart j n.1 (sym a ∙ ap (λ (y : LiveRule). y.rule.table) p) (sym b ∙ ap (λ (y : LiveRule). y.rule.priority) p)
+          (match_turned (match_view l.rule.matching) (match_view j.rule.matching) (ap (λ (y : LiveRule). is_same_match (match_view y.rule.matching) (match_view j.rule.matching)) (sym p) ∙ d)))
+      at (inr p) (inr q) a b d = ap (λ (y : LiveRule). y.rule.number) (p ∙ sym q)
+
+  module _ (x : List OfAction) (given : l.given ≡ length lists) where
+    pub sound_added : (live' : List LiveRule) (lists' : List (List OfAction)) (ts' : List (Vec Subtable Global)) → live' ≡ filter (is_unnamed e) live ++ l ∷ [] → lists' ≡ lists ++ x ∷ []
+        → AreClassified ts' (plain_rules live') → AreSound (version + 1) live' lists' ts'
+    sound_added live' lists' ts' is_live is_lists classified =
+        subst (λ (k : List LiveRule). AreClassified ts' (plain_rules k) → AreSound (version + 1) k lists' ts') (sym is_live)
+        (λ c. subst (λ (k : List (List OfAction)). AreSound (version + 1) (filter (is_unnamed e) live ++ l ∷ []) k ts') (sym is_lists) (record {
+          of_version = record { rising = rising; numbered = numbered; identified = identified };
+          given = given_all;
+          few_lists = (let few = is.few_lists in let n = length-append lists (x ∷ []) in omega (arith, few, n));
+          classified = c;
+        })) classified
+      where
+        rising : IsRising (live_rules (lists ++ x ∷ []) (filter (is_unnamed e) live ++ l ∷ []))
+        rising = seen_rising (lists ++ x ∷ []) (filter (is_unnamed e) live ++ l ∷ []) (rising_kept (is_unnamed e) live (l ∷ []) rising_added)
+
+        was : (r : Rule) → Among r (live_rules (lists ++ x ∷ []) (filter (is_unnamed e) live ++ l ∷ [])) → (k : LiveRule) × Among k (filter (is_unnamed e) live ++ l ∷ []) × (r ≡ live_view (lists ++ x ∷ []) k)
+        was r m = among_map (live_view (lists ++ x ∷ [])) r (filter (is_unnamed e) live ++ l ∷ []) m
+
+        numbered : (r : Rule) → Among r (live_rules (lists ++ x ∷ []) (filter (is_unnamed e) live ++ l ∷ [])) → r.number ≤ version + 1
+        numbered r m = let k = was r m in at k.0 (ap (λ (y : Rule). y.number) k.2) (among_kept k.0 k.1)
+          where
+            at : (k : LiveRule) → r.number ≡ k.rule.number → (Among k live × (is_unnamed e k ≡ true)) ⊎ (k ≡ l) → r.number ≤ version + 1
+            at k h (inl n) = let lt = before k n.0 in let q = number_is in omega (arith, h, lt, q)
+            at k h (inr n) = let g = ap (λ (y : LiveRule). y.rule.number) n in let q = number_is in omega (arith, h, g, q)
+
+        identified : AreIdentified (live_rules (lists ++ x ∷ []) (filter (is_unnamed e) live ++ l ∷ []))
+        identified r s m n a b d =
+            let k = was r m in
+            let j = was s n in
+            ap (λ (y : Rule). y.number) k.2
+            ∙ one k.0 j.0 k.1 j.1 (sym (ap (λ (y : Rule). y.table) k.2) ∙ a ∙ ap (λ (y : Rule). y.table) j.2) (sym (ap (λ (y : Rule). y.priority) k.2) ∙ b ∙ ap (λ (y : Rule). y.priority) j.2)
+            (sym (ap₂ (λ (y z : Rule). is_same_match y.matching z.matching) k.2 j.2) ∙ d)
+            ∙ sym (ap (λ (y : Rule). y.number) j.2)
+
+        given_all : (k : LiveRule) → Among k (filter (is_unnamed e) live ++ l ∷ []) → k.given < length (lists ++ x ∷ [])
+        given_all k m = at (among_kept k m)
+          where
+            at : (Among k live × (is_unnamed e k ≡ true)) ⊎ (k ≡ l) → k.given < length (lists ++ x ∷ [])
+            at (inl n) = let g = is.given k n.0 in let h = length-append lists (x ∷ []) in omega (arith, g, h)
+            at (inr q) = let g = ap (λ (y : LiveRule). y.given) q in let h = length-append lists (x ∷ []) in omega (arith, g, given, h)
+
+    seen_added : x ≡ e.actions → live_view (lists ++ x ∷ []) l ≡ rule_of (version + 1) e
+    seen_added is_actions =
+        ap (λ (i : ℕ). rule_view l.rule (get_or (lists ++ x ∷ []) i [])) given ∙ ap (rule_view l.rule) (last_list lists x) ∙ view x
+        ∙ ap (λ (a : List OfAction). record (rule_of (version + 1) e) { actions = a }) is_actions
+
+    pub added_rules : (live' : List LiveRule) (lists' : List (List OfAction)) → live' ≡ filter (is_unnamed e) live ++ l ∷ [] → lists' ≡ lists ++ x ∷ [] → x ≡ e.actions → e.word ≡ Add
+        → live_rules lists' live' ≡ edited e.word (version + 1) e (live_rules lists live)
+    added_rules live' lists' is_live is_lists is_actions word =
+        ap₂ live_rules is_lists is_live
+        ∙ map-append (live_view (lists ++ x ∷ [])) (filter (is_unnamed e) live) (l ∷ [])
+        ∙ ap₂ (λ (rs : List Rule) (r : Rule). rs ++ r ∷ [])
+        (more_lists lists x (filter (is_unnamed e) live) (λ k m. is.given k (Among-filter (is_unnamed e) k live m).0) ∙ unnamed_rules e lists live)
+        (seen_added is_actions)
+        ∙ sym (ap (λ (w : EditWord). edited w (version + 1) e (live_rules lists live)) word)

@@ -1,0 +1,63 @@
+-- What a stage counts, as rules come and go.
+use Rattle.std.proofs.Common.{◌≡◌, ℕ, ◌+◌, ◌<◌, true, if◌then◌else◌, nat_lt, List, [], ◌∷◌, ◌++◌, sym, ap, ap₂, ◌∙◌, subst, arith}
+use Rattle.std.specs.List.{list_any}
+use Rattle.spec_keys.specs.Keys.{agree, masked, same}
+use Rattle.spec_tables.specs.Rules.{Rule}
+use Rattle.ovs_fields.specs.Packed.{bits}
+use Rattle.ovs_fields.specs.Equality.{same_from_equal}
+use Rattle.translation_laws.proofs.MemberLaws.{Among}
+use Rattle.tuple_classifier.specs.declared.stage.Stage.{Stage}
+use Rattle.tuple_classifier.specs.Counts.{count_at}
+use Rattle.tuple_classifier.specs.Numbered.{AreDistinct, without}
+use Rattle.tuple_classifier.specs.Stages.{with_part, IsStage}
+use Rattle.tuple_classifier.proofs.Members.{same_tests, any_among, any_from, counted_among, counted_from}
+use Rattle.tuple_classifier.proofs.Nearest.{nat_lt_true, true_nat_lt}
+use Rattle.tuple_classifier.proofs.Removed.{count-one_more, count-without}
+
+pub stage_empty : (s : Stage) (part : List ℕ) → bits s.part ≡ part → ((key : List ℕ) → count_at s.counts key ≡ 0) → IsStage s part []
+stage_empty s part is none = record { part_is = is; counted = λ key. none key }
+
+pub stage_more : (old new : Stage) (part key added : List ℕ) (rs : List Rule) (r : Rule) → IsStage old part rs → r.matching.key ≡ key → new.part ≡ old.part → added ≡ masked key (bits old.part)
+    → ((q : List ℕ) → count_at new.counts q ≡ count_at old.counts q + (if same q added then 1 else 0)) → IsStage new part (rs ++ r ∷ [])
+stage_more old new part key added rs r is of_key same_part is_added more = record {
+  part_is = ap bits same_part ∙ is.part_is;
+  counted = λ q. more q ∙ ap₂ (λ (m : ℕ) (l : List ℕ). m + (if same q l then 1 else 0)) (is.counted q) (is_added ∙ ap₂ masked (sym of_key) is.part_is)
+      ∙ sym (count-one_more (λ (x : Rule). same q (masked x.matching.key part)) rs r);
+}
+
+pub stage_less : (old new : Stage) (part key taken : List ℕ) (rs : List Rule) (r : Rule) → IsStage old part rs → AreDistinct rs → Among r rs → r.matching.key ≡ key → new.part ≡ old.part → taken ≡ masked key (bits old.part)
+    → ((q : List ℕ) → count_at new.counts q + (if same q taken then 1 else 0) ≡ count_at old.counts q) → IsStage new part (without r.number rs)
+stage_less old new part key taken rs r is distinct m of_key same_part is_taken less = record {
+  part_is = ap bits same_part ∙ is.part_is;
+  counted = λ q.
+      let a = less q in
+      let b = is.counted q in
+      let c = ap {B = ℕ} (λ (l : List ℕ). if same q l then 1 else 0) (is_taken ∙ ap₂ masked (sym of_key) is.part_is) in
+      let d = count-without (λ (x : Rule). same q (masked x.matching.key part)) r rs m distinct in
+      omega (arith, a, b, c, d);
+}
+
+-- each rule is counted
+pub stage_has : (s : Stage) (part key : List ℕ) (rs : List Rule) (r : Rule) → IsStage s part rs → Among r rs → r.matching.key ≡ key → 0 < count_at s.counts (masked key (bits s.part))
+stage_has s part key rs r is m of_key =
+    subst (λ (n : ℕ). 0 < n) (sym (is.counted (masked key (bits s.part))))
+    (counted_from (λ (x : Rule). same (masked key (bits s.part)) (masked x.matching.key part)) r rs m
+    (same_from_equal (masked key (bits s.part)) (masked r.matching.key part) (ap₂ masked (sym of_key) is.part_is)))
+
+pub stage_agrees : (s : Stage) (part key at_key : List ℕ) (rs : List Rule) (n : ℕ) → IsStage s part rs → at_key ≡ masked key (bits s.part) → n ≡ count_at s.counts at_key
+    → nat_lt 0 n ≡ list_any (λ r. agree key r.matching.key part) rs
+stage_agrees s part key at_key rs n is is_at found = same_tests (nat_lt 0 n) (list_any (λ r. agree key r.matching.key part) rs) to back
+  where
+    count : n ≡ with_part part (masked key part) rs
+    count = found ∙ ap (count_at s.counts) (is_at ∙ ap (masked key) is.part_is) ∙ is.counted (masked key part)
+
+    to : nat_lt 0 n ≡ true → list_any (λ r. agree key r.matching.key part) rs ≡ true
+    to h =
+        let some : 0 < with_part part (masked key part) rs = subst (λ (m : ℕ). 0 < m) count (nat_lt_true 0 n h) in
+        let m = counted_among (λ (x : Rule). same (masked key part) (masked x.matching.key part)) rs some in
+        any_from (λ (x : Rule). agree key x.matching.key part) m.0 rs m.1 m.2
+
+    back : list_any (λ r. agree key r.matching.key part) rs ≡ true → nat_lt 0 n ≡ true
+    back h =
+        let m = any_among (λ (x : Rule). agree key x.matching.key part) rs h in
+        true_nat_lt 0 n (subst (λ (k : ℕ). 0 < k) (sym count) (counted_from (λ (x : Rule). same (masked key part) (masked x.matching.key part)) m.0 rs m.1 m.2))

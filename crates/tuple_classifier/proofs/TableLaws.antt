@@ -1,0 +1,272 @@
+-- The subtables of a table, as rules come and go.
+use Rattle.std.proofs.Common.{◌≡◌, ℕ, ◌≤◌, Bool, true, false, ◌&&◌, ◌==◌, not, if◌then◌else◌, List, [], ◌∷◌, ◌++◌, append-nil, length, set, filter, slice_get, Option, Some, None, inl, inr, ◌⊎◌, refl, sym, ap, ap₂, ◌∙◌, subst, arith, eqb-true}
+use Rattle.std.specs.List.{find, remove, count_by}
+use Rattle.std.proofs.lemmas.Bool.{cases_eq, cond-true, cond-false, false≢true}
+use Rattle.std.proofs.lemmas.List.Elements.{filter-append}
+use Rattle.std.proofs.lemmas.Option.{same_Some}
+use Rattle.spec_keys.specs.Keys.{same}
+use Rattle.spec_tables.specs.Rules as tables
+use Rattle.spec_tables.specs.Rules.{Rule, is_same_match}
+use Rattle.translation_laws.proofs.MemberLaws.{Among, Among-append, Among-filter, Among_in-filter}
+use Rattle.ovs_fields.specs.Equality.{equal_from_same, same_from_equal}
+use Rattle.ovs_fields.specs.Packed.{bits}
+use Rattle.tuple_classifier.specs.declared.subtable.Subtable.{Subtable}
+use Rattle.tuple_classifier.specs.Numbered.{AreDistinct, without}
+use Rattle.tuple_classifier.specs.Parts.{AreApart, AreSubtablesOf, HasMask, of_mask}
+use Rattle.tuple_classifier.specs.Subtables.{IsSubtableOf}
+use Rattle.tuple_classifier.proofs.Members.{count-cons}
+use Rattle.tuple_classifier.proofs.Places.{turned, at_set, set_at, set_elsewhere, at_end_of, end_at, before_end, moved, moved_apart, at_removed, removed_at}
+use Rattle.tuple_classifier.proofs.Removed.{all_stay}
+use Rattle.tuple_classifier.proofs.WinnerLaws.{one_of_number}
+
+-- ---- lists
+
+pub untrue : (t : Bool) → (t ≡ true → ⊥) → t ≡ false
+untrue true h = absurd (h refl)
+untrue false h = refl
+
+filter_none : {X : Type 0} (q : X → Bool) (xs : List X) → ((x : X) → Among x xs → q x ≡ false) → filter q xs ≡ []
+filter_none q [] none = refl
+filter_none q (x ∷ xs) none = cond-false (q x) (x ∷ filter q xs) (filter q xs) (none x (inl refl)) ∙ filter_none q xs (λ y m. none y (inr m))
+
+pub filter_swapped : {X : Type 0} (p q : X → Bool) (xs : List X) → filter p (filter q xs) ≡ filter q (filter p xs)
+filter_swapped p q [] = refl
+filter_swapped {X} p q (x ∷ xs) = at (p x) (q x) refl refl (filter_swapped p q xs)
+  where
+    at : (t u : Bool) → p x ≡ t → q x ≡ u → filter p (filter q xs) ≡ filter q (filter p xs)
+        → filter p (if u then x ∷ filter q xs else filter q xs) ≡ filter q (if t then x ∷ filter p xs else filter p xs)
+    at true true e f ih = cond-true (p x) (x ∷ filter p (filter q xs)) (filter p (filter q xs)) e ∙ ap (λ (ys : List X). x ∷ ys) ih ∙ sym (cond-true (q x) (x ∷ filter q (filter p xs)) (filter q (filter p xs)) f)
+    at true false e f ih = ih ∙ sym (cond-false (q x) (x ∷ filter q (filter p xs)) (filter q (filter p xs)) f)
+    at false true e f ih = cond-false (p x) (x ∷ filter p (filter q xs)) (filter p (filter q xs)) e ∙ ih
+    at false false e f ih = ih
+
+pub count-filter : {X : Type 0} (p q : X → Bool) (xs : List X) → count_by p (filter q xs) ≤ count_by p xs
+count-filter p q [] = omega arith
+count-filter {X} p q (x ∷ xs) = at (q x) (count-filter p q xs)
+  where
+    at : (t : Bool) → count_by p (filter q xs) ≤ count_by p xs → count_by p (if t then x ∷ filter q xs else filter q xs) ≤ count_by p (x ∷ xs)
+    at true ih =
+        let a = count-cons p x (filter q xs) in
+        let b = count-cons p x xs in
+        omega (arith, a, b, ih)
+    at false ih =
+        let b = count-cons p x xs in
+        omega (arith, b, ih)
+
+pub distinct_filter : (q : Rule → Bool) (rs : List Rule) → AreDistinct rs → AreDistinct (filter q rs)
+distinct_filter q rs distinct n =
+    let a = distinct n in
+    let b = count-filter (λ (r : Rule). r.number == n) q rs in
+    omega (arith, a, b)
+
+pub find_filter : {X : Type 0} (p q : X → Bool) (xs : List X) → find p (filter q xs) ≡ find (λ x. q x && p x) xs
+find_filter p q [] = refl
+find_filter {X} p q (x ∷ xs) = at (q x) (find_filter p q xs)
+  where
+    at : (t : Bool) → find p (filter q xs) ≡ find (λ y. q y && p y) xs → find p (if t then x ∷ filter q xs else filter q xs) ≡ (if t && p x then Some x else find (λ y. q y && p y) xs)
+    at true ih = ap (λ (o : Option X). if p x then Some x else o) ih
+    at false ih = ih
+
+find_alike : {X : Type 0} (p q : X → Bool) (xs : List X) → ((x : X) → p x ≡ q x) → find p xs ≡ find q xs
+find_alike p q [] alike = refl
+find_alike {X} p q (x ∷ xs) alike = ap₂ (λ (t : Bool) (o : Option X). if t then Some x else o) (alike x) (find_alike p q xs alike)
+
+find_none : {X : Type 0} (p : X → Bool) (xs : List X) → ((x : X) → Among x xs → p x ≡ false) → find p xs ≡ None
+find_none p [] none = refl
+find_none p (x ∷ xs) none = cond-false (p x) (Some x) (find p xs) (none x (inl refl)) ∙ find_none p xs (λ y m. none y (inr m))
+
+-- ---- the rules of a mask, with one more and one less
+
+pub part_more : (mask : List ℕ) (rs : List Rule) (r : Rule) → same r.matching.mask mask ≡ true → of_mask mask (rs ++ r ∷ []) ≡ of_mask mask rs ++ r ∷ []
+part_more mask rs r is =
+    filter-append (λ (x : Rule). same x.matching.mask mask) rs (r ∷ []) ∙ ap (λ (ys : List Rule). of_mask mask rs ++ ys) (cond-true (same r.matching.mask mask) (r ∷ []) [] is)
+
+pub part_same : (mask : List ℕ) (rs : List Rule) (r : Rule) → same r.matching.mask mask ≡ false → of_mask mask (rs ++ r ∷ []) ≡ of_mask mask rs
+part_same mask rs r is =
+    filter-append (λ (x : Rule). same x.matching.mask mask) rs (r ∷ []) ∙ ap (λ (ys : List Rule). of_mask mask rs ++ ys) (cond-false (same r.matching.mask mask) (r ∷ []) [] is)
+    ∙ append-nil (of_mask mask rs)
+
+pub part_less : (mask : List ℕ) (number : ℕ) (rs : List Rule) → of_mask mask (without number rs) ≡ without number (of_mask mask rs)
+part_less mask number rs = filter_swapped (λ (x : Rule). same x.matching.mask mask) (λ (x : Rule). not (x.number == number)) rs
+
+pub part_stays : (mask : List ℕ) (rs : List Rule) (r : Rule) → AreDistinct rs → Among r rs → same r.matching.mask mask ≡ false → of_mask mask (without r.number rs) ≡ of_mask mask rs
+part_stays mask rs r distinct m other =
+    part_less mask r.number rs
+    ∙ all_stay r.number (of_mask mask rs) (λ s a.
+    let b = Among-filter (λ (x : Rule). same x.matching.mask mask) s rs a in
+    untrue (s.number == r.number) (λ (e : (s.number == r.number) ≡ true).
+    let is : s ≡ r = one_of_number rs distinct s r b.0 m (eqb-true s.number r.number e) in
+    false≢true (sym other ∙ ap (λ (x : Rule). same x.matching.mask mask) (sym is) ∙ b.1)))
+
+-- ---- a subtable in the place of another
+
+mask_stood : (ss : List Subtable) (i : ℕ) (s t : Subtable) → slice_get ss i ≡ Some s → bits t.mask ≡ bits s.mask → (j : ℕ) (u : Subtable) → slice_get (set ss i t) j ≡ Some u
+    → (v : Subtable) × (slice_get ss j ≡ Some v) × (bits u.mask ≡ bits v.mask)
+mask_stood ss i s t is e j u at = by (at_set ss i j s t u is at)
+  where
+    by : ((j ≡ i) × (t ≡ u)) ⊎ ((j ≡ i → ⊥) × (slice_get ss j ≡ Some u)) → (v : Subtable) × (slice_get ss j ≡ Some v) × (bits u.mask ≡ bits v.mask)
+    by (inl h) = (s, ap (slice_get ss) h.0 ∙ is, ap (λ (x : Subtable). bits x.mask) (sym h.1) ∙ e)
+    by (inr h) = (u, h.1, refl)
+
+pub put_in_place : (ss : List Subtable) (rs rs' : List Rule) (i : ℕ) (s t : Subtable) → AreSubtablesOf ss rs → slice_get ss i ≡ Some s → bits t.mask ≡ bits s.mask
+    → IsSubtableOf t (of_mask (bits s.mask) rs') → ((m : List ℕ) → same m (bits s.mask) ≡ false → of_mask m rs' ≡ of_mask m rs) → ((r : Rule) → Among r rs' → HasMask ss r.matching.mask)
+    → AreSubtablesOf (set ss i t) rs'
+put_in_place ss rs rs' i s t are is e own others covered = record { apart = apart; each = each; covered = λ r m. covers r.matching.mask (covered r m) }
+  where
+    apart : AreApart (set ss i t)
+    apart j k u v ju kv alike =
+        let a = mask_stood ss i s t is e j u ju in
+        let b = mask_stood ss i s t is e k v kv in
+        are.apart j k a.0 b.0 a.1 b.1 (sym (ap₂ same a.2 b.2) ∙ alike)
+
+    each : (j : ℕ) (u : Subtable) → slice_get (set ss i t) j ≡ Some u → IsSubtableOf u (of_mask (bits u.mask) rs')
+    each j u at = by (at_set ss i j s t u is at)
+      where
+        by : ((j ≡ i) × (t ≡ u)) ⊎ ((j ≡ i → ⊥) × (slice_get ss j ≡ Some u)) → IsSubtableOf u (of_mask (bits u.mask) rs')
+        by (inl h) = subst (λ (x : Subtable). IsSubtableOf x (of_mask (bits x.mask) rs')) h.1 (subst (λ (m : List ℕ). IsSubtableOf t (of_mask m rs')) (sym e) own)
+        by (inr h) =
+            let other : same (bits u.mask) (bits s.mask) ≡ false = untrue (same (bits u.mask) (bits s.mask)) (λ (q : same (bits u.mask) (bits s.mask) ≡ true). h.0 (are.apart j i u s h.1 is q)) in
+            subst (IsSubtableOf u) (sym (others (bits u.mask) other)) (are.each j u h.1)
+
+    covers : (m : List ℕ) → HasMask ss m → HasMask (set ss i t) m
+    covers m h = by (cases_eq h.0 i)
+      where
+        by : (h.0 ≡ i) ⊎ (h.0 ≡ i → ⊥) → HasMask (set ss i t) m
+        by (inl q) =
+            let is_s : h.1 ≡ s = same_Some h.1 s (sym h.2 ∙ ap (slice_get ss) q ∙ is) in
+            (i, t, set_at ss i s t is, ap (same m) (e ∙ ap (λ (x : Subtable). bits x.mask) (sym is_s)) ∙ h.3)
+        by (inr q) = (h.0, h.1, set_elsewhere ss i h.0 t h.1 q h.2, h.3)
+
+pub insert_in_place : (ss : List Subtable) (rs : List Rule) (i : ℕ) (s t : Subtable) (r : Rule) → AreSubtablesOf ss rs → slice_get ss i ≡ Some s → bits t.mask ≡ bits s.mask
+    → same (bits s.mask) r.matching.mask ≡ true → IsSubtableOf t (of_mask (bits s.mask) rs ++ r ∷ []) → AreSubtablesOf (set ss i t) (rs ++ r ∷ [])
+insert_in_place ss rs i s t r are is e here own =
+    put_in_place ss rs (rs ++ r ∷ []) i s t are is e
+    (subst (IsSubtableOf t) (sym (part_more (bits s.mask) rs r mine)) own)
+    (λ m other. part_same m rs r (turned m r.matching.mask false (ap (same m) (equal_from_same r.matching.mask (bits s.mask) mine) ∙ other)))
+    (λ x m. covered x (Among-append x rs (r ∷ []) m))
+  where
+    mine : same r.matching.mask (bits s.mask) ≡ true
+    mine = turned (bits s.mask) r.matching.mask true here
+
+    covered : (x : Rule) → Among x rs ⊎ Among x (r ∷ []) → HasMask ss x.matching.mask
+    covered x (inl m) = are.covered x m
+    covered x (inr (inl q)) = (i, s, is, ap (λ (y : Rule). same y.matching.mask (bits s.mask)) q ∙ mine)
+    covered x (inr (inr h)) = absurd h
+
+pub same_in_place : (ss : List Subtable) (rs : List Rule) (i : ℕ) (s t : Subtable) → AreSubtablesOf ss rs → slice_get ss i ≡ Some s → bits t.mask ≡ bits s.mask
+    → IsSubtableOf t (of_mask (bits s.mask) rs) → AreSubtablesOf (set ss i t) rs
+same_in_place ss rs i s t are is e own = put_in_place ss rs rs i s t are is e own (λ m other. refl) are.covered
+
+pub take_in_place : (ss : List Subtable) (rs : List Rule) (i : ℕ) (s t : Subtable) (r : Rule) → AreSubtablesOf ss rs → AreDistinct rs → Among r rs → slice_get ss i ≡ Some s → bits t.mask ≡ bits s.mask
+    → same (bits s.mask) r.matching.mask ≡ true → IsSubtableOf t (without r.number (of_mask (bits s.mask) rs)) → AreSubtablesOf (set ss i t) (without r.number rs)
+take_in_place ss rs i s t r are distinct m is e here own =
+    put_in_place ss rs (without r.number rs) i s t are is e
+    (subst (IsSubtableOf t) (sym (part_less (bits s.mask) r.number rs)) own)
+    (λ k other. part_stays k rs r distinct m (turned k r.matching.mask false (ap (same k) (sym (equal_from_same (bits s.mask) r.matching.mask here)) ∙ other)))
+    (λ x a. are.covered x (Among-filter (λ (y : Rule). not (y.number == r.number)) x rs a).0)
+
+-- ---- a new mask
+
+pub insert_at_end : (ss : List Subtable) (rs : List Rule) (t : Subtable) (r : Rule) → AreSubtablesOf ss rs → bits t.mask ≡ r.matching.mask
+    → ((j : ℕ) (s : Subtable) → slice_get ss j ≡ Some s → same (bits s.mask) r.matching.mask ≡ false) → IsSubtableOf t (r ∷ []) → AreSubtablesOf (ss ++ t ∷ []) (rs ++ r ∷ [])
+insert_at_end ss rs t r are is new own = record { apart = apart; each = each; covered = λ x m. covered x (Among-append x rs (r ∷ []) m) }
+  where
+    clash : (s : Subtable) (i : ℕ) → slice_get ss i ≡ Some s → same (bits s.mask) (bits t.mask) ≡ true → ⊥
+    clash s i at h = false≢true (sym (new i s at) ∙ ap (same (bits s.mask)) (sym is) ∙ h)
+
+    apart : AreApart (ss ++ t ∷ [])
+    apart j k u v ju kv alike = cases (at_end_of ss t j u ju) (at_end_of ss t k v kv)
+      where
+        cases : (slice_get ss j ≡ Some u) ⊎ ((j ≡ length ss) × (t ≡ u)) → (slice_get ss k ≡ Some v) ⊎ ((k ≡ length ss) × (t ≡ v)) → j ≡ k
+        cases (inl a) (inl b) = are.apart j k u v a b alike
+        cases (inl a) (inr b) = absurd (clash u j a (ap (λ (x : Subtable). same (bits u.mask) (bits x.mask)) b.1 ∙ alike))
+        cases (inr a) (inl b) = absurd (clash v k b (turned (bits t.mask) (bits v.mask) true (ap (λ (x : Subtable). same (bits x.mask) (bits v.mask)) a.1 ∙ alike)))
+        cases (inr a) (inr b) = a.0 ∙ sym b.0
+
+    none_yet : of_mask r.matching.mask rs ≡ []
+    none_yet = filter_none (λ (x : Rule). same x.matching.mask r.matching.mask) rs (λ x m.
+        let h = are.covered x m in
+        untrue (same x.matching.mask r.matching.mask) (λ (q : same x.matching.mask r.matching.mask ≡ true).
+        false≢true (sym (new h.0 h.1 h.2) ∙ turned r.matching.mask (bits h.1.mask) true (ap (λ (k : List ℕ). same k (bits h.1.mask)) (sym (equal_from_same x.matching.mask r.matching.mask q)) ∙ h.3))))
+
+    each : (j : ℕ) (u : Subtable) → slice_get (ss ++ t ∷ []) j ≡ Some u → IsSubtableOf u (of_mask (bits u.mask) (rs ++ r ∷ []))
+    each j u at = by (at_end_of ss t j u at)
+      where
+        by : (slice_get ss j ≡ Some u) ⊎ ((j ≡ length ss) × (t ≡ u)) → IsSubtableOf u (of_mask (bits u.mask) (rs ++ r ∷ []))
+        by (inl a) = subst (IsSubtableOf u) (sym (part_same (bits u.mask) rs r (turned (bits u.mask) r.matching.mask false (new j u a)))) (are.each j u a)
+        by (inr a) =
+            subst (λ (x : Subtable). IsSubtableOf x (of_mask (bits x.mask) (rs ++ r ∷ []))) a.1
+            (subst (λ (k : List ℕ). IsSubtableOf t (of_mask k (rs ++ r ∷ []))) (sym is)
+            (subst (IsSubtableOf t) (sym (part_more r.matching.mask rs r (same_from_equal r.matching.mask r.matching.mask refl) ∙ ap (λ (ys : List Rule). ys ++ r ∷ []) none_yet)) own))
+
+    covered : (x : Rule) → Among x rs ⊎ Among x (r ∷ []) → HasMask (ss ++ t ∷ []) x.matching.mask
+    covered x (inl m) = let h = are.covered x m in (h.0, h.1, before_end ss t h.0 h.1 h.2, h.3)
+    covered x (inr (inl q)) = (length ss, t, end_at ss t, same_from_equal x.matching.mask (bits t.mask) (ap (λ (y : Rule). y.matching.mask) q ∙ sym is))
+    covered x (inr (inr h)) = absurd h
+
+-- ---- a mask without rules
+
+pub drop_mask : (ss : List Subtable) (rs : List Rule) (p : ℕ) (s : Subtable) → AreSubtablesOf ss rs → slice_get ss p ≡ Some s → of_mask (bits s.mask) rs ≡ [] → AreSubtablesOf (remove ss p) rs
+drop_mask ss rs p s are is none = record {
+  apart = λ j k u v ju kv alike. moved_apart p j k (are.apart (moved p j) (moved p k) u v (at_removed ss p j u ju) (at_removed ss p k v kv) alike);
+  each = λ j u at. are.each (moved p j) u (at_removed ss p j u at);
+  covered = λ r m. covers r m (are.covered r m);
+}
+  where
+    covers : (r : Rule) → Among r rs → HasMask ss r.matching.mask → HasMask (remove ss p) r.matching.mask
+    covers r m h = by (cases_eq h.0 p)
+      where
+        by : (h.0 ≡ p) ⊎ (h.0 ≡ p → ⊥) → HasMask (remove ss p) r.matching.mask
+        by (inl q) =
+            let is_s : h.1 ≡ s = same_Some h.1 s (sym h.2 ∙ ap (slice_get ss) q ∙ is) in
+            let there : Among r (of_mask (bits s.mask) rs) = Among_in-filter (λ (x : Rule). same x.matching.mask (bits s.mask)) r rs m (ap (λ (x : Subtable). same r.matching.mask (bits x.mask)) (sym is_s) ∙ h.3) in
+            absurd (subst (λ (ys : List Rule). Among r ys) none there)
+        by (inr q) = let a = removed_at ss p h.0 h.1 q h.2 in (a.0, h.1, a.1, h.3)
+
+-- ---- a rule by its match and priority
+
+abbrev pub is_at : ℕ → tables.Match → Rule → Bool
+is_at priority m r = (r.priority == priority) && is_same_match r.matching m
+
+both_ways : (a b c d : Bool) → b ≡ d → (a && (b && c)) ≡ (c && (d && a))
+both_ways a b c d e = ap (λ (t : Bool). a && (t && c)) e ∙ at a d c
+  where
+    at : (a d c : Bool) → (a && (d && c)) ≡ (c && (d && a))
+    at true true true = refl
+    at true true false = refl
+    at true false true = refl
+    at true false false = refl
+    at false true true = refl
+    at false true false = refl
+    at false false true = refl
+    at false false false = refl
+
+pub find_in_part : (mask : List ℕ) (m : tables.Match) (priority : ℕ) (rs : List Rule) → mask ≡ m.mask
+    → find (λ (r : Rule). same m.key r.matching.key && (r.priority == priority)) (of_mask mask rs) ≡ find (is_at priority m) rs
+find_in_part mask m priority rs is =
+    find_filter (λ (r : Rule). same m.key r.matching.key && (r.priority == priority)) (λ (r : Rule). same r.matching.mask mask) rs
+    ∙ find_alike (λ (r : Rule). same r.matching.mask mask && (same m.key r.matching.key && (r.priority == priority))) (is_at priority m) rs
+    (λ r. ap (λ (k : List ℕ). same r.matching.mask k && (same m.key r.matching.key && (r.priority == priority))) is
+    ∙ both_ways (same r.matching.mask m.mask) (same m.key r.matching.key) (r.priority == priority) (same r.matching.key m.key) (sym (turned m.key r.matching.key (same m.key r.matching.key) refl)))
+
+pub find_nowhere : (ss : List Subtable) (m : tables.Match) (priority : ℕ) (rs : List Rule) → AreSubtablesOf ss rs
+    → ((j : ℕ) (s : Subtable) → slice_get ss j ≡ Some s → same (bits s.mask) m.mask ≡ false) → find (is_at priority m) rs ≡ None
+find_nowhere ss m priority rs are new = find_none (is_at priority m) rs (λ r a.
+    let h = are.covered r a in
+    let other : same r.matching.mask m.mask ≡ false = ap (λ (k : List ℕ). same k m.mask) (equal_from_same r.matching.mask (bits h.1.mask) h.3) ∙ new h.0 h.1 h.2 in
+    ap (λ (t : Bool). (r.priority == priority) && (same r.matching.key m.key && t)) other ∙ none (r.priority == priority) (same r.matching.key m.key))
+  where
+    none : (a b : Bool) → (a && (b && false)) ≡ false
+    none true true = refl
+    none true false = refl
+    none false b = refl
+
+pub among_part : (mask : List ℕ) (rs : List Rule) (r : Rule) → Among r rs → same r.matching.mask mask ≡ true → Among r (of_mask mask rs)
+among_part mask rs r m is = Among_in-filter (λ (x : Rule). same x.matching.mask mask) r rs m is
+
+-- each rule's mask is somewhere
+pub nowhere_clashes : (ss : List Subtable) (rs : List Rule) (r : Rule) → AreSubtablesOf ss rs → Among r rs
+    → ((j : ℕ) (s : Subtable) → slice_get ss j ≡ Some s → same (bits s.mask) r.matching.mask ≡ false) → ⊥
+nowhere_clashes ss rs r are m new =
+    let h = are.covered r m in
+    false≢true (sym (new h.0 h.1 h.2) ∙ turned r.matching.mask (bits h.1.mask) true h.3)

@@ -1,0 +1,22 @@
+use Rattle.std.proofs.Common.{◌-◌, ◌&&◌, ◌||◌, get_or, length, subst, sym, ap, ◌∙◌}
+use Rattle.std.specs.Prelude.{nat_lt}
+use Rattle.spec_xlate.specs.Lookup.{starts_alike}
+use Rattle.tuple_classifier.proofs.Nearest.{IsPlace, alike_first, alike_both}
+use Rattle.tuple_classifier.proofs.sorted.SortedNumbers.some_starts_alike.Goals as goal
+
+pub returns-then-place-eq0 : goal.returns-then-place-eq0
+returns-then-place-eq0 c =
+    let place : IsPlace c.args.x c.deref.result.now c.first_from-place.result = record { within = c.first_from-place.ensures.within; below = c.first_from-place.ensures.below; from = c.first_from-place.ensures.from } in
+    let is : IsPlace c.args.x c.args.self.now.items.items c.first_from-place.result = subst (λ xs. IsPlace c.args.x xs c.first_from-place.result) c.deref.ensures.value place in
+    alike_first c.args.width c.args.x c.args.self.now.items.items c.first_from-place.result c.requires.fits c.requires.fit c.args.self.now.rising is c.args.n _
+    (c.alike_at-from.ensures ∙ ap (λ xs. nat_lt c.first_from-place.result (length xs) && starts_alike c.args.width c.args.x (get_or xs c.first_from-place.result 0) c.args.n) c.deref-2.ensures.value)
+    c.if-place-eq0.true
+
+pub returns-else-from : goal.returns-else-from
+returns-else-from c =
+    let place : IsPlace c.args.x c.deref.result.now c.first_from-place.result = record { within = c.first_from-place.ensures.within; below = c.first_from-place.ensures.below; from = c.first_from-place.ensures.from } in
+    let is : IsPlace c.args.x c.args.self.now.items.items c.first_from-place.result = subst (λ xs. IsPlace c.args.x xs c.first_from-place.result) c.deref.ensures.value place in
+    sym (ap (λ t. t || c.alike_at.result) c.if-from.false)
+    ∙ alike_both c.args.width c.args.x c.args.self.now.items.items c.first_from-place.result c.requires.fits c.requires.fit c.args.self.now.rising is c.args.n _ _
+    (c.alike_at-from.ensures ∙ ap (λ xs. nat_lt c.first_from-place.result (length xs) && starts_alike c.args.width c.args.x (get_or xs c.first_from-place.result 0) c.args.n) c.deref-2.ensures.value)
+    (c.alike_at.ensures ∙ ap (λ xs. nat_lt (c.first_from-place.result - 1) (length xs) && starts_alike c.args.width c.args.x (get_or xs (c.first_from-place.result - 1) 0) c.args.n) c.deref-else-from.ensures.value)

@@ -1,0 +1,15 @@
+pub mod ByTable
+pub mod Counts
+pub mod FieldPrefixes
+pub mod Indexes
+pub mod Live
+pub mod Numbered
+pub mod Numbers
+pub mod Parts
+pub mod Prefixes
+pub mod Ranks
+pub mod Sound
+pub mod Stages
+pub mod Subtables
+pub mod Tracked
+pub mod Versions

@@ -1,0 +1,50 @@
+-- The live rules, as they are kept.
+use Rattle.std.specs.Prelude.{◌≡◌, ℕ, ◌<◌, ◌≤◌, ◌==◌, true, not, Bool, if◌then◌else◌, List, [], ◌∷◌, map, get_or, unwrap_or}
+use Rattle.spec_actions.specs.declared.action.OfAction.{OfAction}
+use Rattle.spec_tables.specs.Rules.{Rule, is_same_match}
+use Rattle.spec_tables.specs.Edits.{Edit}
+use Rattle.translation_laws.proofs.MemberLaws.{Among}
+use Rattle.rule_tables.specs.Views.{match_view, rule_view}
+use Rattle.rule_tables.specs.Stored.{picks}
+use Rattle.tuple_classifier.specs.declared.live.LiveRule.{LiveRule}
+
+-- a live rule with its actions, which stand at a place among lists of actions
+abbrev pub live_view : List (List OfAction) → LiveRule → Rule
+live_view lists l = rule_view l.rule (get_or lists l.given [])
+
+abbrev pub live_rules : List (List OfAction) → List LiveRule → List Rule
+live_rules lists live = map (live_view lists) live
+
+-- a live rule as far as lookups see it
+abbrev pub plain_rule : LiveRule → Rule
+plain_rule l = record { number = l.rule.number; table = l.rule.table; priority = l.rule.priority; cookie = 0; matching = match_view l.rule.matching; actions = [] }
+
+abbrev pub plain_rules : List LiveRule → List Rule
+plain_rules live = map plain_rule live
+
+-- whether an edit leaves a live rule alone
+abbrev pub is_kept : Edit → LiveRule → Bool
+is_kept e l = not (picks e l.rule)
+
+-- whether a live rule isn't that of a number
+abbrev pub is_unlike : ℕ → LiveRule → Bool
+is_unlike number l = not (l.rule.number == number)
+
+-- a live rule with the cookie of an edit, if that has one, and the actions at a place, if the edit picks it
+abbrev pub given_by : Edit → ℕ → LiveRule → LiveRule
+given_by e given l = if picks e l.rule then (record { rule = record l.rule { cookie = unwrap_or e.cookie l.rule.cookie }; given = given }) else l
+
+-- the numbers of the rules rise
+abbrev pub IsRising : List Rule → Type 0
+IsRising [] = Unit {0}
+IsRising (r ∷ rs) = ((s : Rule) → Among s rs → r.number < s.number) × IsRising rs
+
+-- no two rules have the same table, priority and match
+abbrev pub AreIdentified : List Rule → Type 0
+AreIdentified rs = (r s : Rule) → Among r rs → Among s rs → r.table ≡ s.table → r.priority ≡ s.priority → is_same_match r.matching s.matching ≡ true → r.number ≡ s.number
+
+-- what holds of the rules of a version
+pub record AreOfVersion (rs : List Rule) (version : ℕ) : Type 0 where
+  pub rising : IsRising rs
+  pub numbered : (r : Rule) → Among r rs → r.number ≤ version
+  pub identified : AreIdentified rs

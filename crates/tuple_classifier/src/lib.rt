@@ -1,0 +1,85 @@
+//! The rules of one version of the flow tables, found by their masks.
+//!
+//! # What?
+//!
+//! A translation looks a key up in one table after another, and a plain scan would test every rule of each. Rules of few
+//! masks are usual, however many they are: 10,000 routes of one length have one. So the rules of a table that have the
+//! same mask stand in one *subtable*, by their keys in a hash map, and a lookup probes each mask instead of each rule.
+//! That is *tuple space search*. `Tables` has all tables of one version so.
+//!
+//! A lookup also tells which bits of the key it *consulted*: every key that is the same on them has the same winner by
+//! the same bits, so that an answer can be kept under them. Too few make such an answer false, and too many make it
+//! serve fewer packets. Which bits they are is the definition `consults` of `spec_xlate`, which is exact.
+//!
+//! # What is promised
+//!
+//! Contracts see `Tables` as a `Version`, which is a number and the rules (`specs/Versions`).
+//!
+//! - `new` has no rules, which is version 0.
+//! - `look` answers the number of the rule that wins for a key in a table, as the definition `winner` finds it by a
+//!   scan, and adds to `consulted` the bits that `consults` has for this table and key, no fewer and no more. It takes no
+//!   memory, so it can't fail.
+//! - `actions` are those that a live rule has in this version.
+//! - `apply` makes the next version by an edit of any of the five words, as `after` says from `edited` of `spec_tables`.
+//!   Where it lacks memory all answers stay. A delete takes none.
+//!
+//! `after` leads from a version of a list of edits to the next one, and from the newest version of a history of
+//! `rule_tables` to the newest after that edit (`proofs/VersionLaws`). So two copies of the tables to which the same
+//! edits were applied are seen alike, and answer alike, whichever of them is published.
+//!
+//! # How
+//!
+//! A subtable has the *rank* of each of its rules, which is the priority and the number, by the rule's key. Ranks decide
+//! who wins, so a lookup reads no rule. Only rules of the same match, which differ in their priorities, share a place.
+//!
+//! A mask whose rules can't match by a first part of it consults that part alone. What shows that is kept beside the
+//! ranks:
+//!
+//! - by *stage*: for each part of the mask that a stage reaches, how many rules have each key under it;
+//! - by *prefix*: the values of the four addresses where the mask has a prefix of them, sorted. The neighbours of a value
+//!   in that order tell whether a rule begins so, and else how many leading bits decide that none does;
+//! - the priorities, sorted. A mask whose greatest is less than the winner's is not probed and consults nothing.
+//!
+//! `look` goes over the masks twice, first for the winner and then for the bits, since which masks are consulted depends
+//! on the winner. The order of the masks plays no part.
+//!
+//! The live rules stand beside the subtables in the order of their numbers, and each has the place of its actions among
+//! the lists of actions that edits gave. Looking up which rule an edit names is a probe as well. An add takes all memory
+//! first, puts its rule in, and only then takes out the rule that it replaces, so that a refusal leaves what was there.
+//!
+//! # What it costs
+//!
+//! - The winner takes one hash and one probe for each mask whose greatest priority isn't below the best one found so far,
+//!   however many rules have it.
+//! - The bits take three probes and up to four tests of prefixes for each mask whose greatest priority isn't below the
+//!   winner's. A test of a prefix searches the sorted values of each mask that has a prefix of that field, so the time
+//!   grows by the square of the masks.
+//! - An add or a strict delete takes a few probes, and moves what stands after its place in the sorted lists and among the
+//!   live rules.
+//! - A loose word and a strict modify pass once over the live rules.
+//! - The actions of an edit stay until the tables are dropped, even where no live rule has them any more.
+//!
+//! # What is left to others
+//!
+//! It follows no resubmit and keeps no answers. It doesn't publish versions, and an older version is asked of
+//! `rule_tables`.
+#![tactic(auto)]
+
+mod buckets;
+mod by_table;
+mod counts;
+mod indexes;
+mod live;
+mod lookup;
+mod prefix;
+mod prefixes;
+mod rank;
+mod sorted;
+mod stage;
+mod subtable;
+mod table;
+mod tables;
+mod tracked;
+
+pub use rule_tables::{Edit, EditWord, OfAction};
+pub use tables::Tables;

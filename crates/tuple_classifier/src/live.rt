@@ -1,0 +1,168 @@
+ghost use Rattle.std.specs.Prelude.{◌≡◌, ◌<◌, ◌≤◌, ◌+◌, ◌++◌, ◌∷◌, [], List, OnOk, OnErr, vec_len, vec_capacity, filter, map, length, slice_get, Some, IfSome, IsNone};
+ghost use Rattle.std.specs.List.Sorted.{IsNonDecreasingBy};
+ghost use Rattle.translation_laws.proofs.MemberLaws.{Among};
+ghost use Rattle.std.specs.Option.{option_map_or};
+ghost use Rattle.spec_tables.specs.Rules as seen;
+ghost use Rattle.tuple_classifier.specs.ByTable.{AreClassified, CountMoreRules};
+ghost use Rattle.tuple_classifier.specs.Live.{plain_rule, plain_rules, given_by, is_kept, is_unlike, IsRising};
+ghost use Rattle.tuple_classifier.specs.declared.live.LiveRule.{LiveRule};
+
+use crate::by_table::{Table, insert_in, take_from};
+use crate::rank::Rank;
+use rule_tables::{Edit, Rule};
+use std::alloc::{AllocError, Global};
+
+/// A live rule, and where its actions are among the lists of actions.
+#[derive(Clone, Copy, Debug)]
+pub(crate) struct LiveRule {
+    pub(crate) rule: Rule,
+    pub(crate) given: u32,
+}
+
+impl LiveRule {
+    ghost use Rattle.tuple_classifier.specs.Live.{given_by, plain_rule};
+    ghost use Rattle.tuple_classifier.specs.Ranks.{rank_of};
+    ghost use Rattle.std.specs.Prelude.{List};
+    ghost use Rattle.spec_actions.specs.declared.action.OfAction.{OfAction};
+    ghost use Rattle.spec_tables.specs.Edits.{rule_of};
+    ghost use Rattle.rule_tables.specs.Views.{rule_view};
+
+    /// The rule that an edit adds, with its actions at a place.
+    pub(crate) fn new(number: u32, edit: &Edit, given: u32) -> LiveRule
+        ensures rule { (actions : List OfAction) → rule_view result.rule actions ≡ record (rule_of number edit.now) { actions = actions } }
+        ensures given { result.given ≡ given }
+    {
+        LiveRule {
+            rule: Rule {
+                number,
+                table: edit.table.unwrap_or(0),
+                priority: edit.priority,
+                cookie: edit.cookie.unwrap_or(0),
+                matching: edit.matching,
+            },
+            given,
+        }
+    }
+
+    /// What decides between the rule and others that match.
+    pub(crate) fn rank(&self) -> Rank
+        ensures { result ≡ rank_of (plain_rule self.now) }
+    {
+        Rank {
+            priority: self.rule.priority,
+            number: self.rule.number,
+        }
+    }
+
+    /// Gives the rule the cookie of an edit, if that has one, and the actions at a place, if the edit picks it.
+    fn give(&mut self, edit: &Edit, given: u32)
+        ensures { self.new ≡ given_by edit.now given self.old }
+    {
+        if edit.picks(&self.rule) {
+            self.rule.cookie = edit.cookie.unwrap_or(self.rule.cookie);
+            self.given = given;
+        }
+    }
+}
+
+/// The place of the live rule of a number, which rise along the rules.
+pub(crate) fn place_of(live: &[LiveRule], number: u32) -> Option<usize>
+    requires { IsNonDecreasingBy (λ l. l.rule.number) live.now }
+    ensures some { IfSome result (λ i. (i < length live.now) × ((l : LiveRule) → slice_get live.now i ≡ Some l → l.rule.number ≡ number)) }
+    ensures none { IsNone result → (l : LiveRule) → Among l live.now → l.rule.number ≡ number → ⊥ }
+{
+    let place = live.partition_point(|l| l.rule.number < number);
+    if place >= live.len() {
+        return None;
+    }
+    if live[place].rule.number == number {
+        Some(place)
+    } else {
+        None
+    }
+}
+
+/// Gives the rules that an edit picks its cookie, if it has one, and the actions at a place.
+pub(crate) fn give_all(live: &mut [LiveRule], edit: &Edit, given: u32)
+    ensures { live.new ≡ map (given_by edit.now given) live.old }
+{
+    'live: for l in live.iter_mut() {
+        l.give(edit, given);
+    }
+}
+
+/// Takes the rules that an edit picks out of the subtables.
+pub(crate) fn take_picked(tables: &mut Vec<Table>, live: &[LiveRule], edit: &Edit)
+    requires rising { IsRising (plain_rules live.now) }
+    requires classified { AreClassified tables.old.items (plain_rules live.now) }
+    ensures { AreClassified tables.new.items (plain_rules (filter (is_kept edit.now) live.now)) }
+{
+    'live: for i in 0..live.len() {
+        let l = &live[i];
+        if edit.picks(&l.rule) {
+            take_from(tables, l.rule.table, &l.rule.matching, l.rank());
+        }
+    }
+}
+
+/// Takes the live rule of a number out, and out of the subtables.
+pub(crate) fn take_numbered(tables: &mut Vec<Table>, live: &mut Vec<LiveRule>, number: u32)
+    requires rising { IsRising (plain_rules live.old.items) }
+    requires classified { AreClassified tables.old.items (plain_rules live.old.items) }
+    ensures live { live.new.items ≡ filter (is_unlike number) live.old.items }
+    ensures classified { AreClassified tables.new.items (plain_rules live.new.items) }
+{
+    if let Some(place) = place_of(live, number) {
+        let l = live[place];
+        take_from(tables, l.rule.table, &l.rule.matching, l.rank());
+        live.remove(place);
+    }
+}
+
+/// Takes the live rule of a number out, if one is given, and out of the subtables.
+pub(crate) fn take_replaced(
+    tables: &mut Vec<Table>,
+    live: &mut Vec<LiveRule>,
+    replaced: Option<u32>,
+)
+    requires rising { IsRising (plain_rules live.old.items) }
+    requires classified { AreClassified tables.old.items (plain_rules live.old.items) }
+    ensures live { live.new.items ≡ option_map_or (λ n. filter (is_unlike n) live.old.items) replaced live.old.items }
+    ensures classified { AreClassified tables.new.items (plain_rules live.new.items) }
+{
+    if let Some(number) = replaced {
+        take_numbered(tables, live, number);
+    }
+}
+
+/// Adds a live rule to the subtables. The only error is out of memory, and then they have the same rules.
+pub(crate) fn insert_live(
+    alloc: Global,
+    tables: &mut Vec<Table>,
+    l: &LiveRule,
+) -> Result<(), AllocError>
+    requires { CountMoreRules tables.old.items }
+    ensures ok { OnOk result ((rules : List seen.Rule) → AreClassified tables.old.items rules → AreClassified tables.new.items (rules ++ plain_rule l.now ∷ [])) }
+    ensures err { OnErr result ((rules : List seen.Rule) → AreClassified tables.old.items rules → AreClassified tables.new.items rules) }
+{
+    insert_in(alloc, tables, l.rule.table, &l.rule.matching, l.rank())
+}
+
+/// Adds a live rule, for which there is room.
+pub(crate) fn push_rule(live: &mut Vec<LiveRule>, l: LiveRule)
+    requires { vec_len live.old + 1 ≤ vec_capacity live.old }
+    ensures { live.new.items ≡ live.old.items ++ l ∷ [] }
+{
+    let Ok(()) = live.push(l) else { unreachable!() };
+}
+
+/// Takes the rules out that an edit picks.
+pub(crate) fn keep_others(live: &mut Vec<LiveRule>, edit: &Edit)
+    ensures { live.new.items ≡ filter (is_kept edit.now) live.old.items }
+{
+    live.retain(
+        |l: &LiveRule| -> bool
+            ensures { result ≡ is_kept edit.entry.now l.now }
+        { !edit.picks(&l.rule) },
+    );
+}
