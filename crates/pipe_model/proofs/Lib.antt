@@ -1,7 +1,7 @@
 mod Acting
 mod Emitting
 mod InOrder
-mod Looking
+pub mod Looking
 mod Moving
 pub mod Versions
-mod Winners
+pub mod Winners

@@ -1,41 +1,41 @@
 -- One action of a list, and one lookup.
-use Rattle.std.proofs.Common.{◌≡◌, ◌⊎◌, inl, inr, ℕ, zero, suc, ◌+◌, ◌-◌, ◌<◌, ◌≤◌, List, [], ◌∷◌, ◌++◌, length, get_or, drop, Option, Some, None, refl, sym, ap, ap₂, ◌∙◌, arith}
+use Rattle.std.proofs.Common.{◌≡◌, ◌⊎◌, inl, inr, ℕ, zero, suc, true, ◌+◌, ◌-◌, ◌<◌, ◌≤◌, List, length, get_or, drop, Option, Some, None, refl, sym, ap, ap₂, ◌∙◌, arith}
 use Rattle.std.proofs.lemmas.List.{drop_more, drop_all}
 use Rattle.spec_actions.specs.declared.action.OfAction.{OfAction}
 use Rattle.spec_actions.specs.declared.action.OfAction.TheVariants.{Output, OutputField, InPort, All, Flood, Resubmit, Goto, Set, Move, DecTtl, PushVlan, PopVlan, SetVid, SetPcp}
 use Rattle.spec_tables.specs.Rules.{Rule, winner}
-use Rattle.spec_xlate.specs.Translation.{Switch, State, Mode, stopped, act, run, while_going, in_mode, resumed, follow, with_lookups_left, enter, look}
+use Rattle.spec_xlate.specs.Translation.{Switch, State, Mode, stopped, output, act, run, while_going, in_mode, resumed, follow, with_lookups_left, enter, look}
 use Rattle.spec_xlate.specs.Translation.Mode.{Going, ListEnded, Stopped}
-use Rattle.pipe_model.specs.declared.mode.Mode as modes
-use Rattle.pipe_model.specs.declared.mode.Mode.TheVariants as code
-use Rattle.pipe_model.specs.Modes.{mode_of}
+use Rattle.pipe_model.specs.States.{is_going, visiting, stepped}
 
 -- an action that leads to no lookup does the same whatever lookups do
-pub act-other : (sw : Switch) (sub other : ℕ → State → State) (a : OfAction) (s : State)
-    → ((table : ℕ) → a ≡ Resubmit table → ⊥) → ((table : ℕ) → a ≡ Goto table → ⊥) → act sw other a s ≡ act sw sub a s
-unfolding act
-act-other sw sub other (Output n) s not_resubmit not_goto = refl
-act-other sw sub other (OutputField slice) s not_resubmit not_goto = refl
-act-other sw sub other InPort s not_resubmit not_goto = refl
-act-other sw sub other All s not_resubmit not_goto = refl
-act-other sw sub other Flood s not_resubmit not_goto = refl
-act-other sw sub other (Resubmit table) s not_resubmit not_goto = absurd (not_resubmit table refl)
-act-other sw sub other (Goto table) s not_resubmit not_goto = absurd (not_goto table refl)
-act-other sw sub other (Set name value mask) s not_resubmit not_goto = refl
-act-other sw sub other (Move source target) s not_resubmit not_goto = refl
-act-other sw sub other DecTtl s not_resubmit not_goto = refl
-act-other sw sub other PushVlan s not_resubmit not_goto = refl
-act-other sw sub other PopVlan s not_resubmit not_goto = refl
-act-other sw sub other (SetVid vid) s not_resubmit not_goto = refl
-act-other sw sub other (SetPcp pcp) s not_resubmit not_goto = refl
+pub stepped-act : (sw : Switch) (sub : ℕ → State → State) (a : OfAction) (s : State)
+    → ((table : ℕ) → a ≡ Resubmit table → ⊥) → ((table : ℕ) → a ≡ Goto table → ⊥) → stepped sw.ports a s ≡ act sw sub a s
+unfolding act output
+stepped-act sw sub (Output n) s not_resubmit not_goto = refl
+stepped-act sw sub (OutputField slice) s not_resubmit not_goto = refl
+stepped-act sw sub InPort s not_resubmit not_goto = refl
+stepped-act sw sub All s not_resubmit not_goto = refl
+stepped-act sw sub Flood s not_resubmit not_goto = refl
+stepped-act sw sub (Resubmit table) s not_resubmit not_goto = absurd (not_resubmit table refl)
+stepped-act sw sub (Goto table) s not_resubmit not_goto = absurd (not_goto table refl)
+stepped-act sw sub (Set name value mask) s not_resubmit not_goto = refl
+stepped-act sw sub (Move source target) s not_resubmit not_goto = refl
+stepped-act sw sub DecTtl s not_resubmit not_goto = refl
+stepped-act sw sub PushVlan s not_resubmit not_goto = refl
+stepped-act sw sub PopVlan s not_resubmit not_goto = refl
+stepped-act sw sub (SetVid vid) s not_resubmit not_goto = refl
+stepped-act sw sub (SetPcp pcp) s not_resubmit not_goto = refl
 
 -- ---- lists of actions
 
--- a translation that goes on by the definition goes on in the code
-pub going_from : (m : modes.Mode) → mode_of m ≡ Going → m ≡ code.Going
-going_from code.Going e = refl
-going_from code.ListEnded e = absurd (cc e)
-going_from code.Stopped e = absurd (cc e)
+pub going_from-test : (m : Mode) → is_going m ≡ true → m ≡ Going
+going_from-test Going e = refl
+going_from-test ListEnded e = absurd (cc e)
+going_from-test Stopped e = absurd (cc e)
+
+pub test_from-going : (m : Mode) → m ≡ Going → is_going m ≡ true
+test_from-going m e = ap is_going e
 
 module _ (sw : Switch) (sub : ℕ → State → State) (actions : List OfAction) (i : ℕ) where
   pub run-end : (s : State) → length actions ≤ i → run sw sub (drop i actions) s ≡ s
@@ -88,13 +88,12 @@ pub look-nothing : (sw : Switch) (depths table : ℕ) (s : State) → 0 < depths
     → with_lookups_left (s.lookups_left - 1) s ≡ look sw depths table s
 look-nothing sw depths table s deep left wins = sym (look-one sw depths table s None deep left wins)
 
--- a rule was found, and its actions were run
-pub look-found : (sw : Switch) (depths table : ℕ) (s : State) (r : Rule) (number : ℕ) (actions : List OfAction) (visits : List ℕ) (t : State) → 0 < depths → 0 < s.lookups_left
-    → winner (sw.tables table) s.current ≡ Some r → r.number ≡ number → r.actions ≡ actions → visits ≡ s.visits ++ number ∷ []
-    → t ≡ run sw (look sw (depths - 1)) actions (record s { visits = visits; lookups_left = s.lookups_left - 1 })
-    → resumed t ≡ look sw depths table s
-look-found sw depths table s r number actions visits t deep left wins its_number its_actions grown ran =
+-- a rule was found and visited, and its actions were run
+pub look-found : (sw : Switch) (depths table : ℕ) (s : State) (r : Rule) (number : ℕ) (actions : List OfAction) (u t : State) → 0 < depths → 0 < s.lookups_left
+    → winner (sw.tables table) s.current ≡ Some r → r.number ≡ number → r.actions ≡ actions → u ≡ visiting number (with_lookups_left (s.lookups_left - 1) s)
+    → t ≡ run sw (look sw (depths - 1)) actions u → resumed t ≡ look sw depths table s
+look-found sw depths table s r number actions u t deep left wins its_number its_actions seen ran =
     ap resumed (ran
-    ∙ ap₂ (λ (xs : List OfAction) (vs : List ℕ). run sw (look sw (depths - 1)) xs (record s { visits = vs; lookups_left = s.lookups_left - 1 })) (sym its_actions)
-    (grown ∙ ap (λ (n : ℕ). s.visits ++ n ∷ []) (sym its_number)))
+    ∙ ap₂ (λ (xs : List OfAction) (v : State). run sw (look sw (depths - 1)) xs v) (sym its_actions)
+    (seen ∙ ap (λ (n : ℕ). visiting n (with_lookups_left (s.lookups_left - 1) s)) (sym its_number)))
     ∙ sym (look-one sw depths table s (Some r) deep left wins)

@@ -1,16 +1,14 @@
 ghost use Rattle.std.specs.Prelude.{◌≡◌, ◌≤◌, IfOk};
-ghost use Rattle.spec_xlate.specs.Translation.{switch_of, pipe, translation_of};
+ghost use Rattle.spec_xlate.specs.Translation.{switch_of, pipe};
 ghost use Rattle.ovs_fields.specs.Packed.{numbers};
 ghost use Rattle.rule_tables.specs.History.{newest, rules_of};
 ghost use Rattle.pipe_model.specs.Runnable.{AreRunnable};
 ghost use Rattle.pipe_model.specs.Plains.{translation_in};
-ghost use Rattle.pipe_model.specs.States.{state_of};
 
-use crate::lists::{Plain, Visits};
+use crate::lists::Plain;
 use crate::lookups::look;
-use crate::mode::Mode;
-use crate::state::{DEEPEST, State};
 use crate::switch::Switch;
+use crate::translating::{DEEPEST, Translating};
 use ovs_fields::Key;
 use rule_tables::VersionedRules;
 use std::alloc::{AllocError, Global};
@@ -37,22 +35,7 @@ pub fn plain(
         version,
         ports,
     };
-    let mut state = State::start(alloc, key);
+    let mut state = Translating::start(alloc, key);
     look(&mut state, &sw, 0, DEEPEST + 1)?;
-    Ok(outcome(state))
-}
-
-/// What a translation came to.
-fn outcome(state: State) -> Plain
-    ensures { translation_in result ≡ translation_of (state_of state) }
-{
-    let mode = state.mode;
-    let (mut actions, visits) = state.into_parts();
-    if let Mode::Stopped = mode {
-        actions.truncate(0);
-    }
-    Plain {
-        actions,
-        visits: Visits::new(visits),
-    }
+    Ok(state.finish())
 }

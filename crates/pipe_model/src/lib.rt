@@ -18,11 +18,14 @@
 //! number. Rules that edits made have distinct numbers, and sound actions where those of the edits are sound
 //! (`proofs/Versions`).
 //!
+//! `Translating` is a translation under way, for whoever translates by other lookups than a scan: each step of it does what
+//! the definition of that step does to the definition's `State`.
+//!
 //! # How
 //!
-//! A `State` is a translation under way, and each action is one of its methods; only lookups call each other (`lookups`).
-//! An output appends at once what turns the frame's key into the current one, and the outputs; what is beyond the limit is
-//! cut off again, and the translation is over.
+//! Each action is a method of `Translating`; only lookups call each other (`lookups`). An output appends at once what turns
+//! the frame's key into the current one, and the outputs; what is beyond the limit is cut off again, and the translation is
+//! over.
 //!
 //! # What is left to others
 //!
@@ -35,9 +38,10 @@ mod lists;
 mod lookups;
 mod mode;
 mod outputs;
-mod rising;
-mod state;
+mod ports;
 mod switch;
+mod translating;
 
 pub use interpreter::plain;
 pub use lists::{Plain, Visits};
+pub use translating::{DEEPEST, Translating};

@@ -5,15 +5,19 @@ ghost use Rattle.spec_xlate.specs.Translation.{act, run, look};
 ghost use Rattle.pipe_model.specs.States.{state_of};
 ghost use Rattle.pipe_model.specs.Switches.{switch_in, CanRun};
 
-use crate::mode::Mode;
-use crate::state::State;
 use crate::switch::{Switch, find_winner};
+use crate::translating::Translating;
 use rule_tables::OfAction;
 use std::alloc::AllocError;
 
 /// What one action does. So many depths are left for the lookup that it may lead to.
 #[cycle(look)]
-fn act(state: &mut State, sw: &Switch, action: OfAction, depths: u32) -> Result<(), AllocError>
+fn act(
+    state: &mut Translating,
+    sw: &Switch,
+    action: OfAction,
+    depths: u32,
+) -> Result<(), AllocError>
     requires can_run { CanRun sw.now }
     requires sound { IsTrue (is_sound action) }
     ensures { OnOk result (state_of state.new ≡ act (switch_in sw.now) (look (switch_in sw.now) depths) action (state_of state.old)) }
@@ -21,22 +25,26 @@ fn act(state: &mut State, sw: &Switch, action: OfAction, depths: u32) -> Result<
     match action {
         OfAction::Resubmit(table) => look(state, sw, table, depths),
         OfAction::Goto(table) => look(state, sw, table, depths),
-        _ => state.step(sw, action),
+        _ => state.step(sw.ports, action),
     }
 }
 
 /// What a list of actions does, as far as it goes.
 #[cycle(look)]
-fn run(state: &mut State, sw: &Switch, actions: &[OfAction], depths: u32) -> Result<(), AllocError>
+fn run(
+    state: &mut Translating,
+    sw: &Switch,
+    actions: &[OfAction],
+    depths: u32,
+) -> Result<(), AllocError>
     requires can_run { CanRun sw.now }
     requires sound { AreSound actions.now }
     ensures { OnOk result (state_of state.new ≡ run (switch_in sw.now) (look (switch_in sw.now) depths) actions.now (state_of state.old)) }
 {
     'actions: for action in actions {
         act(state, sw, *action, depths)?;
-        match state.mode {
-            Mode::Going => {}
-            _ => return Ok(()),
+        if !state.is_going() {
+            return Ok(());
         }
     }
     Ok(())
@@ -44,17 +52,22 @@ fn run(state: &mut State, sw: &Switch, actions: &[OfAction], depths: u32) -> Res
 
 /// A lookup in a table, and all that it leads to. So many depths are left, its own among them.
 #[cycle(look)]
-pub(crate) fn look(state: &mut State, sw: &Switch, table: u8, depths: u32) -> Result<(), AllocError>
+pub(crate) fn look(
+    state: &mut Translating,
+    sw: &Switch,
+    table: u8,
+    depths: u32,
+) -> Result<(), AllocError>
     requires can_run { CanRun sw.now }
     ensures { OnOk result (state_of state.new ≡ look (switch_in sw.now) depths table (state_of state.old)) }
 {
-    if depths == 0 || state.lookups_left == 0 {
+    if depths == 0 || state.lookups_left() == 0 {
         state.stop();
         return Ok(());
     }
-    state.lookups_left -= 1;
-    if let Some(found) = find_winner(sw, table, &state.current) {
-        state.visits.push(found.number)?;
+    state.take_lookup();
+    if let Some(found) = find_winner(sw, table, state.current()) {
+        state.visit(found.number)?;
         run(state, sw, found.actions, depths - 1)?;
         state.resume();
     }

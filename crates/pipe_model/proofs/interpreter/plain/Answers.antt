@@ -6,5 +6,5 @@ use Rattle.pipe_model.proofs.interpreter.plain.Goals as goal
 pub returns : goal.returns
 unfolding pipe last_state
 returns c =
-    c.outcome.ensures
+    c.finish.ensures
     ∙ ap translation_of (c.in_ok-look.ensures ∙ ap (look (switch_of (rules_of c.args.rules.now c.args.version) c.args.ports.now) 65 0) c.start-state.ensures)

@@ -1,0 +1,5 @@
+mod Needing
+mod PacketPart
+mod Placed
+mod RunBits
+mod Soundness
