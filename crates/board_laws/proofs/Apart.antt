@@ -19,11 +19,12 @@ use Rattle.board_laws.proofs.Origins.{IsNew, Was, was, origin, installs}
 
 pub record AreEntriesApart (s : State) : Type 0 where
   pub rising : Rising (numbers_of s.entries)
+  pub from_one : (e : Entry) → Among e s.entries → 1 ≤ e.number
   pub made : (e : Entry) → Among e s.entries → e.number ≤ s.made
   pub disjoint : (e f : Entry) → Among e s.entries → Among f s.entries → (e.number ≡ f.number → ⊥) → overlap e.key e.mask f.key f.mask ≡ false
 
 pub apart_opened : (run : Run) (port : ℕ) → AreEntriesApart (opened run port)
-apart_opened run port = record { rising = tt; made = λ e m. absurd m; disjoint = λ e f m. absurd m }
+apart_opened run port = record { rising = tt; from_one = λ e m. absurd m; made = λ e m. absurd m; disjoint = λ e f m. absurd m }
 
 module _ (run : Run) (port limit : ℕ) (s : State) (k : AreEntriesApart s) where
   pub made_le : (step : Step) → Legal run port limit s step → s.made ≤ (effect run port s step).made
@@ -73,6 +74,10 @@ module _ (run : Run) (port limit : ℕ) (s : State) (k : AreEntriesApart s) wher
   rising_keeps (Put n v Replaced) legal = renewed_rising n v _
   rising_keeps End legal = k.rising
 
+  from_one_keeps : (t : State) (e : Entry) → ((d : Entry) × Was s e d) ⊎ IsNew run port s t e → 1 ≤ e.number
+  from_one_keeps t e (inl (d, h)) = omega (arith, h.number, k.from_one d h.before)
+  from_one_keeps t e (inr h) = omega (arith, h.number)
+
   made_keeps : (t : State) → s.made ≤ t.made → (e : Entry) → ((d : Entry) × Was s e d) ⊎ IsNew run port s t e → e.number ≤ t.made
   made_keeps t l e (inl (d, h)) = omega (arith, l, h.number, k.made d h.before)
   made_keeps t l e (inr h) = omega (arith, h.number, h.made)
@@ -88,6 +93,7 @@ module _ (run : Run) (port limit : ℕ) (s : State) (k : AreEntriesApart s) wher
   pub apart_keeps : (step : Step) → Legal run port limit s step → AreEntriesApart (effect run port s step)
   apart_keeps step legal = record {
     rising = rising_keeps step legal;
+    from_one = λ e m. from_one_keeps _ e (from e m);
     made = λ e m. made_keeps _ (made_le step legal) e (from e m);
     disjoint = λ e f me mf. disjoint_keeps _ e f me mf (from e me) (from f mf);
   }

@@ -15,7 +15,7 @@ use Rattle.spec_board.specs.Effects.{effect, credited, new_entry, key_of_entry}
 use Rattle.spec_board.specs.Journals.{Legal, IsLegal, opened, after}
 use Rattle.spec_board.specs.Decisions.{Decision, decided_place, decision_at, decisions_from, decisions, visits_of, due_packets, due_bytes}
 use Rattle.board_laws.specs.Entries.{HasKeys}
-use Rattle.board_laws.specs.Counts.{times_visited, owed_packets, owed_bytes}
+use Rattle.spec_board.specs.Counts.{times_visited, owed_packets, owed_bytes}
 use Rattle.board_laws.proofs.Refusals.{may_look}
 use Rattle.board_laws.proofs.Journals.{after_all}
 use Rattle.board_laws.proofs.Changes.{hit, left_by, renewed_by, paid_totals}

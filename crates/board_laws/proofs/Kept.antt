@@ -11,14 +11,14 @@ use Rattle.spec_board.specs.Effects.{effect}
 use Rattle.spec_board.specs.Journals.{Legal, IsLegal, opened, after}
 use Rattle.translation_laws.proofs.MemberLaws.{Among}
 use Rattle.key_laws.proofs.KeyLaws.{key_of-IsClean, key_of-IsKey}
-use Rattle.board_laws.specs.Entries.{AreOfBytes, HasKeys}
+use Rattle.board_laws.specs.Entries.{AreOfBytes, HasKeys, IsMade}
 use Rattle.board_laws.specs.Places.{ArePlaces}
 use Rattle.board_laws.proofs.PlaceLaws.{pending_from}
 use Rattle.board_laws.proofs.Journals.{kept_along, next_le}
 use Rattle.board_laws.proofs.Origins.{origin}
 use Rattle.board_laws.proofs.Apart.{AreEntriesApart, apart_opened, apart_keeps}
 use Rattle.board_laws.proofs.Places.{places_opened, places_keep}
-use Rattle.board_laws.proofs.Right.{IsMade, made_by}
+use Rattle.board_laws.proofs.Right.{made_by}
 use Rattle.board_laws.proofs.Hits.{IsSlot}
 use Rattle.board_laws.proofs.Slots.{slots_keep}
 use Rattle.board_laws.proofs.Few.{few_keep}

@@ -5,6 +5,7 @@ pub mod Refusals
 pub mod PlaceLaws
 pub mod BlockFacts
 pub mod Bounded
+pub mod Added
 pub mod Journals
 pub mod Changes
 pub mod Origins

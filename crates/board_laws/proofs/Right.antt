@@ -1,24 +1,16 @@
 -- Entries are right: what every step keeps.
 use Rattle.std.proofs.Common.{◌≡◌, ℕ, true, List, inl, inr, sym, ap, ◌∙◌, subst}
-use Rattle.spec_keys.specs.Keys.{agree, covers, IsKey, IsClean}
+use Rattle.spec_keys.specs.Keys.{agree, IsKey, IsClean}
 use Rattle.spec_xlate.specs.Translation.{Translation}
 use Rattle.spec_case.specs.Run.{Run}
 use Rattle.spec_board.specs.State.{Entry, State, place_at, is_pending}
-use Rattle.spec_board.specs.Results.{key_at, switch_at, translated, mask_for}
+use Rattle.spec_board.specs.Results.{key_at, switch_at, translated}
 use Rattle.translation_laws.proofs.MemberLaws.{Among}
 use Rattle.translation_laws.proofs.UnionLaws.{agree-covers}
 use Rattle.translation_laws.proofs.SoundLaws.{consulted-sound}
-use Rattle.board_laws.specs.Entries.{IsRight}
+use Rattle.board_laws.specs.Entries.{IsMade, IsRight}
 use Rattle.board_laws.proofs.KeyFacts.{agree-sym}
 use Rattle.board_laws.proofs.Origins.{IsTranslated, Origin}
-
--- An entry has the translation of its own key under its version, and its mask covers the bits that this consults.
-pub record IsMade (run : Run) (e : Entry) : Type 0 where
-  pub key : IsKey e.key
-  pub clean : IsClean e.key
-  pub covered : covers e.mask (mask_for run e.version e.key) ≡ true
-  pub actions : e.actions ≡ (translated run e.version e.key).actions
-  pub visits : e.visits ≡ (translated run e.version e.key).visits
 
 module _ (run : Run) (port : ℕ) (s t : State)
     (keys : (place : ℕ) → is_pending (place_at place s) ≡ true → IsKey (key_at run port place))

@@ -1,5 +1,5 @@
 -- The laws in the words of their contracts.
-use Rattle.std.proofs.Common.{◌≡◌, ℕ, zero, suc, ◌-◌, ◌<◌, ◌≤◌, true, false, List, [], ◌∷◌, length, get_or, All, IsSome, IsNone, ◌↔◌, Option, Some, None, inl, inr, refl, sym, ap, ◌∙◌, subst, arith}
+use Rattle.std.proofs.Common.{◌≡◌, ℕ, zero, suc, ◌-◌, ◌<◌, ◌≤◌, true, false, List, [], ◌∷◌, ◌++◌, length, get_or, All, IsSome, IsNone, ◌↔◌, Option, Some, None, inl, inr, refl, sym, ap, ◌∙◌, subst, arith}
 use Rattle.std.specs.List.{AllPairs, list_all}
 use Rattle.std.proofs.lemmas.Bool.{and_parts}
 use Rattle.spec_keys.specs.Keys.{agree, overlap}
@@ -7,14 +7,15 @@ use Rattle.spec_pcap.specs.Pcap.{Frame}
 use Rattle.spec_case.specs.Run.{Run, last_version, frames_of}
 use Rattle.spec_case.specs.Blocks.{AreInOrder}
 use Rattle.spec_board.specs.Steps.{Step}
-use Rattle.spec_board.specs.State.{Entry, Place, Waiting, place_at, is_decided}
+use Rattle.spec_board.specs.State.{Entry, State, Place, Waiting, place_at, is_decided}
 use Rattle.spec_board.specs.Results.{entry_of, numbers_of, covering, looked}
 use Rattle.spec_board.specs.declared.looked.Looked.TheVariants.{Miss}
-use Rattle.spec_board.specs.Journals.{IsLegal, IsComplete, after}
+use Rattle.spec_board.specs.Effects.{effect}
+use Rattle.spec_board.specs.Journals.{Legal, IsLegal, IsComplete, after}
 use Rattle.spec_board.specs.Decisions.{IsDecided}
 use Rattle.translation_laws.proofs.MemberLaws.{Among, All_from-Among}
-use Rattle.board_laws.specs.Entries.{HasKeys, IsRight, AreApart, NamesCovering, IsFound}
-use Rattle.board_laws.specs.Counts.{IsUsed}
+use Rattle.board_laws.specs.Entries.{HasKeys, IsMade, IsRight, AreApart, NamesCovering, IsFound}
+use Rattle.board_laws.specs.Counts.{HasBoundedCounts, IsUsed}
 use Rattle.board_laws.specs.Versions.{HasVersionsInOrder, IsRecent}
 use Rattle.board_laws.proofs.NumberLaws.{Rising, number_among, among_number, entry_of-among}
 use Rattle.board_laws.proofs.KeyFacts.{one_covers}
@@ -22,11 +23,14 @@ use Rattle.board_laws.specs.Places.{ArePlaces}
 use Rattle.board_laws.proofs.PlaceLaws.{at_there}
 use Rattle.board_laws.proofs.Places.{all_places}
 use Rattle.board_laws.proofs.Right.{right_from-made}
+use Rattle.board_laws.proofs.Added.{IsOfEdit, visits_added}
 use Rattle.board_laws.proofs.Kept.{kept_after}
 use Rattle.board_laws.proofs.Sound.{sound_after}
 use Rattle.board_laws.proofs.Once.{decided_in}
 use Rattle.board_laws.proofs.Looks.{covering_is, none_missed, missed_none, found_as}
-use Rattle.board_laws.proofs.Looked.{frame_le}
+use Rattle.board_laws.proofs.Looked.{frame_le, due_packets_most, due_bytes_most}
+use Rattle.board_laws.proofs.Balance.{packets_balance, bytes_balance}
+use Rattle.board_laws.proofs.Journals.{after_step, legal_step}
 use Rattle.board_laws.proofs.Used.{used_after}
 
 -- ---- pairs
@@ -66,6 +70,11 @@ apart_after run port limit steps legal =
     let k = (kept_after run port limit steps legal).apart in
     pairs_from AreApart es (ordered_entries es k.rising k.disjoint)
 
+pub numbers_from_one : (run : Run) (port limit : ℕ) (steps : List Step) → IsLegal run port limit steps
+    → All (λ (e : Entry). 1 ≤ e.number) (after run port steps).entries
+numbers_from_one run port limit steps legal =
+    All_from-Among (λ (e : Entry). 1 ≤ e.number) (after run port steps).entries (kept_after run port limit steps legal).apart.from_one
+
 pub numbers_made : (run : Run) (port limit : ℕ) (steps : List Step) → IsLegal run port limit steps
     → All (λ (e : Entry). e.number ≤ (after run port steps).made) (after run port steps).entries
 numbers_made run port limit steps legal =
@@ -79,6 +88,20 @@ pub right_after : (run : Run) (port limit : ℕ) (steps : List Step) → HasKeys
     → All (IsRight run) (after run port steps).entries
 right_after run port limit steps keys legal =
     All_from-Among (IsRight run) (after run port steps).entries (λ e m. right_from-made run e ((kept_after run port limit steps legal).made keys e m))
+
+pub made_after : (run : Run) (port limit : ℕ) (steps : List Step) → HasKeys run port (after run port steps).next → IsLegal run port limit steps
+    → All (IsMade run) (after run port steps).entries
+made_after run port limit steps keys legal =
+    All_from-Among (IsMade run) (after run port steps).entries ((kept_after run port limit steps legal).made keys)
+
+pub entries_visit : (run : Run) (port limit : ℕ) (steps : List Step) → HasKeys run port (after run port steps).next → IsLegal run port limit steps
+    → All (λ (e : Entry). All (λ r. (1 ≤ r) × (r ≤ e.version)) e.visits) (after run port steps).entries
+entries_visit run port limit steps keys legal = All_from-Among (λ (e : Entry). All (IsOfEdit e.version) e.visits) (after run port steps).entries visits
+  where
+    visits : (e : Entry) → Among e (after run port steps).entries → All (IsOfEdit e.version) e.visits
+    visits e m =
+        let made = (kept_after run port limit steps legal).made keys e m in
+        subst (λ (vs : List ℕ). All (IsOfEdit e.version) vs) (sym made.visits) (visits_added run e.version e.key)
 
 pub slots_after : (run : Run) (port limit : ℕ) (steps : List Step) → IsLegal run port limit steps
     → All (NamesCovering (after run port steps).entries) (after run port steps).slots
@@ -142,6 +165,14 @@ recent_after run port limit steps in_order legal =
     let s = after run port steps in
     All_from-Among (IsRecent s) s.entries (sound_after run port limit in_order steps legal).recent
 
+pub entries_of_run : (run : Run) (port limit : ℕ) (steps : List Step) → AreInOrder run.syncs (last_version run) → IsLegal run port limit steps
+    → All (λ (e : Entry). e.version ≤ last_version run) (after run port steps).entries
+entries_of_run run port limit steps in_order legal =
+    let s = after run port steps in
+    let k = sound_after run port limit in_order steps legal in
+    All_from-Among (λ (e : Entry). e.version ≤ last_version run) s.entries
+    (λ e m. omega (arith, (k.recent e m).not_newer, k.versions.within_block, (in_order s.block).1))
+
 -- ---- sweeps
 
 pairs_rising : (ns : List ℕ) → Rising ns → AllPairs (λ (m n : ℕ). m < n) ns
@@ -188,7 +219,7 @@ complete_after run port limit steps in_order keys legal complete place first las
     decided_after run port limit steps in_order keys legal place
     (ap is_decided (at_there places place first) ∙ all_decided places (place - 1) complete.all_decided (omega (arith, count, first, last)))
 
--- ---- what entries count
+-- ---- what is counted
 
 pub used_entries : (run : Run) (port limit most : ℕ) (steps : List Step) → All (λ (f : Frame). length f.bytes ≤ most) (frames_of run port)
     → IsLegal run port limit steps → All (IsUsed (after run port steps).next most) (after run port steps).entries
@@ -196,3 +227,29 @@ used_entries run port limit most steps short legal =
     let s = after run port steps in
     All_from-Among (IsUsed s.next most) s.entries
     (used_after run port limit most (λ place. frame_le (frames_of run port) (place - 1) most short) steps legal)
+
+pub bounded_after : (run : Run) (port limit most : ℕ) (steps : List Step) → AreInOrder run.syncs (last_version run)
+    → HasKeys run port (after run port steps).next → All (λ (f : Frame). length f.bytes ≤ most) (frames_of run port) → IsLegal run port limit steps
+    → (rule : ℕ) → HasBoundedCounts run port most (after run port steps) rule
+bounded_after run port limit most steps in_order keys short legal rule = record {
+  packets = rw (packets_balance run port limit rule in_order steps keys legal) (due_packets_most run port limit rule steps in_order keys legal);
+  bytes = rw (bytes_balance run port limit rule in_order steps keys legal) (due_bytes_most run port limit rule most steps in_order keys short legal);
+}
+
+pub bounded_next : (run : Run) (port limit most : ℕ) (steps : List Step) (step : Step) → AreInOrder run.syncs (last_version run)
+    → HasKeys run port (after run port (steps ++ step ∷ [])).next → All (λ (f : Frame). length f.bytes ≤ most) (frames_of run port)
+    → IsLegal run port limit steps → Legal run port limit (after run port steps) step
+    → (rule : ℕ) → HasBoundedCounts run port most (after run port (steps ++ step ∷ [])) rule
+bounded_next run port limit most steps step in_order keys short legal last =
+    bounded_after run port limit most (steps ++ step ∷ []) in_order keys short (legal_step run port limit steps step legal last)
+
+-- as a body has it that is about to make the step
+pub bounded_step : (run : Run) (port limit most : ℕ) (steps : List Step) (step : Step) → AreInOrder run.syncs (last_version run)
+    → HasKeys run port (effect run port (after run port steps) step).next → All (λ (f : Frame). length f.bytes ≤ most) (frames_of run port)
+    → IsLegal run port limit steps → Legal run port limit (after run port steps) step
+    → (rule : ℕ) → HasBoundedCounts run port most (effect run port (after run port steps) step) rule
+bounded_step run port limit most steps step in_order keys short legal last rule =
+    let made = after_step run port steps step in
+    let keys_after = subst (λ (s : State). HasKeys run port s.next) (sym made) keys in
+    subst (λ (s : State). HasBoundedCounts run port most s rule) made
+    (bounded_next run port limit most steps step in_order keys_after short legal last rule)

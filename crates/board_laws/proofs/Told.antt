@@ -13,13 +13,13 @@ use Rattle.spec_board.specs.Results.{key_at, translated, entry_of}
 use Rattle.spec_board.specs.Effects.{effect, decided_as}
 use Rattle.spec_board.specs.Journals.{Legal}
 use Rattle.spec_board.specs.Decisions.{decided_place, IsInWindow}
-use Rattle.board_laws.specs.Entries.{HasKeys}
+use Rattle.board_laws.specs.Entries.{HasKeys, IsMade}
 use Rattle.board_laws.specs.Versions.{IsRecent}
 use Rattle.board_laws.proofs.Refusals.{MaySettle, may_settle, may_look}
 use Rattle.board_laws.proofs.PlaceLaws.{at, at_written, at_others, at_either, pending_from, pending_upto}
 use Rattle.board_laws.proofs.BlockFacts.{place_there}
 use Rattle.board_laws.proofs.Hits.{Hits, exact_hits, mega_hits}
-use Rattle.board_laws.proofs.Right.{IsMade, right_from-made}
+use Rattle.board_laws.proofs.Right.{right_from-made}
 use Rattle.board_laws.proofs.Kept.{key_clean, keys_before}
 use Rattle.board_laws.proofs.Sound.{IsSound, IsTaken}
 

@@ -9,13 +9,16 @@
 //! - *Every frame that is decided is decided once, as a plain scan of one version of the tables decides it, and that
 //!   version is in its window* (`frames_are_decided_rightly`); a complete journal decides all frames
 //!   (`complete_journals_decide_all`).
-//! - An entry gives, for every key that it covers, what a plain scan under its version gives (`entries_are_right`). No
+//! - An entry has the translation of its own key, and covers the bits that this consults
+//!   (`entries_cover_what_they_were_made_for`). So it gives, for every key that it covers, what a plain scan under its
+//!   version gives (`entries_are_right`), and visits only rules that edits added (`visits_of_entries_are_rules`). No
 //!   key is covered by two (`entries_are_apart`), and a slot that names a live entry names one that covers the slot's
 //!   key (`slots_name_covering_entries`). So a look finds the one entry that covers the key, if there is one, whatever
 //!   the order in which entries are tried (`looks_find_the_covering_entry`, `entries_are_found`).
 //! - The versions of a board and of its entries stand in order (`versions_stand_in_order`).
-//! - Totals and what entries owe are together what each rule is due (`totals_and_debts_are_due`), and this is bounded
-//!   (`dues_are_bounded`, `translations_are_short`, `entries_count_what_they_decided`).
+//! - Totals and what entries owe are together what each rule is due (`totals_and_debts_are_due`). This is bounded
+//!   (`dues_are_bounded`, `counts_are_bounded`, `translations_are_short`, `entries_count_what_they_decided`).
+//!   Translations visit only rules that edits added (`translations_visit_added_rules`).
 //! - A sweep lists live entries by rising numbers (`sweeps_list_live_entries`). Places are looked up in order
 //!   (`places_wait_in_order`), and each that was is decided or pending (`frames_looked_up_are_decided_or_pending`).
 //!
@@ -46,15 +49,16 @@ mod entries;
 mod versions;
 
 pub use counts::{
-    dues_are_bounded, entries_count_what_they_decided, totals_and_debts_are_due,
-    translations_are_short,
+    counts_are_bounded, dues_are_bounded, entries_count_what_they_decided,
+    totals_and_debts_are_due, translations_are_short, translations_visit_added_rules,
 };
 pub use decided::{
     complete_journals_decide_all, frames_are_decided_rightly,
     frames_looked_up_are_decided_or_pending, places_wait_in_order,
 };
 pub use entries::{
-    entries_are_apart, entries_are_found, entries_are_right, frames_of_bytes_have_keys,
-    looks_find_the_covering_entry, slots_name_covering_entries,
+    entries_are_apart, entries_are_found, entries_are_right, entries_cover_what_they_were_made_for,
+    frames_of_bytes_have_keys, looks_find_the_covering_entry, slots_name_covering_entries,
+    visits_of_entries_are_rules,
 };
 pub use versions::{sweeps_list_live_entries, versions_stand_in_order};

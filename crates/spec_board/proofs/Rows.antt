@@ -20,6 +20,7 @@ use Rattle.spec_board.specs.Cache.{first_slot, second_slot, slot_for, cached, wi
 use Rattle.spec_board.specs.Results.{is_same_action, are_same_actions}
 use Rattle.spec_board.specs.Journals.{IsLegal, IsComplete, after}
 use Rattle.spec_board.specs.Decisions.{Decision, decisions, times_decided, IsInWindow, due_packets, due_bytes}
+use Rattle.spec_board.specs.Counts.{owed_packets, owed_bytes}
 use Rattle.spec_board.specs.Texts.{journals_text}
 use Rattle.spec_board.proofs.Shown.{Shown, run_of, flow_limit, add, edit, in_port_1, dl_dst, sync, frame, trace, shown, journal, entry, total, sent}
 use Rattle.spec_board.proofs.Runs.{replaced, replaced_steps, led_to}
@@ -294,6 +295,23 @@ a_rule_is_credited_with_each_visit = refl
 a_rule_is_due_each_visit : (due_packets twice 1 twice_steps 2 ≡ 4) × (due_bytes twice 1 twice_steps 2 ≡ 240)
 unfolding shown
 a_rule_is_due_each_visit = (refl, refl)
+
+-- before the sweep pays, and after it
+abbrev twice_hit : List Entry
+twice_hit = (after twice 1 (Look 1 Miss ∷ Settle 1 2 (Installed 1 []) ∷ Look 2 (Mega 1) ∷ [])).entries
+
+abbrev twice_paid : List Entry
+twice_paid = (after twice 1 twice_steps).entries
+
+an_entry_owes_each_visit :
+    (map (λ rule. owed_packets rule twice_hit) (1 ∷ 2 ∷ 3 ∷ []) ≡ 1 ∷ 2 ∷ 0 ∷ [])
+    × (map (λ rule. owed_bytes rule twice_hit) (1 ∷ 2 ∷ 3 ∷ []) ≡ 60 ∷ 120 ∷ 0 ∷ [])
+unfolding shown
+an_entry_owes_each_visit = (refl, refl)
+
+an_entry_that_is_paid_owes_nothing : (owed_packets 2 twice_paid ≡ 0) × (owed_bytes 2 twice_paid ≡ 0)
+unfolding shown
+an_entry_that_is_paid_owes_nothing = (refl, refl)
 
 -- ---- versions
 

@@ -6,5 +6,6 @@ pub mod Refusals
 pub mod Effects
 pub mod Journals
 pub mod Decisions
+pub mod Counts
 pub mod Schedules
 pub mod Texts

@@ -14,6 +14,7 @@
 //! - `Effects`: the state that a step leads to.
 //! - `Journals`: when a journal is legal, what it leads to, and when it is complete.
 //! - `Decisions`: which step decided a frame, the window of its version, and what each rule is due.
+//! - `Counts`: what entries owe to a rule, and how that and its total come to what it is due.
 //! - `Schedules`: the journals of a given list of steps, and how every run is finished.
 //! - `Texts`: a journal as text.
 #![tactic(auto)]
