@@ -1,5 +1,6 @@
-ghost use Rattle.std.specs.Prelude.{◌≡◌, ◌+◌, ◌-◌, ◌/◌, ◌^◌, ◌<◌, ◌≤◌, ◌⊎◌, ◌==◌, false, [], Ok, Err, length, IfOk, IfErr};
+ghost use Rattle.std.specs.Prelude.{◌≡◌, ◌+◌, ◌-◌, ◌/◌, ◌^◌, ◌<◌, ◌≤◌, ◌⊎◌, ◌==◌, false, [], Ok, Err, length, All, IfOk, IfErr};
 ghost use Rattle.spec_pcap.specs.Pcap.{Capture, frame_number, second, snap_length, capture_of};
+ghost use Rattle.pcap_reader.specs.Records.{IsShort};
 
 use crate::records::{count_records, starts_of};
 use pcap_format::{
@@ -52,9 +53,10 @@ impl Trace {
         self.format.nanos
     }
 
-    /// How many frames there are.
+    /// How many frames there are. Each has at most 262,144 captured bytes.
     pub fn len(&self) -> usize
-        ensures { result ≡ length self.now.frames }
+        ensures count { result ≡ length self.now.frames }
+        ensures short { All IsShort self.now.frames }
     {
         self.starts.len()
     }

@@ -1,7 +1,8 @@
-ghost use Rattle.std.specs.Prelude.{◌≡◌, ◌+◌, ◌-◌, ◌/◌, ◌^◌, ◌<◌, ◌≤◌, ◌==◌, Some, length, map, position, slice_get};
+ghost use Rattle.std.specs.Prelude.{◌≡◌, ◌+◌, ◌-◌, ◌/◌, ◌^◌, ◌<◌, ◌≤◌, ◌==◌, Some, All, length, map, position, slice_get};
 ghost use Rattle.spec_pcap.specs.Pcap.{second, snap_length};
 ghost use Rattle.spec_case.specs.Run.{last_version, frame_at, frames_of, is_nanos};
 ghost use Rattle.spec_case.specs.Blocks.{AreInOrder, block_ends, last_block, last_place, lo, hi};
+ghost use Rattle.pcap_reader.specs.Records.{IsShort};
 ghost use Rattle.run_blocks.specs.Places.{HasPort, HasPlace, AreCounted, ends_of};
 
 use crate::case::Case;
@@ -151,10 +152,11 @@ impl<C: Case> RunData<C> {
         self.ends[self.place_of(port)].as_slice()
     }
 
-    /// How many frames the trace of a port has.
+    /// How many frames the trace of a port has. Each has at most 262,144 captured bytes.
     pub fn frames(&self, port: u16) -> u32
         requires { HasPort C.run.ports port }
         ensures count { result ≡ length (frames_of C.run port) }
+        ensures short { All IsShort (frames_of C.run port) }
         ensures bound { result + 1 < 2 ^ 32 }
     {
         self.trace(port).len() as u32

@@ -29,4 +29,4 @@ returns c =
     let was = c.loop-sync.invariant in
     let none : drop c.loop-sync.sync-index syncs ≡ [] = drop_of_length-le syncs c.loop-sync-test.false in
     let last = ends_after-last c.loop-sync.ends.items c.loop-sync.place c.args.trace.now.frames was.within in
-    rw (c.push_reserved-2.ensures.items, c.len.ensures) (last ∙ rw none at was.so_far)
+    rw (c.push_reserved-2.ensures.items, c.len.ensures.count) (last ∙ rw none at was.so_far)

@@ -32,11 +32,11 @@ ports-preserved g c =
       few_frames = rw grown (All-push (λ (t : Capture). length t.frames ≤ most_frames) c.ports.traces.items c.in_ok-read.read.trace before.few_frames (omega (arith, read.frames, before.frames)));
       verdict = λ t.
           let same = ap (λ (w : Told). w.holds) (before.told t) in
-          rw (grown, c.len-frames_left.ensures)
+          rw (grown, c.len-frames_left.ensures.count)
           (next_trace _ c.ports.bytes_left c.ports.frames_left c.args.ports.now c.ports.w-index _ _ (trace_view c.in_ok-read.read) _ c.ports-test.true (rw same at read.ok t) (before.verdict t));
       opened = λ t name later.
           let same = ap (λ (w : Told). w.holds) (before.told t) in
-          before.opened t name (opened_later _ c.ports.bytes_left c.ports.frames_left c.args.ports.now c.ports.w-index _ (trace_view c.in_ok-read.read) name c.ports-test.true (rw same at read.ok t) (rw c.len-frames_left.ensures at later));
+          before.opened t name (opened_later _ c.ports.bytes_left c.ports.frames_left c.args.ports.now c.ports.w-index _ (trace_view c.in_ok-read.read) name c.ports-test.true (rw same at read.ok t) (rw c.len-frames_left.ensures.count at later));
       told = λ t. only_read-trans (g.S.Shelf.told c.args.shelf.now) (g.S.Shelf.told c.ports.shelf) (g.S.Shelf.told c.read_port_trace.new.shelf) (before.told t) (read.told t);
       counts = read.counts ∙ before.counts;
     }
