@@ -25,7 +25,7 @@ use Rattle.tuple_classifier.specs.Live.{live_view, live_rules, plain_rule, plain
 use Rattle.tuple_classifier.specs.Sound.{AreSound}
 use Rattle.tuple_classifier.proofs.Lengths.{not_equal}
 use Rattle.tuple_classifier.proofs.LiveLaws.{rising_kept, plain_rising, seen_rising, map_filter, rising_distinct}
-use Rattle.tuple_classifier.proofs.Members.{among_map}
+use Rattle.tuple_classifier.proofs.Members.{among_map, same_tests}
 use Rattle.tuple_classifier.proofs.WinnerLaws.{one_of_number}
 
 -- ---- the parts moved
@@ -143,21 +143,22 @@ module _ (e : Edit) (lists : List (List OfAction)) (live : List LiveRule) (versi
       one_of_number (plain_rules live) (rising_distinct (plain_rules live) (plain_rising lists live is.rising)) (plain_rule k) (plain_rule l) (Among_in-map plain_rule k live m) (Among_in-map plain_rule l live n) h
 
   -- the number that is found is the one of the rule that is named
-  pub found_named : (o : Option Rule) → find (is_named_by e) (plain_rules live) ≡ o
-      → option_map_or (λ n. filter (is_unlike n) live) (option_map (λ (r : Rule). r.number) o) live ≡ filter (is_unnamed e) live
-  found_named None h = sym (all_of (is_unnamed e) live (λ l m. ap not (find_none_of (is_named_by e) (plain_rules live) h (plain_rule l) (Among_in-map plain_rule l live m))))
-  found_named (Some r) h =
+  pub named_number : (r : Rule) → find (is_named_by e) (plain_rules live) ≡ Some r → (l : LiveRule) → Among l live → (l.rule.number == r.number) ≡ is_named_by e (plain_rule l)
+  named_number r h l m =
       let f = find_some (is_named_by e) (plain_rules live) r h in
       let k = among_map plain_rule r live f.0 in
       let named : is_named_by e (plain_rule k.0) ≡ true = sym (ap (is_named_by e) k.2) ∙ f.1 in
-      filter_alike (is_unlike r.number) (is_unnamed e) live (λ l m. ap not (tests (l.rule.number == r.number) (is_named_by e (plain_rule l))
+      same_tests (l.rule.number == r.number) (is_named_by e (plain_rule l))
       (λ q. ap (is_named_by e) (same_of_number l k.0 m k.1 (eqb-true l.rule.number r.number q ∙ ap (λ (x : Rule). x.number) k.2)) ∙ named)
-      (λ q. eq-eqb l.rule.number r.number (one_named l k.0 m k.1 q named ∙ sym (ap (λ (x : Rule). x.number) k.2)))))
-    where
-      tests : (s t : Bool) → (s ≡ true → t ≡ true) → (t ≡ true → s ≡ true) → s ≡ t
-      tests true t to back = sym (to refl)
-      tests false true to back = back refl
-      tests false false to back = refl
+      (λ q. eq-eqb l.rule.number r.number (one_named l k.0 m k.1 q named ∙ sym (ap (λ (x : Rule). x.number) k.2)))
+
+  pub none_named : find (is_named_by e) (plain_rules live) ≡ None → (l : LiveRule) → Among l live → is_named_by e (plain_rule l) ≡ false
+  none_named h l m = find_none_of (is_named_by e) (plain_rules live) h (plain_rule l) (Among_in-map plain_rule l live m)
+
+  pub found_named : (o : Option Rule) → find (is_named_by e) (plain_rules live) ≡ o
+      → option_map_or (λ n. filter (is_unlike n) live) (option_map (λ (r : Rule). r.number) o) live ≡ filter (is_unnamed e) live
+  found_named None h = sym (all_of (is_unnamed e) live (λ l m. ap not (none_named h l m)))
+  found_named (Some r) h = filter_alike (is_unlike r.number) (is_unnamed e) live (λ l m. ap not (named_number r h l m))
 
   -- and is of an earlier version
   found_before : (r : Rule) → find (is_named_by e) (plain_rules live) ≡ Some r → r.number ≤ version

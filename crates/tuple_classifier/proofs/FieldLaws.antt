@@ -1,19 +1,17 @@
 -- The prefixes of a field, as rules come and go.
-use Rattle.std.proofs.Common.{◌≡◌, ℕ, ◌+◌, ◌<◌, ◌≤◌, ◌^◌, Bool, true, false, ◌==◌, if◌then◌else◌, List, [], ◌∷◌, ◌++◌, map, All, refl, sym, ap, ap₂, ◌∙◌, subst, arith, eqb-true, eq-eqb}
+use Rattle.std.proofs.Common.{◌≡◌, ℕ, ◌+◌, ◌<◌, ◌≤◌, ◌^◌, Bool, true, false, ◌==◌, if◌then◌else◌, List, [], ◌∷◌, ◌++◌, All, refl, sym, ap, ap₂, ◌∙◌, subst, arith, eqb-true, eq-eqb}
 use Rattle.std.specs.List.{list_any}
 use Rattle.spec_keys.specs.declared.field_id.FieldId.{FieldId}
 use Rattle.spec_keys.specs.Fields.{width_of}
 use Rattle.spec_keys.specs.Keys.{value_of}
 use Rattle.spec_tables.specs.Rules.{Rule}
-use Rattle.spec_xlate.specs.Lookup.{Prefix, prefix_length, deciding, deciding_one}
-use Rattle.translation_laws.proofs.MemberLaws.{Among, Among_in-map, All-Among, All_from-Among}
+use Rattle.spec_xlate.specs.Lookup.{prefix_length}
+use Rattle.translation_laws.proofs.MemberLaws.{Among, All-Among, All_from-Among}
 use Rattle.tuple_classifier.specs.declared.prefixes.FieldPrefixes.{FieldPrefixes}
 use Rattle.tuple_classifier.specs.FieldPrefixes.{IsOfField}
-use Rattle.tuple_classifier.specs.Numbers.{times, as_prefix}
+use Rattle.tuple_classifier.specs.Numbers.{times}
 use Rattle.tuple_classifier.specs.Numbered.{AreDistinct, without}
-use Rattle.tuple_classifier.specs.Prefixes.{prefix_with}
-use Rattle.tuple_classifier.proofs.Deciding.{deciding_bound, deciding_has}
-use Rattle.tuple_classifier.proofs.Members.{same_tests, any_among, any_from, among_map, counted_among, counted_from}
+use Rattle.tuple_classifier.proofs.Members.{same_tests, any_among, any_from, counted_among, counted_from}
 use Rattle.tuple_classifier.proofs.Removed.{count-one_more, count-without}
 
 -- ---- numbers that stand in a list
@@ -102,18 +100,3 @@ module _ (p : FieldPrefixes) (f : FieldId) (mask : List ℕ) (rs : List Rule) (i
       (λ h.
       let m = any_among (λ (x : Rule). test (value_of x.matching.key f)) rs h in
       any_from test (value_of m.0.matching.key f) p.values.items.items (kept m.0 m.1) m.2)
-
-  pub deciding_stated : (w x n : ℕ) → deciding w x (map (as_prefix n) p.values.items.items) ≡ deciding w x (map (prefix_with f n) rs)
-  deciding_stated w x n = equal (deciding w x (map (as_prefix n) p.values.items.items)) (deciding w x (map (prefix_with f n) rs))
-      (deciding_bound w x (deciding w x (map (prefix_with f n) rs)) (map (as_prefix n) p.values.items.items) (λ q a.
-      let v = among_map (as_prefix n) q p.values.items.items a in
-      let r = stated v.0 v.1 in
-      subst (λ (o : Prefix). deciding_one w x o ≤ deciding w x (map (prefix_with f n) rs)) (ap (as_prefix n) r.2 ∙ sym v.2)
-      (deciding_has w x (prefix_with f n r.0) (map (prefix_with f n) rs) (Among_in-map (prefix_with f n) r.0 rs r.1))))
-      (deciding_bound w x (deciding w x (map (as_prefix n) p.values.items.items)) (map (prefix_with f n) rs) (λ q a.
-      let r = among_map (prefix_with f n) q rs a in
-      subst (λ (o : Prefix). deciding_one w x o ≤ deciding w x (map (as_prefix n) p.values.items.items)) (sym r.2)
-      (deciding_has w x (as_prefix n (value_of r.0.matching.key f)) (map (as_prefix n) p.values.items.items) (Among_in-map (as_prefix n) (value_of r.0.matching.key f) p.values.items.items (kept r.0 r.1)))))
-    where
-      equal : (a b : ℕ) → a ≤ b → b ≤ a → a ≡ b
-      equal a b h k = omega arith

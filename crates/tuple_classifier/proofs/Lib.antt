@@ -1,9 +1,13 @@
 pub mod AddLaws
+pub mod Apart
 pub mod Deciding
 pub mod EditLaws
 pub mod FieldLaws
+pub mod GivenLaws
+pub mod LeadingBits
 pub mod Lengths
 pub mod LiveLaws
+pub mod LookupLaws
 pub mod Mapped
 pub mod Members
 pub mod Nearest

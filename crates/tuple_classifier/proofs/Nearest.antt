@@ -1,20 +1,17 @@
 -- Among sorted numbers the nearest ones decide: none has more leading bits in common with a number than those beside it.
-use Rattle.std.proofs.Common.{◌≡◌, ℕ, zero, suc, ◌+◌, ◌-◌, ◌*◌, ◌/◌, ◌^◌, ◌<◌, ◌≤◌, Bool, true, false, ◌&&◌, ◌||◌, ◌==◌, nat_le, nat_lt, if◌then◌else◌, List, length, get_or, map, bit_and, max, All, inl, inr, ◌⊎◌, ⊎_elim, refl, sym, ap, ap₂, ◌∙◌, subst, arith, le_refl, eqb-true, eq-eqb, mul-le-mul_right}
+use Rattle.std.proofs.Common.{◌≡◌, ℕ, ◌+◌, ◌-◌, ◌*◌, ◌/◌, ◌^◌, ◌<◌, ◌≤◌, Bool, true, false, ◌&&◌, ◌||◌, ◌==◌, nat_le, nat_lt, if◌then◌else◌, List, length, get_or, bit_and, max, All, inl, inr, ◌⊎◌, ⊎_elim, refl, sym, ap, ap₂, ◌∙◌, arith, le_refl, eqb-true, eq-eqb, mul-le-mul_right}
 use Rattle.std.specs.List.{list_any, remove}
 use Rattle.std.specs.List.Sorted.{IsNonDecreasing}
 use Rattle.std.proofs.lemmas.Nat.Bits.{and_high_mask}
 use Rattle.std.proofs.Math.Pow.{shr_mono}
-use Rattle.std.proofs.lemmas.Bool.{cases_lt, cond-true, cond-false}
+use Rattle.std.proofs.lemmas.Bool.{cases_lt}
 use Rattle.std.proofs.lemmas.List.Sums.{sum_by-remove}
 use Rattle.std.proofs.lemmas.List.Edits.{length-remove}
 use Rattle.std.proofs.lemmas.Bool.Decides.{nat_tests}
 use Rattle.spec_base.specs.Bits.{leading_bits}
-use Rattle.spec_xlate.specs.Lookup.{Prefix, starts_alike, deciding_one, deciding}
-use Rattle.translation_laws.proofs.MemberLaws.{Among_in-map}
-use Rattle.translation_laws.proofs.PrefixLaws.{decided-below, decided-above}
-use Rattle.tuple_classifier.specs.Numbers.{times, as_prefix}
-use Rattle.tuple_classifier.proofs.Members.{same_tests, any_among, any_from, among_map, among_at, place_of_among, counted_among}
-use Rattle.tuple_classifier.proofs.Deciding.{deciding_bound, deciding_has}
+use Rattle.spec_xlate.specs.Lookup.{starts_alike}
+use Rattle.tuple_classifier.specs.Numbers.{times}
+use Rattle.tuple_classifier.proofs.Members.{same_tests, any_among, any_from, among_at, place_of_among, counted_among}
 
 pub nat_lt_true : (a b : ℕ) → nat_lt a b ≡ true → a < b
 nat_lt_true a b h = grind (arith, nat_tests)
@@ -34,9 +31,12 @@ nat_le_true a b h = grind (arith, nat_tests)
 pub true_nat_le : (a b : ℕ) → a ≤ b → nat_le a b ≡ true
 true_nat_le a b h = grind (arith, nat_tests)
 
+pub not_nat_le : (a b : ℕ) → nat_le a b ≡ false → b < a
+not_nat_le a b h = grind (arith, nat_tests)
+
 -- ---- numbers between
 
-leading_of : (w n v : ℕ) → v < 2 ^ w → bit_and v (leading_bits w n) ≡ v / 2 ^ (w - n) * 2 ^ (w - n)
+pub leading_of : (w n v : ℕ) → v < 2 ^ w → bit_and v (leading_bits w n) ≡ v / 2 ^ (w - n) * 2 ^ (w - n)
 leading_of w n v fits = let within : w - n ≤ w = omega arith in and_high_mask w (w - n) within v fits
 
 leading_rises : (w n u v : ℕ) → u < 2 ^ w → v < 2 ^ w → u ≤ v → bit_and u (leading_bits w n) ≤ bit_and v (leading_bits w n)
@@ -60,15 +60,6 @@ alike-from_above w x a b n fx fa fb ba xb h =
     let l = leading_rises w n b a fb fa ba in
     let r = leading_rises w n x b fx fb xb in
     eq-eqb _ _ (let s : bit_and x (leading_bits w n) ≡ bit_and b (leading_bits w n) = omega (arith, e, l, r) in s)
-
--- where one number starts alike whenever another does, it decides as many bits
-decides_more : (w x a b n : ℕ) → n ≤ w → ((j : ℕ) → starts_alike w x a j ≡ true → starts_alike w x b j ≡ true)
-    → deciding_one w x (as_prefix n a) ≤ deciding_one w x (as_prefix n b)
-decides_more w x a b n nw more = at (deciding_one w x (as_prefix n a)) (le_refl (deciding_one w x (as_prefix n a)))
-  where
-    at : (m : ℕ) → m ≤ deciding_one w x (as_prefix n a) → m ≤ deciding_one w x (as_prefix n b)
-    at zero le = omega arith
-    at (suc j) le = let d = decided-below w x a n j nw le in decided-above w x b n j d.0 (more j d.1)
 
 -- ---- the numbers beside a place
 
@@ -147,78 +138,36 @@ module _ (w x : ℕ) (xs : List ℕ) (place : ℕ) (fx : x < 2 ^ w) (fit : All (
           ⊎_elim (λ a. ap (λ u. u || t) (alike_has n place s es a.0 (a.1 n here)))
           (λ a. either s t (alike_has n (place - 1) t et a.1 (a.2 n here))) (nearer p.0 p.1)
 
-  -- ---- the deciding length
+  -- told by the greater of the two lengths that tell it from those
+  pub apart_first : (a : ℕ) → ((n : ℕ) → n ≤ w → (nat_lt place (length xs) && starts_alike w x (get_or xs place 0) n) ≡ nat_lt n a) → place ≡ 0
+      → (n : ℕ) → n ≤ w → list_any (λ v. starts_alike w x v n) xs ≡ nat_lt n a
+  apart_first a here at_front n nw = sym (alike_first n (nat_lt n a) (sym (here n nw)) at_front)
 
-  one_has : (n k : ℕ) → k < length xs → deciding_one w x (as_prefix n (get_or xs k 0)) ≤ deciding w x (map (as_prefix n) xs)
-  one_has n k within = deciding_has w x (as_prefix n (get_or xs k 0)) (map (as_prefix n) xs) (Among_in-map (as_prefix n) (get_or xs k 0) xs (among_at xs k 0 within))
-
-  bounded : (n most : ℕ) → ((k : ℕ) → k < length xs → deciding_one w x (as_prefix n (get_or xs k 0)) ≤ most) → deciding w x (map (as_prefix n) xs) ≤ most
-  bounded n most h = deciding_bound w x most (map (as_prefix n) xs) (λ q a.
-      let m = among_map (as_prefix n) q xs a in
-      let p = place_of_among m.0 xs m.1 in
-      subst (λ (r : Prefix). deciding_one w x r ≤ most) (sym (m.2 ∙ ap (as_prefix n) (p.2 0))) (h p.0 p.1))
-
-  pub deciding_first : (n d : ℕ) → n ≤ w → d ≡ (if nat_lt place (length xs) then deciding_one w x (as_prefix n (get_or xs place 0)) else 0) → place ≡ 0
-      → d ≡ deciding w x (map (as_prefix n) xs)
-  deciding_first n d nw is at_front = equal d (deciding w x (map (as_prefix n) xs)) (less (cases_lt place (length xs)))
-      (bounded n d (λ k within. ⊎_elim (λ a. let v = here a.0 in let m = decides_more w x (get_or xs k 0) (get_or xs place 0) n nw a.1 in omega (arith, m, v))
-      (λ a. let pos = a.0 in absurd (omega arith)) (nearer k within)))
+  pub apart_both : (a b : ℕ) → ((n : ℕ) → n ≤ w → (nat_lt place (length xs) && starts_alike w x (get_or xs place 0) n) ≡ nat_lt n a)
+      → ((n : ℕ) → n ≤ w → (nat_lt (place - 1) (length xs) && starts_alike w x (get_or xs (place - 1) 0) n) ≡ nat_lt n b)
+      → (n : ℕ) → n ≤ w → list_any (λ v. starts_alike w x v n) xs ≡ nat_lt n (max b a)
+  apart_both a b here before n nw = sym (greater n a b ∙ alike_both n (nat_lt n a) (nat_lt n b) (sym (here n nw)) (sym (before n nw)))
     where
-      equal : (a b : ℕ) → a ≤ b → b ≤ a → a ≡ b
-      equal a b h k = omega arith
-
-      here : place < length xs → d ≡ deciding_one w x (as_prefix n (get_or xs place 0))
-      here within = is ∙ cond-true (nat_lt place (length xs)) (deciding_one w x (as_prefix n (get_or xs place 0))) 0 (true_nat_lt place (length xs) within)
-
-      less : (place < length xs) ⊎ (length xs ≤ place) → d ≤ deciding w x (map (as_prefix n) xs)
-      less (inl within) = let v = here within in let o = one_has n place within in omega (arith, v, o)
-      less (inr past) =
-          let none : d ≡ 0 = is ∙ cond-false (nat_lt place (length xs)) (deciding_one w x (as_prefix n (get_or xs place 0))) 0 (false_nat_lt place (length xs) past) in
-          omega arith
-
-  pub deciding_both : (n d e : ℕ) → n ≤ w → 0 < place → d ≡ (if nat_lt place (length xs) then deciding_one w x (as_prefix n (get_or xs place 0)) else 0)
-      → e ≡ (if nat_lt (place - 1) (length xs) then deciding_one w x (as_prefix n (get_or xs (place - 1) 0)) else 0)
-      → max e d ≡ deciding w x (map (as_prefix n) xs)
-  deciding_both n d e nw pos isd ise = equal d e (deciding w x (map (as_prefix n) xs)) (less place d isd (cases_lt place (length xs))) (less (place - 1) e ise (cases_lt (place - 1) (length xs)))
-      (bounded n (max e d) (λ k within. ⊎_elim
-      (λ a. let v = here place d isd a.0 in let m = decides_more w x (get_or xs k 0) (get_or xs place 0) n nw a.1 in right d e _ v m)
-      (λ a. let v = here (place - 1) e ise a.1 in let m = decides_more w x (get_or xs k 0) (get_or xs (place - 1) 0) n nw a.2 in left d e _ v m)
-      (nearer k within)))
-    where
-      equal : (d e b : ℕ) → d ≤ b → e ≤ b → b ≤ max e d → max e d ≡ b
-      equal d e b h i k = omega arith
-
-      right : (d e m : ℕ) {o : ℕ} → d ≡ o → m ≤ o → m ≤ max e d
-      right d e m h k = omega arith
-
-      left : (d e m : ℕ) {o : ℕ} → e ≡ o → m ≤ o → m ≤ max e d
-      left d e m h k = omega arith
-
-      here : (k v : ℕ) → v ≡ (if nat_lt k (length xs) then deciding_one w x (as_prefix n (get_or xs k 0)) else 0) → k < length xs → v ≡ deciding_one w x (as_prefix n (get_or xs k 0))
-      here k v is within = is ∙ cond-true (nat_lt k (length xs)) (deciding_one w x (as_prefix n (get_or xs k 0))) 0 (true_nat_lt k (length xs) within)
-
-      less : (k v : ℕ) → v ≡ (if nat_lt k (length xs) then deciding_one w x (as_prefix n (get_or xs k 0)) else 0) → (k < length xs) ⊎ (length xs ≤ k) → v ≤ deciding w x (map (as_prefix n) xs)
-      less k v is (inl within) = let u = here k v is within in let o = one_has n k within in omega (arith, u, o)
-      less k v is (inr past) =
-          let none : v ≡ 0 = is ∙ cond-false (nat_lt k (length xs)) (deciding_one w x (as_prefix n (get_or xs k 0))) 0 (false_nat_lt k (length xs) past) in
-          omega arith
+      greater : (n a b : ℕ) → nat_lt n (max b a) ≡ (nat_lt n a || nat_lt n b)
+      greater n a b = grind (arith, nat_tests)
 
 -- ---- whether a number is reached, and taking one out
 
-pub reached : (floor : ℕ) (xs : List ℕ) (place : ℕ) (t : Bool) → IsPlace floor xs place → t ≡ nat_lt place (length xs) → t ≡ list_any (λ n. nat_le floor n) xs
-reached floor xs place t is et = same_tests t (list_any (λ n. nat_le floor n) xs) to back
+-- the last number is the greatest
+pub reached : (floor : ℕ) (xs : List ℕ) (n greatest : ℕ) → IsNonDecreasing xs → n ≡ length xs → 0 < n → greatest ≡ get_or xs (n - 1) greatest → nat_le floor greatest ≡ list_any (λ v. nat_le floor v) xs
+reached floor xs n greatest rising all some is = same_tests (nat_le floor greatest) (list_any (λ v. nat_le floor v) xs) to back
   where
-    to : t ≡ true → list_any (λ n. nat_le floor n) xs ≡ true
-    to h =
-        let within : place < length xs = nat_lt_true place (length xs) (sym et ∙ h) in
-        any_from (λ n. nat_le floor n) (get_or xs place 0) xs (among_at xs place 0 within) (true_nat_le floor (get_or xs place 0) (is.from place (le_refl place) within))
+    to : nat_le floor greatest ≡ true → list_any (λ v. nat_le floor v) xs ≡ true
+    to h = any_from (λ v. nat_le floor v) (get_or xs (n - 1) greatest) xs (among_at xs (n - 1) greatest (omega (arith, all, some))) (ap (nat_le floor) (sym is) ∙ h)
 
-    back : list_any (λ n. nat_le floor n) xs ≡ true → t ≡ true
+    back : list_any (λ v. nat_le floor v) xs ≡ true → nat_le floor greatest ≡ true
     back h =
-        let m = any_among (λ n. nat_le floor n) xs h in
+        let m = any_among (λ v. nat_le floor v) xs h in
         let p = place_of_among m.0 xs m.1 in
-        let high : floor ≤ get_or xs p.0 0 = nat_le_true floor (get_or xs p.0 0) (ap (λ n. nat_le floor n) (sym (p.2 0)) ∙ m.2) in
-        et ∙ true_nat_lt place (length xs) (let here = p.1 in ⊎_elim (λ (low : p.0 < place). let b = is.below p.0 low in absurd (omega (arith, b, high))) (λ (up : place ≤ p.0). omega (arith, up, here)) (cases_lt p.0 place))
+        let here = p.1 in
+        let high : floor ≤ get_or xs p.0 greatest = nat_le_true floor (get_or xs p.0 greatest) (ap (nat_le floor) (sym (p.2 greatest)) ∙ m.2) in
+        let up = rising p.0 (n - 1) greatest (omega (arith, here, all)) (omega (arith, some, all)) in
+        true_nat_le floor greatest (omega (arith, high, up, is))
 
 -- the number whose place it is stands there, if it stands anywhere
 pub stands_there : (x : ℕ) (xs : List ℕ) (place : ℕ) → IsPlace x xs place → IsNonDecreasing xs → 0 < times x xs → (place < length xs) × (get_or xs place 0 ≡ x)

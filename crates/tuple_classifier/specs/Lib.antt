@@ -1,5 +1,6 @@
 pub mod ByTable
 pub mod Counts
+pub mod FieldLookups
 pub mod FieldPrefixes
 pub mod Indexes
 pub mod Live

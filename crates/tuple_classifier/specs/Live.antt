@@ -34,6 +34,10 @@ is_unlike number l = not (l.rule.number == number)
 abbrev pub given_by : Edit → ℕ → LiveRule → LiveRule
 given_by e given l = if picks e l.rule then (record { rule = record l.rule { cookie = unwrap_or e.cookie l.rule.cookie }; given = given }) else l
 
+-- the same, if it is the live rule of a number
+abbrev pub given_to : ℕ → Edit → ℕ → LiveRule → LiveRule
+given_to number e given l = if l.rule.number == number then given_by e given l else l
+
 -- the numbers of the rules rise
 abbrev pub IsRising : List Rule → Type 0
 IsRising [] = Unit {0}

@@ -36,12 +36,16 @@
 //! ranks:
 //!
 //! - by *stage*: for each part of the mask that a stage reaches, how many rules have each key under it;
-//! - by *prefix*: the values of the four addresses where the mask has a prefix of them, sorted. The neighbours of a value
-//!   in that order tell whether a rule begins so, and else how many leading bits decide that none does;
+//! - by *prefix*: the values of the four addresses where the mask has a prefix of them, sorted. No value has more leading
+//!   bits in common with a key than its neighbours in that order, so these tell whether a rule begins as the key does, and
+//!   how many leading bits decide it;
 //! - the priorities, sorted. A mask whose greatest is less than the winner's is not probed and consults nothing.
 //!
 //! `look` goes over the masks twice, first for the winner and then for the bits, since which masks are consulted depends
 //! on the winner. The order of the masks plays no part.
+//!
+//! Which lengths of prefixes match, and how many leading bits decide it, is a question to the prefixes of a field in all
+//! masks. The first mask that asks it has it answered for those after it, until the lookup ends (`FieldLookup`).
 //!
 //! The live rules stand beside the subtables in the order of their numbers, and each has the place of its actions among
 //! the lists of actions that edits gave. Looking up which rule an edit names is a probe as well. An add takes all memory
@@ -51,12 +55,12 @@
 //!
 //! - The winner takes one hash and one probe for each mask whose greatest priority isn't below the best one found so far,
 //!   however many rules have it.
-//! - The bits take three probes and up to four tests of prefixes for each mask whose greatest priority isn't below the
-//!   winner's. A test of a prefix searches the sorted values of each mask that has a prefix of that field, so the time
-//!   grows by the square of the masks.
-//! - An add or a strict delete takes a few probes, and moves what stands after its place in the sorted lists and among the
-//!   live rules.
-//! - A loose word and a strict modify pass once over the live rules.
+//! - The bits take up to three probes for each mask whose greatest priority isn't below the winner's, and for each field
+//!   of which such a mask has a prefix, one search in the sorted values of every mask that has one. So the time of a lookup
+//!   grows by the masks, and by the logarithm of the rules of each.
+//! - An add or a strict word takes a few probes. An add and a strict delete move what stands after their place in the
+//!   sorted lists and among the live rules.
+//! - A loose word passes once over the live rules.
 //! - The actions of an edit stay until the tables are dropped, even where no live rule has them any more.
 //!
 //! # What is left to others
@@ -68,6 +72,7 @@
 mod buckets;
 mod by_table;
 mod counts;
+mod field_lookup;
 mod indexes;
 mod live;
 mod lookup;

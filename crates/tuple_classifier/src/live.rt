@@ -1,15 +1,17 @@
-ghost use Rattle.std.specs.Prelude.{◌≡◌, ◌<◌, ◌≤◌, ◌+◌, ◌++◌, ◌∷◌, [], List, OnOk, OnErr, vec_len, vec_capacity, filter, map, length, slice_get, Some, IfSome, IsNone};
+ghost use Rattle.std.specs.Prelude.{◌≡◌, ℕ, ◌<◌, ◌≤◌, ◌+◌, ◌++◌, ◌∷◌, [], List, OnOk, OnErr, vec_len, vec_capacity, filter, map, length, slice_get, Some, IfSome, IsNone};
 ghost use Rattle.std.specs.List.Sorted.{IsNonDecreasingBy};
 ghost use Rattle.translation_laws.proofs.MemberLaws.{Among};
 ghost use Rattle.std.specs.Option.{option_map_or};
+ghost use Rattle.spec_actions.specs.declared.action.OfAction.{OfAction};
+ghost use Rattle.spec_tables.specs.declared.edit_word.EditWord.TheVariants.{ModifyStrict};
 ghost use Rattle.spec_tables.specs.Rules as seen;
 ghost use Rattle.tuple_classifier.specs.ByTable.{AreClassified, CountMoreRules};
-ghost use Rattle.tuple_classifier.specs.Live.{plain_rule, plain_rules, given_by, is_kept, is_unlike, IsRising};
+ghost use Rattle.tuple_classifier.specs.Live.{live_rules, plain_rule, plain_rules, given_by, given_to, is_kept, is_unlike, IsRising, AreOfVersion};
 ghost use Rattle.tuple_classifier.specs.declared.live.LiveRule.{LiveRule};
 
-use crate::by_table::{Table, insert_in, take_from};
+use crate::by_table::{Table, find_named, insert_in, take_from};
 use crate::rank::Rank;
-use rule_tables::{Edit, Rule};
+use rule_tables::{Edit, EditWord, Rule};
 use std::alloc::{AllocError, Global};
 
 /// A live rule, and where its actions are among the lists of actions.
@@ -82,12 +84,44 @@ pub(crate) fn place_of(live: &[LiveRule], number: u32) -> Option<usize>
     }
 }
 
-/// Gives the rules that an edit picks its cookie, if it has one, and the actions at a place.
-pub(crate) fn give_all(live: &mut [LiveRule], edit: &Edit, given: u32)
+/// Gives the rules that an edit picks its cookie, if it has one, and the actions at a place, passing over all.
+fn give_all(live: &mut [LiveRule], edit: &Edit, given: u32)
     ensures { live.new ≡ map (given_by edit.now given) live.old }
 {
     'live: for l in live.iter_mut() {
         l.give(edit, given);
+    }
+}
+
+/// Gives the rule of a number what an edit gives, if the edit picks it.
+fn give_numbered(live: &mut [LiveRule], number: u32, edit: &Edit, given: u32)
+    requires { IsRising (plain_rules live.old) }
+    ensures { live.new ≡ map (given_to number edit.now given) live.old }
+{
+    if let Some(place) = place_of(live, number) {
+        live[place].give(edit, given);
+    }
+}
+
+/// Gives the rule that a strict modify names what the edit gives. It is the only one that the edit picks.
+fn give_named(tables: &[Table], live: &mut [LiveRule], edit: &Edit, given: u32)
+    requires rising { IsRising (plain_rules live.old) }
+    requires word { edit.now.word ≡ ModifyStrict }
+    ensures { (lists : List (List OfAction)) (version : ℕ) → AreOfVersion (live_rules lists live.old) version → AreClassified tables.now (plain_rules live.old) → live.new ≡ map (given_by edit.now given) live.old }
+{
+    if let Some(number) = find_named(tables, edit) {
+        give_numbered(live, number, edit, given);
+    }
+}
+
+/// Gives the rules that a modify picks its cookie, if it has one, and the actions at a place.
+pub(crate) fn give(tables: &[Table], live: &mut [LiveRule], edit: &Edit, given: u32)
+    requires { IsRising (plain_rules live.old) }
+    ensures { (lists : List (List OfAction)) (version : ℕ) → AreOfVersion (live_rules lists live.old) version → AreClassified tables.now (plain_rules live.old) → live.new ≡ map (given_by edit.now given) live.old }
+{
+    match edit.word {
+        EditWord::ModifyStrict => give_named(tables, live, edit, given),
+        _ => give_all(live, edit, given),
     }
 }
 

@@ -9,20 +9,48 @@ ghost use Rattle.spec_tables.specs.Rules.{Rule, winner};
 ghost use Rattle.spec_xlate.specs.Lookup as xlate;
 ghost use Rattle.spec_xlate.specs.Lookup.{added, when, consults};
 ghost use Rattle.ovs_fields.specs.Packed.{numbers, bits};
+ghost use Rattle.tuple_classifier.specs.FieldLookups.{IsFieldLookup, IsKnown, AreKnown};
+ghost use Rattle.tuple_classifier.specs.FieldPrefixes.{IsOfField};
 ghost use Rattle.tuple_classifier.specs.Numbered.{AreDistinct};
-ghost use Rattle.tuple_classifier.specs.Parts.{AreSubtablesOf, of_mask, begins_in, deciding_in};
+ghost use Rattle.tuple_classifier.specs.Parts.{AreSubtablesOf, of_mask};
 ghost use Rattle.tuple_classifier.specs.Ranks.{rank_of, floor_of};
 ghost use Rattle.tuple_classifier.specs.Stages.{IsStage};
 ghost use Rattle.tuple_classifier.specs.Subtables.{IsSubtableOf};
 ghost use Rattle.tuple_classifier.specs.Tracked.{field_of};
 ghost use Rattle.tuple_classifier.specs.declared.subtable.Subtable.{Subtable};
 
+use crate::field_lookup::FieldLookup;
 use crate::prefix::leading;
+use crate::prefixes::FieldPrefixes;
 use crate::rank::{Rank, best_of_two};
 use crate::stage::Stage;
 use crate::subtable::Subtable;
 use crate::tracked::TrackedField;
 use ovs_fields::{Key, Mask, or, width};
+
+/// What is known so far of the fields of a key whose prefixes are tracked, in the course of one lookup.
+#[derive(Drop)]
+pub(crate) struct FieldLookups {
+    pub(crate) nw_src: Option<FieldLookup>,
+    pub(crate) nw_dst: Option<FieldLookup>,
+    pub(crate) ipv6_src: Option<FieldLookup>,
+    pub(crate) ipv6_dst: Option<FieldLookup>,
+}
+
+impl FieldLookups {
+    ghost use Rattle.tuple_classifier.specs.FieldLookups.{AreKnown};
+
+    fn none() -> FieldLookups
+        ensures { (key : List ℕ) (rs : List Rule) → AreKnown result key rs }
+    {
+        FieldLookups {
+            nw_src: None,
+            nw_dst: None,
+            ipv6_src: None,
+            ipv6_dst: None,
+        }
+    }
+}
 
 /// The number of the winner for a key. The bits that the lookup consults are added.
 pub(crate) fn look(subtables: &[Subtable], key: &Key, consulted: &mut Mask) -> Option<u32>
@@ -31,10 +59,11 @@ pub(crate) fn look(subtables: &[Subtable], key: &Key, consulted: &mut Mask) -> O
 {
     let best = winner_of(subtables, key);
     let floor = priority_to_beat(best);
+    let mut known = FieldLookups::none();
     'subtables: for i in 0..subtables.len() {
         let subtable = &subtables[i];
         if subtable.indexes.reaches(floor) {
-            probe(subtables, i, key, consulted);
+            probe(subtables, i, key, &mut known, consulted);
         }
     }
     number_of(best)
@@ -72,30 +101,55 @@ fn number_of(best: Option<Rank>) -> Option<u32>
 }
 
 /// Consults what one mask does.
-fn probe(subtables: &[Subtable], i: usize, key: &Key, consulted: &mut Mask)
+fn probe(
+    subtables: &[Subtable],
+    i: usize,
+    key: &Key,
+    known: &mut FieldLookups,
+    consulted: &mut Mask,
+)
     requires { i < length subtables.now }
-    ensures { (rs : List Rule) (s : Subtable) → AreSubtablesOf subtables.now rs → slice_get subtables.now i ≡ Some s → bits consulted.new ≡ added (bits consulted.old) (xlate.probe rs (numbers key.now) (bits s.mask)) }
+    ensures known { (rs : List Rule) → AreSubtablesOf subtables.now rs → AreKnown known.old (numbers key.now) rs → AreKnown known.new (numbers key.now) rs }
+    ensures consulted { (rs : List Rule) (s : Subtable) → AreSubtablesOf subtables.now rs → AreKnown known.old (numbers key.now) rs → slice_get subtables.now i ≡ Some s → bits consulted.new ≡ added (bits consulted.old) (xlate.probe rs (numbers key.now) (bits s.mask)) }
 {
     let subtable = &subtables[i];
     let indexes = &subtable.indexes;
     let a1 = stage_test(true, &indexes.metadata, key, consulted);
     let a2 = stage_test(a1, &indexes.ethernet, key, consulted);
-    let a3 = prefix_test(a2, subtables, subtable, TrackedField::NwSrc, key, consulted);
-    let a4 = prefix_test(a3, subtables, subtable, TrackedField::NwDst, key, consulted);
+    let a3 = prefix_test(
+        a2,
+        subtables,
+        &indexes.nw_src,
+        TrackedField::NwSrc,
+        key,
+        &mut known.nw_src,
+        consulted,
+    );
+    let a4 = prefix_test(
+        a3,
+        subtables,
+        &indexes.nw_dst,
+        TrackedField::NwDst,
+        key,
+        &mut known.nw_dst,
+        consulted,
+    );
     let a5 = prefix_test(
         a4,
         subtables,
-        subtable,
+        &indexes.ipv6_src,
         TrackedField::Ipv6Src,
         key,
+        &mut known.ipv6_src,
         consulted,
     );
     let a6 = prefix_test(
         a5,
         subtables,
-        subtable,
+        &indexes.ipv6_dst,
         TrackedField::Ipv6Dst,
         key,
+        &mut known.ipv6_dst,
         consulted,
     );
     let a7 = stage_test(a6, &indexes.network, key, consulted);
@@ -127,74 +181,48 @@ fn finish(alive: bool, mask: &Mask, consulted: &mut Mask)
 fn prefix_test(
     alive: bool,
     subtables: &[Subtable],
-    subtable: &Subtable,
+    prefixes: &FieldPrefixes,
     tracked: TrackedField,
     key: &Key,
+    known: &mut Option<FieldLookup>,
     consulted: &mut Mask,
 ) -> bool
-    ensures { (rs own : List Rule) → AreSubtablesOf subtables.now rs → IsSubtableOf subtable.now own → (further : List (List ℕ)) → added (bits consulted.old) (when alive (xlate.prefix_test rs (numbers key.now) (bits subtable.now.mask) (field_of tracked) further)) ≡ added (bits consulted.new) (when result further) }
+    ensures known { (rs : List Rule) → AreSubtablesOf subtables.now rs → IsKnown known.old (field_of tracked) (numbers key.now) rs → IsKnown known.new (field_of tracked) (numbers key.now) rs }
+    ensures consulted { (rs own : List Rule) (mask : List ℕ) → AreSubtablesOf subtables.now rs → IsKnown known.old (field_of tracked) (numbers key.now) rs → IsOfField prefixes.now (field_of tracked) mask own → (further : List (List ℕ)) → added (bits consulted.old) (when alive (xlate.prefix_test rs (numbers key.now) mask (field_of tracked) further)) ≡ added (bits consulted.new) (when result further) }
 {
     if !alive {
         return false;
     }
-    let prefixes = subtable.indexes.prefixes(tracked);
     if prefixes.length == 0 {
         return true;
     }
+    let lookup = field_lookup(subtables, tracked, key, known);
     let width = width(prefixes.field);
-    if some_begins(subtables, tracked, key, prefixes.length) {
+    if lookup.matches(prefixes.length) {
         consulted.add(prefixes.field, leading(width, prefixes.length));
         return true;
     }
-    let decided = deciding_of(subtables, tracked, key).min(prefixes.length);
+    let decided = lookup.deciding.min(prefixes.length);
     consulted.add(prefixes.field, leading(width, decided));
     false
 }
 
-/// Whether a field of a key begins with one of the prefixes of this length that the rules state.
-fn some_begins(subtables: &[Subtable], tracked: TrackedField, key: &Key, n: u32) -> bool
-    requires { 0 < n }
-    ensures { (rs : List Rule) → AreSubtablesOf subtables.now rs → result ≡ xlate.some_begins (width_of (field_of tracked)) (value_of (numbers key.now) (field_of tracked)) n (xlate.prefixes (field_of tracked) rs) }
+/// What the prefixes of a field tell of a key, which is found where it isn't known yet.
+fn field_lookup(
+    subtables: &[Subtable],
+    tracked: TrackedField,
+    key: &Key,
+    known: &mut Option<FieldLookup>,
+) -> FieldLookup
+    ensures known { (rs : List Rule) → AreSubtablesOf subtables.now rs → IsKnown known.old (field_of tracked) (numbers key.now) rs → IsKnown known.new (field_of tracked) (numbers key.now) rs }
+    ensures result { (rs : List Rule) → AreSubtablesOf subtables.now rs → IsKnown known.old (field_of tracked) (numbers key.now) rs → IsFieldLookup result (field_of tracked) (numbers key.now) rs }
 {
-    let mut found = false;
-    'subtables: for i in (0..subtables.len()).rev() {
-        let subtable = &subtables[i];
-        if begins_in(subtable, tracked, key, n) {
-            found = true;
+    match *known {
+        Some(lookup) => lookup,
+        None => {
+            let lookup = FieldLookup::new(subtables, tracked, key);
+            *known = Some(lookup);
+            lookup
         }
-    }
-    found
-}
-
-/// Whether a subtable has prefixes of this length, and a field of a key begins with one of them.
-fn begins_in(subtable: &Subtable, tracked: TrackedField, key: &Key, n: u32) -> bool
-    requires { 0 < n }
-    ensures { (rs : List Rule) → IsSubtableOf subtable.now rs → result ≡ begins_in (field_of tracked) (value_of (numbers key.now) (field_of tracked)) n (bits subtable.now.mask) rs }
-{
-    let prefixes = subtable.indexes.prefixes(tracked);
-    prefixes.length == n && prefixes.some_begins(key)
-}
-
-/// The deciding length of a field of a key for all the prefixes that the rules state.
-fn deciding_of(subtables: &[Subtable], tracked: TrackedField, key: &Key) -> u32
-    ensures { (rs : List Rule) → AreSubtablesOf subtables.now rs → result ≡ xlate.deciding (width_of (field_of tracked)) (value_of (numbers key.now) (field_of tracked)) (xlate.prefixes (field_of tracked) rs) }
-{
-    let mut most = 0;
-    'subtables: for i in (0..subtables.len()).rev() {
-        let subtable = &subtables[i];
-        most = deciding_in(subtable, tracked, key).max(most);
-    }
-    most
-}
-
-/// The deciding length of a field of a key for the prefixes of one mask's rules.
-fn deciding_in(subtable: &Subtable, tracked: TrackedField, key: &Key) -> u32
-    ensures { (rs : List Rule) → IsSubtableOf subtable.now rs → result ≡ deciding_in (field_of tracked) (value_of (numbers key.now) (field_of tracked)) (bits subtable.now.mask) rs }
-{
-    let prefixes = subtable.indexes.prefixes(tracked);
-    if prefixes.length == 0 {
-        0
-    } else {
-        prefixes.deciding(key)
     }
 }

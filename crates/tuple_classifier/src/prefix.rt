@@ -1,4 +1,4 @@
-ghost use Rattle.std.specs.Prelude.{◌≡◌, ◌≤◌, ◌-◌, ◌^◌};
+ghost use Rattle.std.specs.Prelude.{◌≡◌, ◌≤◌, ◌<◌, ◌-◌, ◌^◌, ℕ, nat_le};
 ghost use Rattle.spec_base.specs.Bits.{leading_bits};
 ghost use Rattle.spec_xlate.specs.Lookup as xlate;
 
@@ -35,42 +35,14 @@ pub(crate) fn prefix_length(width: u32, bits: u128) -> u32
     length
 }
 
-/// Whether two numbers have the same n leading bits.
-pub(crate) fn starts_alike(width: u32, x: u128, y: u128, n: u32) -> bool
-    requires within { n ≤ width }
+/// How many leading bits two numbers have in common.
+pub(crate) fn common_leading(width: u32, x: u128, y: u128) -> u32
     requires wide { width ≤ 128 }
-    ensures { result ≡ xlate.starts_alike width x y n }
+    requires x { x < 2 ^ width }
+    requires y { y < 2 ^ width }
+    ensures alike { (n : ℕ) → n ≤ width → xlate.starts_alike width x y n ≡ nat_le n result }
+    ensures within { result ≤ width }
 {
-    let mask = leading(width, n);
-    x & mask == y & mask
-}
-
-/// How many leading bits two numbers have in common, up to a length.
-#[tactic(auto, unfolding(spec_xlate::specs::Lookup::common_length))]
-fn common_length(width: u32, x: u128, y: u128, length: u32) -> u32
-    requires within { length ≤ width }
-    requires wide { width ≤ 128 }
-    ensures common { result ≡ xlate.common_length width x y length }
-    ensures within { result ≤ length }
-{
-    let mut common = 0;
-    for n in 0..length {
-        if starts_alike(width, x, y, n + 1) {
-            common = n + 1;
-        }
-    }
-    common
-}
-
-/// How many leading bits of x decide whether it begins with a prefix.
-pub(crate) fn deciding_one(width: u32, x: u128, value: u128, length: u32) -> u32
-    requires within { length ≤ width }
-    requires wide { width ≤ 128 }
-    ensures { result ≡ xlate.deciding_one width x (record { value = value; length = length }) }
-{
-    if starts_alike(width, x, value, length) {
-        length
-    } else {
-        common_length(width, x, value, length) + 1
-    }
+    let from_first_difference = u128::BITS - (x ^ y).leading_zeros();
+    width - from_first_difference
 }

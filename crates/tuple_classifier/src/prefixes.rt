@@ -1,14 +1,13 @@
-ghost use Rattle.std.specs.Prelude.{◌≡◌, ◌<◌, ◌≤◌, ◌^◌, ◌++◌, [], ◌∷◌, ℕ, List, All, map, OnOk, vec_len, vec_capacity};
+ghost use Rattle.std.specs.Prelude.{◌≡◌, ◌<◌, ◌≤◌, ◌^◌, ◌++◌, [], ◌∷◌, ℕ, List, All, nat_lt, OnOk, vec_len, vec_capacity};
 ghost use Rattle.std.specs.List.{list_any};
 ghost use Rattle.spec_keys.specs.declared.field_id.FieldId.{FieldId};
 ghost use Rattle.spec_keys.specs.Fields.{width_of};
 ghost use Rattle.spec_keys.specs.Keys.{value_of};
 ghost use Rattle.spec_tables.specs.Rules.{Rule};
-ghost use Rattle.spec_xlate.specs.Lookup as xlate;
 ghost use Rattle.ovs_fields.specs.Packed.{numbers, bits};
 ghost use Rattle.tuple_classifier.specs.Numbers.{times};
 ghost use Rattle.tuple_classifier.specs.Numbered.{AreDistinct, without};
-ghost use Rattle.tuple_classifier.specs.Prefixes.{prefix_with, begins_at};
+ghost use Rattle.tuple_classifier.specs.Prefixes.{begins_at};
 ghost use Rattle.translation_laws.proofs.MemberLaws.{Among};
 
 use crate::prefix::prefix_length;
@@ -71,24 +70,14 @@ impl FieldPrefixes {
         }
     }
 
-    /// Whether the field's number in a key begins with one of the prefixes, where there are some.
+    /// How many leading bits tell the field's number in a key from those in the keys of all the rules, where the mask
+    /// has a prefix: one more than the most that it has in common with one of them, and 0 where there are no rules.
     #[tactic(auto, using(crate::proofs::Widths::width_within))]
-    pub(crate) fn some_begins(&self, key: &Key) -> bool
+    pub(crate) fn bits_apart(&self, key: &Key) -> u32
         requires { 0 < self.now.length }
-        ensures { (f : FieldId) (mask : List ℕ) (rs : List Rule) → IsOfField self.now f mask rs → result ≡ list_any (begins_at f (value_of (numbers key.now) f) self.now.length) rs }
+        ensures { (f : FieldId) (mask : List ℕ) (rs : List Rule) → IsOfField self.now f mask rs → (n : ℕ) → n ≤ width_of f → list_any (begins_at f (value_of (numbers key.now) f) n) rs ≡ nat_lt n result }
     {
         let x = key.get(self.field);
-        self.values
-            .some_starts_alike(width(self.field), x, self.length)
-    }
-
-    /// The deciding length of the field's number in a key for the prefixes, where there are some.
-    #[tactic(auto, using(crate::proofs::Widths::width_within))]
-    pub(crate) fn deciding(&self, key: &Key) -> u32
-        requires { 0 < self.now.length }
-        ensures { (f : FieldId) (mask : List ℕ) (rs : List Rule) → IsOfField self.now f mask rs → result ≡ xlate.deciding (width_of f) (value_of (numbers key.now) f) (map (prefix_with f self.now.length) rs) }
-    {
-        let x = key.get(self.field);
-        self.values.deciding(width(self.field), x, self.length)
+        self.values.bits_apart(width(self.field), x)
     }
 }

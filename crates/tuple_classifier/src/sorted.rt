@@ -1,10 +1,10 @@
-ghost use Rattle.std.specs.Prelude.{◌≡◌, ◌&&◌, nat_lt, length, slice_index, ◌<◌, ◌≤◌, ◌+◌, ◌^◌, ◌==◌, ℕ, [], All, map, nat_le, if◌then◌else◌, vec_len, vec_capacity, OnOk, IsTrue};
+ghost use Rattle.std.specs.Prelude.{◌≡◌, ◌&&◌, nat_lt, length, slice_index, ◌<◌, ◌≤◌, ◌+◌, ◌^◌, ◌==◌, ℕ, [], All, nat_le, if◌then◌else◌, vec_len, vec_capacity, OnOk, IsTrue};
 ghost use Rattle.std.specs.List.{list_any};
 ghost use Rattle.std.specs.List.Sorted.{IsNonDecreasing};
 ghost use Rattle.spec_xlate.specs.Lookup as xlate;
-ghost use Rattle.tuple_classifier.specs.Numbers.{times, as_prefix};
+ghost use Rattle.tuple_classifier.specs.Numbers.{times};
 
-use crate::prefix::{deciding_one, starts_alike};
+use crate::prefix::common_leading;
 use std::alloc::{AllocError, Global};
 
 /// Numbers in rising order, each as often as it was put in.
@@ -61,40 +61,24 @@ impl SortedNumbers {
     pub(crate) fn reaches(&self, floor: u128) -> bool
         ensures { result ≡ list_any (λ n. nat_le floor n) self.now.items.items }
     {
-        first_from(&self.items, floor) < self.items.len()
+        let count = self.items.len();
+        count > 0 && self.items[count - 1] >= floor
     }
 
-    /// Whether one of the numbers has the n leading bits of x.
-    pub(crate) fn some_starts_alike(&self, width: u32, x: u128, n: u32) -> bool
-        requires within { n ≤ width }
+    /// How many leading bits tell x from all of the numbers: one more than the most that it has in common with one of
+    /// them, and 0 where there are none.
+    pub(crate) fn bits_apart(&self, width: u32, x: u128) -> u32
         requires wide { width ≤ 128 }
         requires fits { x < 2 ^ width }
         requires fit { All (λ v. v < 2 ^ width) self.now.items.items }
-        ensures { result ≡ list_any (λ v. xlate.starts_alike width x v n) self.now.items.items }
+        ensures { (n : ℕ) → n ≤ width → list_any (λ v. xlate.starts_alike width x v n) self.now.items.items ≡ nat_lt n result }
     {
         let place = first_from(&self.items, x);
-        let from = alike_at(&self.items, place, width, x, n);
+        let from = bits_apart_at(&self.items, place, width, x);
         if place == 0 {
             return from;
         }
-        from || alike_at(&self.items, place - 1, width, x, n)
-    }
-
-    /// The deciding length of x for the prefixes of one length with these numbers.
-    #[tactic(auto, unfolding(spec_xlate::specs::Lookup::deciding))]
-    pub(crate) fn deciding(&self, width: u32, x: u128, n: u32) -> u32
-        requires within { n ≤ width }
-        requires wide { width ≤ 128 }
-        requires fits { x < 2 ^ width }
-        requires fit { All (λ v. v < 2 ^ width) self.now.items.items }
-        ensures { result ≡ xlate.deciding width x (map (as_prefix n) self.now.items.items) }
-    {
-        let place = first_from(&self.items, x);
-        let from = deciding_at(&self.items, place, width, x, n);
-        if place == 0 {
-            return from;
-        }
-        deciding_at(&self.items, place - 1, width, x, n).max(from)
+        bits_apart_at(&self.items, place - 1, width, x).max(from)
     }
 }
 
@@ -108,23 +92,15 @@ fn first_from(items: &[u128], number: u128) -> usize
     items.partition_point(|item| *item < number)
 }
 
-/// Whether the number at a place, if there is one, has the n leading bits of x.
-fn alike_at(items: &[u128], place: usize, width: u32, x: u128, n: u32) -> bool
-    requires within { n ≤ width }
+/// How many leading bits tell x from the number at a place, and 0 if there is none.
+fn bits_apart_at(items: &[u128], place: usize, width: u32, x: u128) -> u32
     requires wide { width ≤ 128 }
-    ensures { result ≡ (nat_lt place (length items.now) && xlate.starts_alike width x (slice_index items.now place) n) }
-{
-    place < items.len() && starts_alike(width, x, items[place], n)
-}
-
-/// How many leading bits of x decide whether it begins with the number at a place, and none if there is none.
-fn deciding_at(items: &[u128], place: usize, width: u32, x: u128, n: u32) -> u32
-    requires within { n ≤ width }
-    requires wide { width ≤ 128 }
-    ensures { result ≡ (if nat_lt place (length items.now) then xlate.deciding_one width x (as_prefix n (slice_index items.now place)) else 0) }
+    requires fits { x < 2 ^ width }
+    requires fit { All (λ v. v < 2 ^ width) items.now }
+    ensures { (n : ℕ) → n ≤ width → (nat_lt place (length items.now) && xlate.starts_alike width x (slice_index items.now place) n) ≡ nat_lt n result }
 {
     if place < items.len() {
-        deciding_one(width, x, items[place], n)
+        common_leading(width, x, items[place]) + 1
     } else {
         0
     }

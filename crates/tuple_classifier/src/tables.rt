@@ -10,7 +10,7 @@ ghost use Rattle.tuple_classifier.specs.Versions.{no_rules, after};
 
 use crate::by_table::{Table, find_named};
 use crate::live::{
-    LiveRule, give_all, insert_live, keep_others, place_of, push_rule, take_picked, take_replaced,
+    LiveRule, give, insert_live, keep_others, place_of, push_rule, take_picked, take_replaced,
 };
 use crate::lookup::look;
 use ovs_fields::{Key, Mask};
@@ -159,7 +159,7 @@ impl Tables {
         self.lists.reserve(1)?;
         let given = self.lists.len() as u32;
         push_list(&mut self.lists, Actions::new(actions));
-        give_all(&mut self.live, edit, given);
+        give(&self.tables, &mut self.live, edit, given);
         self.version = version;
         Ok(())
     }

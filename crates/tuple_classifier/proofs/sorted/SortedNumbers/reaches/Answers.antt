@@ -1,10 +1,8 @@
-use Rattle.std.proofs.Common.{◌≡◌, subst, ap, ◌∙◌, arith, length}
-use Rattle.std.specs.Prelude.{nat_lt, vec_len}
-use Rattle.tuple_classifier.proofs.Nearest.{IsPlace, reached}
+use Rattle.std.proofs.Common.{◌≡◌, length, arith}
+use Rattle.tuple_classifier.proofs.Nearest.{reached}
 use Rattle.tuple_classifier.proofs.sorted.SortedNumbers.reaches.Goals as goal
 
-pub returns : goal.returns
-returns c =
-    let place : IsPlace c.args.floor c.deref.result.now c.first_from.result = record { within = c.first_from.ensures.within; below = c.first_from.ensures.below; from = c.first_from.ensures.from } in
-    let is : IsPlace c.args.floor c.args.self.now.items.items c.first_from.result = subst (λ xs. IsPlace c.args.floor xs c.first_from.result) c.deref.ensures.value place in
-    reached c.args.floor c.args.self.now.items.items c.first_from.result _ is (ap (nat_lt c.first_from.result) (c.len.ensures ∙ (let l : vec_len c.args.self.now.items ≡ length c.args.self.now.items.items = omega (arith, c.deref.ensures.len, ap length c.deref.ensures.value) in l)))
+pub returns-then-count-gt0 : goal.returns-then-count-gt0
+returns-then-count-gt0 c =
+    let all : c.len-count.result ≡ length c.args.self.now.items.items = (let l = c.args.self.now.items.ok.0 in omega (arith, l, c.len-count.ensures)) in
+    reached c.args.floor c.args.self.now.items.items c.len-count.result c.index.result.now c.args.self.now.rising all c.if-count-gt0.true c.index.ensures
