@@ -1,0 +1,10 @@
+pub mod EntryLaws
+pub mod FindLaws
+pub mod LiveLaws
+pub mod OverlapLaws
+pub mod OverlappingLaws
+pub mod RisingLaws
+pub mod SoundLaws
+pub mod StepLaws
+pub mod SubtableLaws
+pub mod WriteLaws

@@ -1,0 +1,46 @@
+use Rattle.std.proofs.Common.{ap, refl, sym, subst, ◌∙◌, None}
+use Rattle.ovs_fields.specs.Packed.{bits}
+use Rattle.megaflow_table.specs.Subtables.{ChangesOnly}
+use Rattle.megaflow_table.specs.Entries.{Flows}
+use Rattle.megaflow_table.proofs.WriteLaws.{not_live}
+use Rattle.megaflow_table.proofs.StepLaws.{less_table, less_flows}
+use Rattle.megaflow_table.proofs.megaflows.Megaflows.remove.Goals as goal
+
+pub unreachable-requires : goal.unreachable-requires
+unreachable-requires c = not_live c.self.inside c.args.number c.args.self.now c.self.view_is c.self.invariant c.requires (sym c.in_default.is ∙ c.swap_remove.ensures.value)
+
+pub invariant_of-self : goal.invariant_of-self
+invariant_of-self c =
+    less_table c.self.inside _ c.args.number c.in-Some.entry c.self.invariant (record {
+      at = sym c.in-Some.ensures.value;
+      items = c.remove_live.ensures.items;
+      len = c.remove_live.ensures.len;
+      capacity = c.remove_live.ensures.capacity;
+      entries = c.swap_remove.ensures.updates.0;
+      entries_room = c.swap_remove.ensures.room.0;
+      changes = subst (λ k. ChangesOnly c.self.inside.subtables c.remove_under.new.subtables (bits c.in-Some.entry.mask) k None) c.masked.ensures c.remove_under.ensures.changes;
+      subtables_room = c.remove_under.ensures.room;
+      fresh = refl;
+      room = refl;
+      limit = refl;
+    })
+
+pub returns : goal.returns
+returns c =
+    let flows = less_flows c.self.inside (record c.self.inside { live = c.remove_live.new.live; entries = c.swap_remove.new.self; subtables = c.remove_under.new.subtables }) c.args.number c.in-Some.entry c.self.invariant (record {
+      at = sym c.in-Some.ensures.value;
+      items = c.remove_live.ensures.items;
+      len = c.remove_live.ensures.len;
+      capacity = c.remove_live.ensures.capacity;
+      entries = c.swap_remove.ensures.updates.0;
+      entries_room = c.swap_remove.ensures.room.0;
+      changes = subst (λ k. ChangesOnly c.self.inside.subtables c.remove_under.new.subtables (bits c.in-Some.entry.mask) k None) c.masked.ensures c.remove_under.ensures.changes;
+      subtables_room = c.remove_under.ensures.room;
+      fresh = refl;
+      room = refl;
+      limit = refl;
+    }) c.args.self.now c.self.view_is in
+    record { entries = ap (λ (f : Flows). f.entries) flows; room = ap (λ (f : Flows). f.room) flows; limit = ap (λ (f : Flows). f.limit) flows }
+
+pub remove_live-requires-clause-is_live : goal.remove_live-requires-clause-is_live
+remove_live-requires-clause-is_live c = c.self.invariant.sound.within c.args.number c.in-Some.entry (sym c.in-Some.ensures.value)

@@ -1,0 +1,62 @@
+//! The megaflows of a port: entries by masked keys, no two of which overlap.
+//!
+//! # What?
+//!
+//! A translation tells which bits of a packet's key it consulted. Every packet with the same bits there has the same
+//! translation, so its actions are kept in a *megaflow*: a key, a mask and what to do with each packet whose key agrees
+//! with the first on the mask. A few megaflows then decide most packets, without the flow tables (Pfaff et al., "The
+//! Design and Implementation of Open vSwitch", NSDI 2015, section 4.2).
+//!
+//! Megaflows have no priorities. Two of them *overlap* where some key is covered by both, and here none do: so the
+//! first one that covers a key is the only one, and a lookup can end there. The order in which masks are probed plays no
+//! part in the answer.
+//!
+//! # What is promised
+//!
+//! Contracts see the table as a list of entries in rising order of their numbers, with the flow limit and the mask for
+//! which there is room (`specs/Entries`).
+//!
+//! - `find` answers the number of the entry that covers a key, as a scan of the list finds it.
+//! - `get`, `numbers`, `after` and `overlaps` answer by the list too, and `len` says what holds of any list that can
+//!   come: no two entries overlap, and the numbers rise.
+//! - `install` appends an entry, which must overlap none and have a greater number than all.
+//! - `hit`, `change` and `pay` change one entry as their names say, and `remove` takes one out. Everything else stays.
+//! - Only `reserve` and `overlaps` take memory, and where that is lacking nothing changed. What `reserve` made room for
+//!   is kept until the next `install`, whatever is removed or changed in between.
+//!
+//! # How
+//!
+//! The entries of one mask stand in one *subtable*, which has the number of each at its key under that mask, hashed. A
+//! lookup masks the key by one mask after the other and probes its subtable: one hash and one probe for each mask,
+//! however many entries have it. A subtable goes with its last entry, so that no lookup probes an empty one.
+//!
+//! `overlaps` goes by subtables too. Where the new mask covers that of a subtable, at most one entry there overlaps, and
+//! a probe finds it. Else each entry of the subtable is tested. So a new mask that covers all others costs one probe for
+//! each, and takes memory only where something overlaps.
+//!
+//! The entries themselves stand in a hash map by their numbers. The numbers stand in one sorted list beside it, which a
+//! walk over the entries goes by. Whoever installs gives the greatest number so far, so it is appended. A removal finds
+//! its place by a binary search and moves the numbers behind it.
+//!
+//! `reserve` makes room in each of these, and an empty subtable for the case that the mask is new.
+//!
+//! # What is left to others
+//!
+//! - Which entries are right: that the actions and the mask of an entry are those of a translation is for the board to
+//!   know. Its actions are a place among lists that the board keeps.
+//! - The flow limit is only kept and told. The board compares it with `len`.
+//! - Counts only grow by `hit`, which asks that they fit.
+//! - Masks aren't ranked by their hits. They are probed in the order in which they came, and the last one takes the place
+//!   of one that goes.
+#![tactic(auto)]
+
+mod entry;
+mod live;
+mod megaflows;
+mod overlaps;
+mod subtables;
+mod visits;
+
+pub use entry::Entry;
+pub use megaflows::Megaflows;
+pub use visits::Visits;

@@ -1,0 +1,227 @@
+ghost use Rattle.std.specs.Prelude.{◌≡◌, ◌<◌, [], ◌∷◌, ◌++◌, Some, None, length, false, nat_lt, filter, All, IsSome, IfOk, OnOk, OnErr};
+ghost use Rattle.std.specs.List.{find};
+ghost use Rattle.std.specs.Option.{option_copied, option_map};
+ghost use Rattle.ovs_fields.specs.Packed.{numbers, bits};
+ghost use Rattle.megaflow_table.specs.Entries.{entry_of, covering, numbers_of, overlaps, changed, without, hit_at, changed_to, paid, CanHit, ForEntry, AreDisjoint, AreRising};
+
+use crate::entry::Entry;
+use crate::live::{first_above, remove_live};
+use crate::overlaps::overlapping;
+use crate::subtables::{
+    Subtable, Subtables, insert_under, number_in, remove_under, reserve_fresh, reserve_under,
+};
+use crate::visits::Visits;
+use indexmap::IndexMap;
+use ovs_fields::{Key, Mask, masked};
+use std::alloc::{AllocError, Global};
+use std::marker::Model;
+
+/// The live megaflows of a port, no two of which overlap.
+#[derive(Drop)]
+pub struct Megaflows {
+    alloc: Global,
+    limit: u32,
+    /// The numbers of the live entries, in rising order.
+    live: Vec<u32>,
+    entries: IndexMap<u32, Entry>,
+    subtables: Subtables,
+    /// The mask for whose next entry there is room.
+    room: Option<Mask>,
+    /// An empty subtable with room for one entry, which a new mask takes.
+    fresh: Option<Subtable>,
+}
+
+impl Model for Megaflows {
+    ghost use Rattle.megaflow_table.specs.Entries.{Flows};
+
+    ghost Value = { Flows };
+
+    ghost use Rattle.megaflow_table.specs.Sound.{flows_in, IsTable};
+
+    ghost view = { flows_in };
+
+    ghost invariant = { IsTable };
+}
+
+impl Megaflows {
+    /// No entries, under a flow limit, which is only kept and told. It takes no memory.
+    pub fn new(alloc: Global, limit: u32) -> Megaflows
+        ensures limit { result.limit ≡ limit }
+        ensures entries { result.entries ≡ [] }
+        ensures room { result.room ≡ None }
+    {
+        Megaflows {
+            alloc,
+            limit,
+            live: Vec::new(alloc),
+            entries: IndexMap::new(alloc),
+            subtables: IndexMap::new(alloc),
+            room: None,
+            fresh: None,
+        }
+    }
+
+    /// How many entries are live. No two of them overlap, and they stand in rising order of their numbers.
+    pub fn len(&self) -> usize
+        ensures length { result ≡ length self.now.entries }
+        ensures disjoint { AreDisjoint self.now.entries }
+        ensures rising { AreRising self.now.entries }
+    {
+        self.live.len()
+    }
+
+    /// The flow limit.
+    pub fn limit(&self) -> u32
+        ensures { result ≡ self.now.limit }
+    {
+        self.limit
+    }
+
+    /// The numbers of the live entries, in rising order.
+    pub fn numbers(&self) -> &[u32]
+        ensures { result.now ≡ numbers_of self.now.entries }
+    {
+        &self.live
+    }
+
+    /// The live entry of a number.
+    pub fn get(&self, number: u32) -> Option<&Entry>
+        ensures { option_copied result ≡ entry_of number self.now.entries }
+    {
+        self.entries.get(&number)
+    }
+
+    /// The number of the entry that covers a key. It takes no memory, and one probe for each mask.
+    pub fn find(&self, key: &Key) -> Option<u32>
+        ensures { result ≡ option_map (λ e. e.number) (covering (numbers key.now) self.now.entries) }
+    {
+        'subtables: for i in 0..self.subtables.len() {
+            let Some((mask, subtable)) = self.subtables.get_index(i) else {
+                unreachable!()
+            };
+            let found = number_in(subtable, mask, key);
+            if found.is_some() {
+                return found;
+            }
+        }
+        None
+    }
+
+    /// The least live number that is above a number.
+    pub fn after(&self, number: u32) -> Option<u32>
+        ensures { result ≡ find (λ n. nat_lt number n) (numbers_of self.now.entries) }
+    {
+        first_above(&self.live, number)
+    }
+
+    /// The numbers of the entries that an entry of this key and mask would overlap, in rising order.
+    ///
+    /// It takes a probe for each mask that this one covers, and a test for each entry of the others. The only error is out
+    /// of memory.
+    pub fn overlaps(&self, key: &Key, mask: &Mask) -> Result<Vec<u32>, AllocError>
+        ensures { IfOk result (λ v. v.items ≡ numbers_of (filter (overlaps (numbers key.now) (bits mask.now)) self.now.entries)) }
+    {
+        let mut found = overlapping(self.alloc, &self.subtables, key, mask)?;
+        found.sort_unstable();
+        Ok(found)
+    }
+
+    /// An entry decided one more packet, of this many bytes, at this time in nanoseconds. It takes no memory.
+    pub fn hit(&mut self, number: u32, length: u32, time: u64)
+        requires { ForEntry number self.old.entries (CanHit length) }
+        ensures entries { self.new.entries ≡ changed number (hit_at length time) self.old.entries }
+        ensures room { self.new.room ≡ self.old.room }
+        ensures limit { self.new.limit ≡ self.old.limit }
+    {
+        let Some(entry) = self.entries.get_mut(&number) else {
+            unreachable!()
+        };
+        entry.hit(length, time);
+    }
+
+    /// Gives an entry the actions and visits of a version. Its counts stay. It takes no memory.
+    pub fn change(&mut self, number: u32, version: u32, actions: u32, visits: Visits)
+        requires { IsSome (entry_of number self.old.entries) }
+        ensures entries { self.new.entries ≡ changed number (changed_to version actions visits) self.old.entries }
+        ensures room { self.new.room ≡ self.old.room }
+        ensures limit { self.new.limit ≡ self.old.limit }
+    {
+        let Some(entry) = self.entries.get_mut(&number) else {
+            unreachable!()
+        };
+        entry.change(version, actions, visits);
+    }
+
+    /// Leaves an entry owing nothing. It takes no memory.
+    pub fn pay(&mut self, number: u32)
+        requires { IsSome (entry_of number self.old.entries) }
+        ensures entries { self.new.entries ≡ changed number paid self.old.entries }
+        ensures room { self.new.room ≡ self.old.room }
+        ensures limit { self.new.limit ≡ self.old.limit }
+    {
+        let Some(entry) = self.entries.get_mut(&number) else {
+            unreachable!()
+        };
+        entry.pay();
+    }
+
+    /// Takes an entry out. It takes no memory.
+    pub fn remove(&mut self, number: u32)
+        requires { IsSome (entry_of number self.old.entries) }
+        ensures entries { self.new.entries ≡ without number self.old.entries }
+        ensures room { self.new.room ≡ self.old.room }
+        ensures limit { self.new.limit ≡ self.old.limit }
+    {
+        let Some(entry) = self.entries.swap_remove(&number) else {
+            unreachable!()
+        };
+        remove_under(
+            &mut self.subtables,
+            &entry.mask,
+            &masked(&entry.key, &entry.mask),
+        );
+        remove_live(&mut self.live, number);
+    }
+
+    /// Makes room for one entry of a mask, in place of the room that there was.
+    ///
+    /// The only error is out of memory, and then all is as before.
+    pub fn reserve(&mut self, mask: &Mask) -> Result<(), AllocError>
+        ensures ok { OnOk result (self.new ≡ record self.old { room = Some (bits mask.now) }) }
+        ensures err { OnErr result (self.new ≡ self.old) }
+    {
+        self.live.reserve(1)?;
+        self.entries.reserve(1)?;
+        self.subtables.reserve(1)?;
+        reserve_under(&mut self.subtables, mask)?;
+        reserve_fresh(self.alloc, &mut self.fresh)?;
+        self.room = Some(*mask);
+        Ok(())
+    }
+
+    /// Adds an entry of the mask for which there is room, and uses the room up. It takes no memory.
+    pub fn install(&mut self, entry: Entry)
+        requires room { self.old.room ≡ Some (bits entry.mask) }
+        requires new { All (λ e. e.number < entry.number) self.old.entries }
+        requires free { All (λ e. overlaps (numbers entry.key) (bits entry.mask) e ≡ false) self.old.entries }
+        ensures entries { self.new.entries ≡ self.old.entries ++ entry ∷ [] }
+        ensures room { self.new.room ≡ None }
+        ensures limit { self.new.limit ≡ self.old.limit }
+    {
+        self.room = None;
+        let number = entry.number;
+        insert_under(
+            &mut self.subtables,
+            &mut self.fresh,
+            &entry.mask,
+            masked(&entry.key, &entry.mask),
+            number,
+        );
+        let Ok(_) = self.entries.insert(number, entry) else {
+            unreachable!()
+        };
+        let Ok(_) = self.live.push(number) else {
+            unreachable!()
+        };
+    }
+}
