@@ -1,0 +1,2 @@
+mod KeptSlots
+pub mod SameSlots
