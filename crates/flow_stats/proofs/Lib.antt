@@ -1,0 +1,2 @@
+mod Credits
+pub mod SameTotals
