@@ -10,11 +10,12 @@
 //!
 //! # What is promised
 //!
-//! `translate` answers an `Xlated`: the key, the version of the tables, both lists of the definition `pipe` of `spec_xlate`,
-//! and a mask with exactly the bits of the definition `consulted`. It does so for every key, all tables whose rules can be
-//! run (`pipe_model`'s `AreRunnable`), and every list of ports, under the same three limits as the plain interpreter.
+//! `translate` answers a `Translated`: the key, the version of the tables, both lists of the definition `pipe` of
+//! `spec_xlate`, and a mask with exactly the bits of the definition `consulted`. It does so for every key, all tables
+//! whose rules can be run (`pipe_model`'s `AreRunnable`), and every list of ports, under the same three limits as the
+//! plain interpreter.
 //!
-//! Of an `Xlated` callers learn what a megaflow needs (`IsSound`, specs/Xlates.antt): every clean key that agrees with the
+//! Of a `Translated` callers learn what a megaflow needs (`IsSound`, specs/Xlates.antt): every clean key that agrees with the
 //! packet's on the mask has the same translation, and consults the same bits. A key is clean where metadata and registers
 //! are 0, as they are in the key of each frame, and so none of their bits is in the mask.
 //!
@@ -39,7 +40,8 @@
 //! # What is left to others
 //!
 //! How rules are found, and which bits a lookup consults, are the classifier's. That the bits are enough is proved in
-//! `translation_laws`. What becomes of the megaflow is for the caches.
+//! `translation_laws`. Of which run a translation is, `run_xlate` has its type say. What becomes of the megaflow is for the
+//! caches.
 #![tactic(auto)]
 
 mod consulting;
@@ -47,8 +49,8 @@ mod fields;
 mod lookups;
 mod registers;
 mod switch;
+mod translated;
 mod translation;
-mod xlated;
 
+pub use translated::Translated;
 pub use translation::translate;
-pub use xlated::Xlated;

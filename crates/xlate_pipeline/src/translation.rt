@@ -9,7 +9,7 @@ use crate::consulting::consult_start;
 use crate::lookups::look;
 use crate::registers::without_registers;
 use crate::switch::Switch;
-use crate::xlated::Xlated;
+use crate::translated::Translated;
 use ovs_fields::{Key, Mask};
 use pipe_model::{DEEPEST, Translating};
 use std::alloc::{AllocError, Global};
@@ -26,7 +26,7 @@ pub fn translate(
     tables: &Tables,
     ports: &[u16],
     key: &Key,
-) -> Result<Xlated, AllocError>
+) -> Result<Translated, AllocError>
     requires { AreRunnable tables.now.rules }
     ensures key { IfOk result (λ x. x.key ≡ numbers key.now) }
     ensures version { IfOk result (λ x. x.version ≡ tables.now.number) }
@@ -40,5 +40,5 @@ pub fn translate(
     let mut state = Translating::start(alloc, key);
     look(&mut state, &mut mask, &sw, 0, DEEPEST + 1)?;
     let mask = without_registers(&mask);
-    Ok(Xlated::new(*key, tables.version(), state.finish(), mask))
+    Ok(Translated::new(*key, tables.version(), state.finish(), mask))
 }

@@ -8,14 +8,14 @@ use std::marker::Model;
 
 /// What the tables of a version make of a packet, and the bits of its key that decide it.
 #[derive(Debug, Drop)]
-pub struct Xlated {
+pub struct Translated {
     key: Key,
     version: u32,
     made: Plain,
     mask: Mask,
 }
 
-impl Model for Xlated {
+impl Model for Translated {
     ghost use Rattle.ovs_fields.specs.Packed.{numbers, bits};
     ghost use Rattle.pipe_model.specs.Plains.{translation_in};
     ghost use Rattle.xlate_pipeline.specs.Xlates.{Xlate};
@@ -25,14 +25,14 @@ impl Model for Xlated {
     ghost view = { λ x. record { key = numbers x.key; version = x.version; translation = translation_in x.made; mask = bits x.mask } };
 }
 
-impl Xlated {
+impl Translated {
     ghost use Rattle.pipe_model.specs.Plains.{translation_in};
 
     /// It takes no memory.
-    pub(crate) fn new(key: Key, version: u32, made: Plain, mask: Mask) -> Xlated
+    pub(crate) fn new(key: Key, version: u32, made: Plain, mask: Mask) -> Translated
         ensures { result ≡ record { key = numbers key; version = version; translation = translation_in made; mask = bits mask } }
     {
-        Xlated {
+        Translated {
             key,
             version,
             made,
