@@ -1,0 +1,11 @@
+pub mod ListLaws
+pub mod Kept
+pub mod Views
+pub mod Drops
+pub mod Settles
+pub mod Puts
+pub mod Anew
+pub mod Looks
+pub mod Hits
+pub mod SameTranslations
+pub mod HeldLists

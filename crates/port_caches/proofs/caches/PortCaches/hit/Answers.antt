@@ -1,0 +1,44 @@
+use Rattle.std.proofs.Common.{ℕ, ◌<◌, length, ap, sym, subst, ◌∙◌}
+use Rattle.std.specs.Prelude.{is_some, slice_set}
+use Rattle.port_caches.specs.Views.{Caches}
+use Rattle.port_caches.specs.Lists.{actions_at}
+use Rattle.port_caches.specs.Kept.{caches_in}
+use Rattle.port_caches.specs.Steps as steps
+use Rattle.port_caches.proofs.HeldLists.{held_list}
+use Rattle.port_caches.proofs.Hits.{can_hit, hit_kept, hit_is}
+use Rattle.port_caches.proofs.Kept.{kept_found}
+use Rattle.port_caches.proofs.caches.PortCaches.hit.Goals as goal
+
+pub named_by-version-requires : goal.named_by-version-requires
+named_by-version-requires c =
+    ap is_some (can_hit c.self.inside c.args.number c.args.length (subst (steps.CanHit c.args.number c.args.length) (sym c.self.view_is) c.requires)).1
+
+pub hit-requires : goal.hit-requires
+hit-requires c = can_hit c.self.inside c.args.number c.args.length (subst (steps.CanHit c.args.number c.args.length) (sym c.self.view_is) c.requires)
+
+pub hold-requires : goal.hold-requires
+hold-requires c =
+    let b = c.self.inside in
+    let there = can_hit b c.args.number c.args.length (subst (steps.CanHit c.args.number c.args.length) (sym c.self.view_is) c.requires) in
+    subst (λ (n : ℕ). n < length b.lists.items) (sym (c.named_by-version.ensures there.0 there.1).1)
+    (kept_found (length b.lists.items) b.made (length b.totals) b.flows.entries c.args.number there.0 c.self.invariant.entries there.1).list
+
+pub invariant_of-self : goal.invariant_of-self
+invariant_of-self c =
+    let b = c.self.inside in
+    let there = can_hit b c.args.number c.args.length (subst (steps.CanHit c.args.number c.args.length) (sym c.self.view_is) c.requires) in
+    let list = (c.named_by-version.ensures there.0 there.1).1 in
+    hit_kept b c.self.invariant c.args.number c.args.length c.args.time there.0 there.1 c.hit.new.self c.hold.new.lists c.hit.ensures.entries c.hit.ensures.limit
+    (c.hold.ensures.items ∙ ap (λ (n : ℕ). slice_set b.lists.items n (held_list (actions_at b.lists.items n))) list) c.hold.ensures.len c.hold.ensures.capacity
+
+pub returns : goal.returns
+returns c =
+    let b = c.self.inside in
+    let there = can_hit b c.args.number c.args.length (subst (steps.CanHit c.args.number c.args.length) (sym c.self.view_is) c.requires) in
+    let named = c.named_by-version.ensures there.0 there.1 in
+    let hit = hit_is b c.self.invariant c.args.number c.args.length c.args.time there.0 there.1 c.hit.new.self c.hold.new.lists c.hit.ensures.entries c.hit.ensures.limit
+    (c.hold.ensures.items ∙ ap (λ (n : ℕ). slice_set b.lists.items n (held_list (actions_at b.lists.items n))) named.1) c.hold.ensures.len c.hold.ensures.capacity in
+    let after = caches_in (record b { flows = c.hit.new.self; lists = c.hold.new.lists }) in
+    subst (λ (v : Caches). steps.IsHit c.args.number c.args.length c.args.time c.named_by-version.result.0 c.named_by-version.result.1 v after) c.self.view_is
+    (subst (λ (n : ℕ). steps.IsHit c.args.number c.args.length c.args.time n c.named_by-version.result.1 (caches_in b) after) (sym named.0)
+    (subst (λ (n : ℕ). steps.IsHit c.args.number c.args.length c.args.time there.0.version n (caches_in b) after) (sym named.1) hit))

@@ -1,0 +1,5 @@
+pub mod Lists
+pub mod Views
+pub mod Steps
+pub mod Drops
+pub mod Kept
