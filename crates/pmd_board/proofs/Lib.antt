@@ -1,2 +1,8 @@
-pub mod NamedLists
-pub mod Steps
+pub mod HeldLists
+pub mod Pushed
+pub mod Caches
+pub mod Sweeps
+pub mod LookedUp
+pub mod Settles
+pub mod Roomier
+pub mod Listed

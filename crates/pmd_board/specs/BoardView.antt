@@ -1,12 +1,21 @@
 -- What a board is seen as, and one more step of it.
-use Rattle.std.specs.Prelude.{◌≡◌, ℕ, List, [], ◌∷◌, ◌++◌, map}
+use Rattle.std.specs.Prelude.{◌≡◌, ℕ, ◌+◌, ◌-◌, ◌≤◌, List, [], ◌∷◌, ◌++◌, length, map, slice_get, All, AllPairs, Option, Some, None, IsSome, IsTrue}
+use Rattle.std.specs.Option.{option_and_then}
 use Rattle.spec_actions.specs.declared.action.DpAction.{DpAction}
-use Rattle.spec_case.specs.Run.{Run}
-use Rattle.spec_board.specs.Steps.{Step}
-use Rattle.spec_board.specs.State.{State}
+use Rattle.spec_case.specs.Run.{Run, frames_of}
+use Rattle.spec_board.specs.Steps.{Step, Open, Look, Settle, Begin, Put, End, Settled}
+use Rattle.spec_board.specs.State.{Entry, State, is_decided, place_at}
+use Rattle.spec_board.specs.Results.{entry_of}
 use Rattle.spec_board.specs.Journals as journals
 use Rattle.spec_board.specs.Decisions.{IsDecided}
+use Rattle.spec_board.specs.Counts.{IsAccounted}
 use Rattle.spec_board.specs.Texts.{Journal}
+use Rattle.megaflow_table.specs.declared.entry.Entry as flows
+use Rattle.port_caches.specs.declared.lists.HeldList.{HeldList}
+use Rattle.port_caches.specs.Views.{entry_view}
+use Rattle.board_laws.specs.Entries.{AreApart, IsRight}
+use Rattle.board_laws.specs.Versions.{HasVersionsInOrder, IsRecent}
+use Rattle.board_laws.specs.Places.{ArePlaces}
 
 -- its port, the most entries that it may have, and its journal
 pub record BoardView : Type 0 where
@@ -33,6 +42,43 @@ with_step step b = record b { journal = b.journal ++ step ∷ [] }
 pub record Appends (run : Run) (before : BoardView) (step : Step) (after : BoardView) : Type 0 where
   pub legal : journals.Legal run before.port before.flow_limit (state_of run before) step
   pub appended : after ≡ with_step step before
+
+-- What the laws of boards say of every board: the versions stand in order, and those of the entries; the places as
+-- they were looked up; no key is covered by two entries, and each entry has what a plain scan under its version gives,
+-- for every key that it covers; each frame that is decided is decided once, rightly, and within its window; and what a
+-- rule was credited with and what the entries owe it are together what it is due.
+pub record IsLawful (run : Run) (b : BoardView) : Type 0 where
+  pub versions : HasVersionsInOrder run (state_of run b)
+  pub places : ArePlaces run b.port (state_of run b)
+  pub next_within : (state_of run b).next ≤ length (frames_of run b.port) + 1
+  pub apart : AllPairs AreApart (state_of run b).entries
+  pub few : length (state_of run b).entries ≤ b.flow_limit
+  pub right : All (IsRight run) (state_of run b).entries
+  pub recent : All (IsRecent (state_of run b)) (state_of run b).entries
+  pub listed : All (λ n. IsSome (entry_of n (state_of run b).entries)) (state_of run b).listed
+  pub decided : (place : ℕ) → IsTrue (is_decided (place_at place (state_of run b))) → IsDecided run b.port b.journal place
+  pub accounted : (rule : ℕ) → IsAccounted run b.port b.journal rule
+
+-- The second board is the first with one more step, a legal settle of a place under a version.
+pub record HasSettled (run : Run) (before : BoardView) (place version : ℕ) (after : BoardView) : Type 0 where
+  pub result : Settled
+  pub appends : Appends run before (Settle place version result) after
+
+-- what the last step did, if it is a settle, beside deciding a frame
+abbrev pub settled_by : Step → Option Settled
+settled_by (Open block) = None
+settled_by (Look place r) = None
+settled_by (Settle place v r) = Some r
+settled_by (Begin v) = None
+settled_by (Put number v r) = None
+settled_by End = None
+
+abbrev pub last_settled : List Step → Option Settled
+last_settled steps = option_and_then settled_by (slice_get steps (length steps - 1))
+
+-- These are the entries of a state, whose actions stand elsewhere.
+abbrev pub AreEntries : List flows.Entry → List Entry → Type 0
+AreEntries kept entries = (lists : List HeldList) × (entries ≡ map (entry_view lists) kept)
 
 -- The frame of a place is decided once by the board's journal, under this version and with these actions.
 pub record IsDecision (run : Run) (b : BoardView) (place version : ℕ) (actions : List DpAction) : Type 0 where

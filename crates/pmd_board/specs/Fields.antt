@@ -1,24 +1,24 @@
 -- What a board's type keeps: its journal is legal, and its fields are those of the state that the journal leads to.
-use Rattle.std.specs.Prelude.{◌≡◌, ℕ, ◌+◌, ◌-◌, ◌^◌, ◌<◌, ◌≤◌, Bool, if◌then◌else◌, List, [], All, length, map, slice_get, slice_index_or, Some}
+use Rattle.std.specs.Prelude.{◌≡◌, ℕ, ◌+◌, ◌-◌, ◌^◌, ◌<◌, ◌≤◌, Bool, if◌then◌else◌, List, All, length, map, slice_get, Some}
 use Rattle.std.specs.Vec.{vec_len, vec_capacity}
-use Rattle.spec_actions.specs.declared.action.DpAction.{DpAction}
 use Rattle.spec_case.specs.Run.{Run, last_version, frames_of}
 use Rattle.spec_case.specs.Blocks.{AreInOrder, hi, last_block, last_place}
 use Rattle.spec_board.specs.State as states
 use Rattle.spec_board.specs.Journals.{IsLegal}
 use Rattle.board_laws.specs.Entries.{HasKeys}
-use Rattle.board_laws.specs.Versions.{HasVersionsInOrder}
-use Rattle.board_laws.specs.Places.{ArePlaces}
+use Rattle.pcap_reader.specs.Records.{IsShort}
 use Rattle.run_blocks.specs.Places.{HasPort}
-use Rattle.pmd_board.specs.BoardView.{BoardView, state_of}
 use Rattle.board_steps.specs.StepViews.{steps_view}
+use Rattle.port_caches.specs.declared.lists.HeldList.{HeldList}
+use Rattle.port_caches.specs.Views.{AreCachesOf, IsHeld, actions_at}
+use Rattle.pmd_board.specs.BoardView.{BoardView, IsLawful, state_of}
 use Rattle.pmd_board.specs.declared.place.Place.{Place}
 use Rattle.pmd_board.specs.declared.place.Place.TheVariants.{Waiting, Pending, Decided}
 use Rattle.pmd_board.specs.declared.place.BlockBounds.{BlockBounds}
 use Rattle.pmd_board.specs.declared.board.Board.TheInside.{Inside}
 
 abbrev pub view_of : {X : Type 0} → Inside X → BoardView
-view_of b = record { port = b.port; flow_limit = 0; journal = steps_view b.journal.items }
+view_of b = record { port = b.port; flow_limit = b.caches.limit; journal = steps_view b.journal.items }
 
 -- ---- parts of the state
 
@@ -31,22 +31,31 @@ pub record AreVersionsOf {X : Type 0} (b : Inside X) (s : states.State) : Type 0
   pub is_sweeping : s.is_sweeping ≡ b.sweeping
 
 -- a place, with its actions where it is decided
-abbrev pub place_view : List (List DpAction) → Place → states.Place
+abbrev pub place_view : List HeldList → Place → states.Place
 place_view lists Waiting = states.Waiting
 place_view lists Pending = states.Pending
-place_view lists (Decided v list) = states.Decided v (slice_index_or lists list [])
+place_view lists (Decided v list) = states.Decided v (actions_at lists list)
 
--- The list that a decided place names is there.
-abbrev pub NamesList : ℕ → Place → Type 0
-NamesList count Waiting = Unit {0}
-NamesList count Pending = Unit {0}
-NamesList count (Decided v list) = list < count
+-- The list that a decided place names is there, and stays.
+abbrev pub NamesList : List HeldList → Place → Type 0
+NamesList lists Waiting = Unit {0}
+NamesList lists Pending = Unit {0}
+NamesList lists (Decided v list) = IsHeld lists list (actions_at lists list)
 
 -- The places are those of a state, and how many are pending.
 pub record ArePlacesOf {X : Type 0} (b : Inside X) (s : states.State) : Type 0 where
   pub next : s.next ≡ b.next
+  pub clock : s.clock ≡ b.clock
   pub pending : states.pending_count s ≡ b.pending
-  pub views : s.places ≡ map (place_view b.lists.items) b.places.items
+  pub views : s.places ≡ map (place_view b.caches.lists) b.places.items
+  pub named : All (NamesList b.caches.lists) b.places.items
+
+-- The caches, and what a sweep has yet to put, are those of a state. No more entries were made than frames decided.
+pub record HasCachesOf {X : Type 0} (run : Run) (b : Inside X) (s : states.State) : Type 0 where
+  pub caches : AreCachesOf b.caches s
+  pub listed : s.listed ≡ b.listed
+  pub rules : b.caches.rules ≡ last_version run
+  pub made : b.caches.made + b.pending + 1 ≤ b.next
 
 -- ---- what the fields keep besides
 
@@ -56,26 +65,21 @@ pub record AreBounds (run : Run) (port : ℕ) (blocks : List BlockBounds) : Type
   pub count : length blocks ≡ last_block run + 1
 
 -- the steps for which a board has room at any time: a look of each frame that is left, an opening of each block that
--- is left, and the end of a sweep that runs
-abbrev pub steps_left : ℕ → ℕ → ℕ → ℕ → Bool → ℕ
-steps_left frames next last block is_sweeping = (frames + 1 - next) + (last - block) + (if is_sweeping then 1 else 0)
+-- is left, and, where a sweep runs, a put of each entry that is listed and the end of the sweep
+abbrev pub steps_left : ℕ → ℕ → ℕ → ℕ → Bool → ℕ → ℕ
+steps_left frames next last block is_sweeping listed = (frames + 1 - next) + (last - block) + (if is_sweeping then listed + 1 else 0)
 
--- Places and blocks have numbers of 32 bits, and the journal has room for these steps.
+-- Places, blocks and entries have numbers of 32 bits, frames are short, and there is room for these steps in the journal,
+-- and for a list of actions of each put.
 pub record HasRoom {X : Type 0} (run : Run) (b : Inside X) : Type 0 where
   pub few_places : vec_len b.places + 1 < 2 ^ 32
   pub few_blocks : vec_len b.blocks < 2 ^ 32
+  pub few_entries : b.caches.limit < 2 ^ 32
+  pub few_listed : length b.listed ≤ b.caches.limit
   pub places : length b.places.items ≡ vec_len b.places
-  pub lists : length b.lists.items ≡ vec_len b.lists
-  pub steps : vec_len b.journal + steps_left (vec_len b.places) b.next (last_block run) b.block b.sweeping ≤ vec_capacity b.journal
-
--- What the laws of boards say of the state that a legal journal leads to, where there may be no entries; at hand for
--- every call.
-pub record IsLawful (run : Run) (port : ℕ) (s : states.State) : Type 0 where
-  pub versions : HasVersionsInOrder run s
-  pub places : ArePlaces run port s
-  pub next_within : s.next ≤ length (frames_of run port) + 1
-  pub no_entries : s.entries ≡ []
-  pub none_listed : s.listed ≡ []
+  pub short : All IsShort (frames_of run b.port)
+  pub steps : vec_len b.journal + steps_left (vec_len b.places) b.next (last_block run) b.block b.sweeping (length b.listed) ≤ vec_capacity b.journal
+  pub lists : length b.listed ≤ b.caches.room
 
 -- ---- all of it
 
@@ -84,11 +88,11 @@ pub record IsLawful (run : Run) (port : ℕ) (s : states.State) : Type 0 where
 pub record IsKept {X : Type 0} (run : Run) (b : Inside X) : Type 0 where
   pub has_port : HasPort run.ports b.port
   pub in_order : AreInOrder run.syncs (last_version run)
-  pub legal : IsLegal run b.port 0 (steps_view b.journal.items)
+  pub legal : IsLegal run b.port b.caches.limit (steps_view b.journal.items)
   pub has_keys : HasKeys run b.port (state_of run (view_of b)).next
-  pub lawful : IsLawful run b.port (state_of run (view_of b))
+  pub lawful : IsLawful run (view_of b)
   pub versions : AreVersionsOf b (state_of run (view_of b))
   pub places : ArePlacesOf b (state_of run (view_of b))
-  pub named : All (NamesList (length b.lists.items)) b.places.items
+  pub caches : HasCachesOf run b (state_of run (view_of b))
   pub bounds : AreBounds run b.port b.blocks.items
   pub room : HasRoom run b

@@ -1,2 +1,3 @@
+pub mod SweepLists
 pub mod BoardView
 pub mod Fields

@@ -1,29 +1,26 @@
-ghost use Rattle.std.specs.Prelude.{ℕ, ◌≡◌, ◌⊎◌, ◌<◌, ◌≤◌, ◌+◌, ◌^◌, [], IfOk, IfErr, IfSome, IfNone, Some, None, true, false};
+ghost use Rattle.std.specs.Prelude.{ℕ, ◌≡◌, ◌<◌, ◌≤◌, ◌+◌, ◌^◌, [], nat_lt, length, IfOk, IfSome, IfNone, IsSome, Some, None, true, false};
+ghost use Rattle.std.specs.List.{find};
+ghost use Rattle.std.specs.Option.{option_map};
 ghost use Rattle.ovs_fields.specs.Packed.{numbers};
-ghost use Rattle.spec_case.specs.Run.{last_version};
+ghost use Rattle.spec_case.specs.Run.{frames_of, last_version};
 ghost use Rattle.spec_case.specs.Blocks.{AreInOrder, hi, last_block, last_place};
-ghost use Rattle.spec_board.specs.declared.looked.Looked.TheVariants.{Miss};
-ghost use Rattle.spec_board.specs.declared.faults.SettleFault.TheVariants as settle_faults;
-ghost use Rattle.spec_board.specs.declared.faults.BeginFault.TheVariants as begin_faults;
-ghost use Rattle.spec_board.specs.Steps as steps;
 ghost use Rattle.spec_board.specs.State as states;
-ghost use Rattle.spec_board.specs.Results.{translated};
+ghost use Rattle.spec_board.specs.Results.{entry_of};
 ghost use Rattle.spec_board.specs.Journals.{IsLegal};
-ghost use Rattle.spec_board.specs.Decisions.{IsDecided};
-ghost use Rattle.spec_board.specs.Refusals.{is_next_block, open_fault, look_fault, settle_fault, begin_fault, end_fault};
 ghost use Rattle.run_blocks.specs.Places.{HasPort};
 ghost use Rattle.board_laws.specs.Entries.{HasKeys};
-ghost use Rattle.board_laws.specs.Versions.{HasVersionsInOrder};
-ghost use Rattle.board_laws.specs.Places.{ArePlaces};
-ghost use Rattle.pmd_board.specs.BoardView.{Appends, IsDecision, state_of};
+ghost use Rattle.pmd_board.specs.BoardView.{AreEntries, IsDecision, IsLawful, last_settled, state_of};
+ghost use Rattle.flow_stats.specs.Sums.{total_of};
 ghost use Rattle.pmd_board.specs.Fields.{AreBounds, steps_left as left};
 ghost use Rattle.board_steps.specs.StepViews.{settled_view, steps_view};
 
 use crate::place::{BlockBounds, Place};
+use crate::sweep_list::SweepList;
 use board_steps::{Settled, Step};
-use dp_actions::{ActionList, DpAction};
-use run_case::{Case, Keyed, RunData};
-use spec_board::{BeginFault, EndFault, LookFault, Looked, OpenFault, SettleFault};
+use dp_actions::DpAction;
+use ovs_fields::Key;
+use port_caches::{Megaflows, PortCaches, Totals};
+use run_case::{Case, RunData};
 use std::alloc::{AllocError, Global};
 use std::marker::{Model, PhantomData};
 
@@ -32,19 +29,24 @@ use std::marker::{Model, PhantomData};
 /// Its type keeps that its journal is legal, and that its fields are those of the state that the journal leads to.
 #[derive(Drop)]
 pub struct Board<C: Case> {
-    port: u16,
-    blocks: Vec<BlockBounds>,
-    block: u32,
-    newest: u32,
-    floor: u32,
-    done: u32,
-    sweeping: bool,
-    next: u32,
-    pending: u32,
-    places: Vec<Place>,
-    lists: Vec<ActionList>,
-    journal: Vec<Step>,
-    of: PhantomData<C>,
+    pub(crate) alloc: Global,
+    pub(crate) port: u16,
+    pub(crate) blocks: Vec<BlockBounds>,
+    pub(crate) block: u32,
+    pub(crate) newest: u32,
+    pub(crate) floor: u32,
+    pub(crate) done: u32,
+    pub(crate) sweeping: bool,
+    /// The entries that the sweep has yet to put.
+    pub(crate) listed: SweepList,
+    pub(crate) next: u32,
+    /// The newest time of a frame that was looked up.
+    pub(crate) clock: u64,
+    pub(crate) pending: u32,
+    pub(crate) places: Vec<Place>,
+    pub(crate) caches: PortCaches,
+    pub(crate) journal: Vec<Step>,
+    pub(crate) of: PhantomData<C>,
 }
 
 impl<C: Case> Model for Board<C> {
@@ -52,6 +54,7 @@ impl<C: Case> Model for Board<C> {
 
     ghost Value = { BoardView };
 
+    ghost use Rattle.flow_stats.specs.Sums.{total_of};
     ghost use Rattle.pmd_board.specs.Fields.{view_of, IsKept};
 
     ghost view = { view_of };
@@ -60,18 +63,25 @@ impl<C: Case> Model for Board<C> {
 }
 
 // For how many steps a board needs room at any time: a look of each frame that is left, an opening of each block that
-// is left, and the end of a sweep that runs.
-fn steps_left(frames: usize, next: u32, last: usize, block: u32, sweeping: bool) -> usize
+// is left, and where a sweep runs the puts of what it has yet to put and its end.
+fn steps_left(
+    frames: usize,
+    next: u32,
+    last: usize,
+    block: u32,
+    sweeping: bool,
+    listed: usize,
+) -> usize
     requires next { next ≤ frames + 1 }
     requires block { block ≤ last }
-    requires few { (frames + 1 < 2 ^ 32) × (last < 2 ^ 32) }
-    ensures left { result ≡ left frames next last block sweeping }
-    ensures few { result < 2 ^ 34 }
+    requires few { (frames + 1 < 2 ^ 32) × ((last < 2 ^ 32) × (listed < 2 ^ 32)) }
+    ensures left { result ≡ left frames next last block sweeping listed }
+    ensures few { result < 2 ^ 35 }
 {
     let looks = frames + 1 - next as usize;
     let opens = last - block as usize;
-    let ends = if sweeping { 1 } else { 0 };
-    looks + opens + ends
+    let puts = if sweeping { listed + 1 } else { 0 };
+    looks + opens + puts
 }
 
 // The bounds of the blocks of a port.
@@ -94,16 +104,22 @@ fn bounds_of<C: Case>(
 }
 
 impl<C: Case> Board<C> {
-    /// A new board of a port. It takes memory for all looks, settles and openings of blocks.
-    pub fn new(alloc: Global, run: &RunData<C>, port: u16) -> Result<Board<C>, AllocError>
+    /// A new board of a port, with at most so many megaflows. It takes memory for all looks and openings of blocks.
+    pub fn new(
+        alloc: Global,
+        run: &RunData<C>,
+        port: u16,
+        flow_limit: u32,
+    ) -> Result<Board<C>, AllocError>
         requires { HasPort C.run.ports port }
-        ensures { IfOk result (λ b. b ≡ record { port = port; flow_limit = 0; journal = [] }) }
+        ensures { IfOk result (λ b. b ≡ record { port = port; flow_limit = flow_limit; journal = [] }) }
     {
         let frames = run.frames(port) as usize;
         let blocks = bounds_of(alloc, run, port)?;
         let mut journal = Vec::new(alloc);
         journal.reserve(2 * frames + 3 * blocks.len())?;
         Ok(Board {
+            alloc,
             port,
             blocks,
             block: 0,
@@ -111,10 +127,12 @@ impl<C: Case> Board<C> {
             floor: 0,
             done: 0,
             sweeping: false,
+            listed: SweepList::new(alloc),
             next: 1,
+            clock: 0,
             pending: 0,
             places: vec![in alloc; Place::Waiting; frames]?,
-            lists: Vec::new(alloc),
+            caches: PortCaches::new(alloc, flow_limit, run.last_version())?,
             journal,
             of: PhantomData,
         })
@@ -128,19 +146,17 @@ impl<C: Case> Board<C> {
         self.port
     }
 
-    /// The most entries that it may have: none.
+    /// The most megaflows that it may have.
     pub fn flow_limit(&self) -> u32
-        ensures same { result ≡ self.now.flow_limit }
-        ensures none { result ≡ 0 }
+        ensures { result ≡ self.now.flow_limit }
     {
-        let _ = &self.port;
-        0
+        self.caches.limit()
     }
 
     /// The block that it is in, from 0.
     pub fn block(&self) -> u32
         ensures same { result ≡ (state_of C.run self.now).block }
-        ensures versions { HasVersionsInOrder C.run (state_of C.run self.now) }
+        ensures lawful { IsLawful C.run self.now }
     {
         self.block
     }
@@ -148,7 +164,7 @@ impl<C: Case> Board<C> {
     /// The version at which the last sweep began.
     pub fn floor(&self) -> u32
         ensures same { result ≡ (state_of C.run self.now).floor }
-        ensures versions { HasVersionsInOrder C.run (state_of C.run self.now) }
+        ensures lawful { IsLawful C.run self.now }
     {
         self.floor
     }
@@ -156,7 +172,7 @@ impl<C: Case> Board<C> {
     /// The version at which the last sweep began that was ended.
     pub fn done(&self) -> u32
         ensures same { result ≡ (state_of C.run self.now).done }
-        ensures versions { HasVersionsInOrder C.run (state_of C.run self.now) }
+        ensures lawful { IsLawful C.run self.now }
     {
         self.done
     }
@@ -164,7 +180,7 @@ impl<C: Case> Board<C> {
     /// The place of the frame that is to be looked up next, from 1; one beyond the trace where all were.
     pub fn next(&self) -> u32
         ensures same { result ≡ (state_of C.run self.now).next }
-        ensures places { ArePlaces C.run self.now.port (state_of C.run self.now) }
+        ensures lawful { IsLawful C.run self.now }
     {
         self.next
     }
@@ -195,9 +211,19 @@ impl<C: Case> Board<C> {
         ensures legal { IsLegal C.run self.now.port self.now.flow_limit self.now.journal }
         ensures keys { HasKeys C.run self.now.port (state_of C.run self.now).next }
         ensures in_order { AreInOrder C.run.syncs (last_version C.run) }
-        ensures told { (place : ℕ) → states.is_decided (states.place_at place (state_of C.run self.now)) ≡ true → IsDecided C.run self.now.port self.now.journal place }
+        ensures lawful { IsLawful C.run self.now }
     {
         self.journal.as_slice()
+    }
+
+    /// What the last step did, if it is a settle, beside deciding a frame.
+    pub fn last_settled(&self) -> Option<&Settled>
+        ensures { option_map (λ r. settled_view r.now) result ≡ last_settled self.now.journal }
+    {
+        match self.journal.last()? {
+            Step::Settle { result, .. } => Some(result),
+            _ => None,
+        }
     }
 
     // What is kept of the decision of a place's frame.
@@ -209,7 +235,7 @@ impl<C: Case> Board<C> {
             return None;
         }
         match self.places[place as usize - 1] {
-            Place::Decided { version, list } => Some((version, self.lists[list].as_slice())),
+            Place::Decided { version, list } => Some((version, self.caches.actions(list))),
             _ => None,
         }
     }
@@ -229,263 +255,64 @@ impl<C: Case> Board<C> {
         }
     }
 
-    fn is_next(&self, block: u32) -> bool
-        ensures { result ≡ is_next_block C.run (state_of C.run self.now) block }
+    /// The megaflows. Their actions are those of `actions`.
+    pub fn entries(&self) -> &Megaflows
+        ensures entries { AreEntries result.now.entries (state_of C.run self.now).entries }
+        ensures lawful { IsLawful C.run self.now }
     {
-        (block == self.block + 1) & ((block as usize) < self.blocks.len())
+        self.caches.entries()
     }
 
-    // The last place of its block.
-    fn last_place(&self) -> u32
-        ensures { result ≡ last_place C.run self.now.port (state_of C.run self.now).block }
+    /// The actions of a live megaflow.
+    pub fn actions(&self, number: u32) -> &[DpAction]
+        requires { IsSome (entry_of number (state_of C.run self.now).entries) }
+        ensures { option_map (λ e. e.actions) (entry_of number (state_of C.run self.now).entries) ≡ Some result.now }
     {
-        self.blocks[self.block as usize].last_place
+        self.caches.entry_actions(number)
     }
 
-    // The newest version that its block allows.
-    fn hi(&self) -> u32
-        ensures { result ≡ hi C.run (state_of C.run self.now).block }
+    /// What each rule was credited with. What entries owe it comes on top.
+    pub fn totals(&self) -> &Totals
+        ensures rules { length result.now ≡ last_version C.run }
+        ensures totals { (rule : ℕ) → total_of result.now rule ≡ (state_of C.run self.now).totals rule }
+        ensures lawful { IsLawful C.run self.now }
     {
-        self.blocks[self.block as usize].hi
+        self.caches.totals()
     }
 
-    fn last_block(&self) -> u32
-        ensures { result ≡ last_block C.run }
+    /// The least entry above a number that the sweep has yet to put, and its key; `None` exactly where there is none.
+    pub fn next_check(&self, after: u32) -> Option<(u32, Key)>
+        ensures some { IfSome result (λ r. (find (λ n. nat_lt after n) (state_of C.run self.now).listed ≡ Some r.0)
+            × (option_map (λ e. e.key) (entry_of r.0 (state_of C.run self.now).entries) ≡ Some (numbers r.1))) }
+        ensures none { IfNone result (find (λ n. nat_lt after n) (state_of C.run self.now).listed ≡ None) }
     {
-        (self.blocks.len() - 1) as u32
-    }
-
-    fn pending(&self) -> u32
-        ensures { result ≡ states.pending_count (state_of C.run self.now) }
-    {
-        self.pending
-    }
-
-    fn open_refusal(&self, block: u32) -> Option<OpenFault>
-        ensures { result ≡ open_fault C.run self.now.port (state_of C.run self.now) block }
-    {
-        if !self.is_next(block) {
-            return Some(OpenFault::Order {
-                block: self.block(),
-                last: self.last_block(),
-            });
-        }
-        if self.next() <= self.last_place() {
-            return Some(OpenFault::LooksLeft { next: self.next() });
-        }
-        let pending = self.pending();
-        if pending != 0 {
-            return Some(OpenFault::Pending(pending));
-        }
-        let lo = self.hi();
-        if self.done() < lo {
-            return Some(OpenFault::Unswept {
-                done: self.done(),
-                lo,
-            });
-        }
-        None
-    }
-
-    fn look_refusal(&self, at: &Keyed<C>) -> Option<LookFault>
-        ensures { at.now.port ≡ self.now.port → result ≡ look_fault C.run self.now.port (state_of C.run self.now) at.now.place }
-    {
-        if at.place != self.next {
-            return Some(LookFault::OutOfTurn { next: self.next });
-        }
-        if at.block != self.block {
-            return Some(LookFault::OtherBlock { block: self.block });
-        }
-        None
-    }
-
-    fn settle_refusal(&self, place: u32, version: u32) -> Option<SettleFault>
-        ensures { result ≡ settle_fault C.run (state_of C.run self.now) place version }
-    {
-        if !self.is_pending(place) {
-            return Some(SettleFault::NotPending);
-        }
-        if version < self.floor {
-            return Some(SettleFault::Stale { floor: self.floor });
-        }
-        let hi = self.hi();
-        if hi < version {
-            return Some(SettleFault::Ahead { hi });
-        }
-        None
-    }
-
-    fn begin_refusal(&self, version: u32) -> Option<BeginFault>
-        ensures { result ≡ begin_fault C.run (state_of C.run self.now) version }
-    {
-        if self.sweeping {
-            return Some(BeginFault::Sweeping { floor: self.floor });
-        }
-        let hi = self.hi();
-        if hi < version {
-            return Some(BeginFault::Ahead { hi });
-        }
-        None
-    }
-
-    /// Opens a block, the next one, once all is done in the block before it.
-    pub fn open_block(&mut self, block: u32) -> Result<(), OpenFault>
-        ensures opened { IfOk result (λ _. Appends C.run self.old (steps.Open block) self.new) }
-        ensures refused { IfErr result (λ f. (open_fault C.run self.old.port (state_of C.run self.old) block ≡ Some f) × (self.new ≡ self.old)) }
-    {
-        if let Some(fault) = self.open_refusal(block) {
-            return Err(fault);
-        }
-        self.open(block);
-        Ok(())
-    }
-
-    fn open(&mut self, block: u32)
-        requires { open_fault C.run self.old.port (state_of C.run self.old) block ≡ None }
-        ensures { Appends C.run self.old (steps.Open block) self.new }
-    {
-        self.block = block;
-        self.journal.push_reserved(Step::Open { block });
-    }
-
-    /// Looks up a frame of its port, the next one. With no entries it is a miss, and the frame is pending.
-    pub fn look(&mut self, at: &Keyed<C>) -> Result<Looked, LookFault>
-        requires { at.now.port ≡ self.old.port }
-        ensures looked { IfOk result (λ r. Appends C.run self.old (steps.Look at.now.place r) self.new) }
-        ensures missed { IfOk result (λ r. r ≡ Miss) }
-        ensures refused { IfErr result (λ f. (look_fault C.run self.old.port (state_of C.run self.old) at.now.place ≡ Some f) × (self.new ≡ self.old)) }
-    {
-        if let Some(fault) = self.look_refusal(at) {
-            return Err(fault);
-        }
-        self.miss(at);
-        Ok(Looked::Miss)
-    }
-
-    fn miss(&mut self, at: &Keyed<C>)
-        requires port { at.now.port ≡ self.old.port }
-        requires may { look_fault C.run self.old.port (state_of C.run self.old) at.now.place ≡ None }
-        ensures { Appends C.run self.old (steps.Look at.now.place Miss) self.new }
-    {
-        self.next += 1;
-        self.pending += 1;
-        self.places[at.place as usize - 1] = Place::Pending;
-        self.journal.push_reserved(Step::Look {
-            place: at.place,
-            result: Looked::Miss,
-        });
-    }
-
-    /// Decides a pending frame of its port, by the datapath actions that the tables of a version make of its key. With a
-    /// limit of no entries none is installed.
-    ///
-    /// It takes memory for the actions. The actions are given up where it refuses.
-    pub fn settle(
-        &mut self,
-        at: &Keyed<C>,
-        version: u32,
-        actions: ActionList,
-    ) -> Result<Settled, SettleFault>
-        requires port { at.now.port ≡ self.old.port }
-        requires actions { actions ≡ (translated C.run version (numbers at.now.key)).actions }
-        ensures settled { IfOk result (λ r. Appends C.run self.old (steps.Settle at.now.place version (settled_view r)) self.new) }
-        ensures full { IfOk result (λ r. settled_view r ≡ steps.Full) }
-        ensures refused { IfErr result (λ f. (f ≡ settle_faults.OutOfMemory) ⊎ (settle_fault C.run (state_of C.run self.old) at.now.place version ≡ Some f)) }
-        ensures unchanged { IfErr result (λ _. self.new ≡ self.old) }
-    {
-        if let Some(fault) = self.settle_refusal(at.place, version) {
-            return Err(fault);
-        }
-        match self.fill(at, version, actions) {
-            Ok(()) => Ok(Settled::Full),
-            Err(_) => Err(SettleFault::OutOfMemory),
+        let number = self.listed.above(after)?;
+        match self.caches.key_of(number) {
+            Some(key) => Some((number, *key)),
+            None => unreachable!(),
         }
     }
 
-    fn fill(&mut self, at: &Keyed<C>, version: u32, actions: ActionList) -> Result<(), AllocError>
-        requires port { at.now.port ≡ self.old.port }
-        requires may { settle_fault C.run (state_of C.run self.old) at.now.place version ≡ None }
-        requires actions { actions ≡ (translated C.run version (numbers at.now.key)).actions }
-        ensures filled { IfOk result (λ _. Appends C.run self.old (steps.Settle at.now.place version steps.Full) self.new) }
-        ensures unchanged { IfErr result (λ _. self.new ≡ self.old) }
+    // The laws hold of every board.
+    pub(crate) fn laws_hold(&self)
+        ensures { IsLawful C.run self.now }
     {
-        let room = steps_left(
+        let _ = &self.journal;
+    }
+
+    // For how many steps there has to be room.
+    pub(crate) fn room_needed(&self) -> usize
+        ensures left { result ≡ left (length (frames_of C.run self.now.port)) (state_of C.run self.now).next (last_block C.run)
+            (state_of C.run self.now).block (state_of C.run self.now).is_sweeping (length (state_of C.run self.now).listed) }
+        ensures few { result < 2 ^ 35 }
+    {
+        steps_left(
             self.places.len(),
             self.next,
             self.blocks.len() - 1,
             self.block,
             self.sweeping,
-        );
-        self.journal.reserve(room + 1)?;
-        let list = self.lists.len();
-        self.lists.reserve(1)?;
-        self.lists.push_reserved(actions);
-        self.newest = self.newest.max(version);
-        self.pending -= 1;
-        self.places[at.place as usize - 1] = Place::Decided { version, list };
-        self.journal.push_reserved(Step::Settle {
-            place: at.place,
-            version,
-            result: Settled::Full,
-        });
-        Ok(())
-    }
-
-    /// Begins a sweep at a version. With no entries it has none to put. It takes memory for the sweep.
-    pub fn begin(&mut self, version: u32) -> Result<(), BeginFault>
-        ensures begun { IfOk result (λ _. Appends C.run self.old (steps.Begin version) self.new) }
-        ensures none_listed { IfOk result (λ _. (state_of C.run self.new).listed ≡ []) }
-        ensures refused { IfErr result (λ f. (f ≡ begin_faults.OutOfMemory) ⊎ (begin_fault C.run (state_of C.run self.old) version ≡ Some f)) }
-        ensures unchanged { IfErr result (λ _. self.new ≡ self.old) }
-    {
-        if let Some(fault) = self.begin_refusal(version) {
-            return Err(fault);
-        }
-        match self.start(version) {
-            Ok(()) => Ok(()),
-            Err(_) => Err(BeginFault::OutOfMemory),
-        }
-    }
-
-    fn start(&mut self, version: u32) -> Result<(), AllocError>
-        requires { begin_fault C.run (state_of C.run self.old) version ≡ None }
-        ensures begun { IfOk result (λ _. Appends C.run self.old (steps.Begin version) self.new) }
-        ensures none_listed { IfOk result (λ _. (state_of C.run self.new).listed ≡ []) }
-        ensures unchanged { IfErr result (λ _. self.new ≡ self.old) }
-    {
-        let room = steps_left(
-            self.places.len(),
-            self.next,
-            self.blocks.len() - 1,
-            self.block,
-            self.sweeping,
-        );
-        self.journal.reserve(room + 2)?;
-        self.newest = self.newest.max(version);
-        self.floor = self.floor.max(version);
-        self.sweeping = true;
-        self.journal.push_reserved(Step::Begin { version });
-        Ok(())
-    }
-
-    /// Ends the sweep that runs, once no entry is listed.
-    pub fn end(&mut self) -> Result<(), EndFault>
-        ensures ended { IfOk result (λ _. Appends C.run self.old steps.End self.new) }
-        ensures refused { IfErr result (λ f. (end_fault (state_of C.run self.old) ≡ Some f) × (self.new ≡ self.old)) }
-    {
-        if !self.sweeping {
-            return Err(EndFault::NotSweeping);
-        }
-        self.stop();
-        Ok(())
-    }
-
-    fn stop(&mut self)
-        requires { end_fault (state_of C.run self.old) ≡ None }
-        ensures { Appends C.run self.old steps.End self.new }
-    {
-        self.done = self.floor;
-        self.sweeping = false;
-        self.journal.push_reserved(Step::End);
+            self.listed.len(),
+        )
     }
 }

@@ -30,9 +30,15 @@ use Rattle.spec_case.specs.Run.{frames_in}
 use Rattle.spec_case.specs.Arrivals.{arrivals_at, arrivals_in, put_in_order, in_order}
 use Rattle.spec_xlate.specs.Commit.{commit, commit_fields, commit_field}
 use Rattle.spec_xlate.specs.Tags.{commit_tags, outer_tags}
+use Rattle.spec_keys.specs.Fields.{stages}
+use Rattle.spec_keys.specs.Stages.{through}
+use Rattle.spec_xlate.specs.Lookup.{length_up_to, common_length, deciding, probe, consults}
+use Rattle.spec_xlate.specs.Consulted.{act_bits, run_bits, look_bits, consulted}
 use Rattle.spec_xlate.specs.Translation.{emit, emit_all, committed, output, act, run, look, last_state, pipe}
 use Rattle.spec_exec.specs.Sent.{sent}
 use Rattle.spec_case.specs.Blocks.{ends_after}
+use Rattle.spec_board.specs.Results.{are_same_actions}
+use Rattle.spec_board.specs.Effects.{credited_by}
 use Rattle.spec_board.specs.Decisions.{decisions_from}
 use Rattle.spec_board.specs.Schedules.{finish, finish_board, least_block, with_given_steps}
 use Rattle.spec_run.specs.declared.quantity.Quantity.{Quantity}
@@ -60,7 +66,7 @@ files e a name = if pointwise nat_eq name (codes "e") then e else (if pointwise 
 
 -- what becomes of a run with such files
 unfoldable outcome : List (List ℕ) → Option (List ℕ) → Option (List ℕ) → Result (List File) Refusal
-unfolding command_in script_in file_in traces_after verdict capture_of format_of record_fault frames_from little_endian_at digits_upto decimal_upto number_upto octet octet_before_colon mac port_number port_word new_port port_words command_of field_named is_field_left_out shorthand_named keyword_named item_named reserved_port_named is_action_left_out action_named value_in whole_value value_of bits_stated field_stated words with_part with_shorthand number_once with_valued with_bare with_item items.read_items kept match_of read_match up_to_end items is_closed argument_of port_of actions.output drop_item actions_of_item read_items read_actions edit_from edit_in changes_to with_line with_lines script_of with_edit with_sync sync_time time_of seconds_with_fraction seconds_of fraction_of version winner none masked same joined big_endian_at key_of is_tagged tci_of carried carried_by network_at with_network frames_in arrivals_at arrivals_in put_in_order in_order sent pipe last_state look run act output committed emit emit_all commit commit_fields commit_field commit_tags outer_tags header record_header only_at digits finish finish_board least_block with_given_steps decisions_from ends_after
+unfolding command_in script_in file_in traces_after verdict capture_of format_of record_fault frames_from little_endian_at digits_upto decimal_upto number_upto octet octet_before_colon mac port_number port_word new_port port_words command_of field_named is_field_left_out shorthand_named keyword_named item_named reserved_port_named is_action_left_out action_named value_in whole_value value_of bits_stated field_stated words with_part with_shorthand number_once with_valued with_bare with_item items.read_items kept match_of read_match up_to_end items is_closed argument_of port_of actions.output drop_item actions_of_item read_items read_actions edit_from edit_in changes_to with_line with_lines script_of with_edit with_sync sync_time time_of seconds_with_fraction seconds_of fraction_of version winner none masked same joined big_endian_at key_of is_tagged tci_of carried carried_by network_at with_network frames_in arrivals_at arrivals_in put_in_order in_order sent pipe last_state look run act output committed emit emit_all commit commit_fields commit_field commit_tags outer_tags header record_header only_at digits finish finish_board least_block with_given_steps decisions_from ends_after through length_up_to common_length deciding probe consults act_bits run_bits look_bits consulted are_same_actions credited_by stages
 outcome command e a = files_in (verdict command (files e a))
   where
     files_in : Result Accepted Refusal → Result (List File) Refusal
@@ -118,7 +124,7 @@ an_add_replaces_the_rule_of_its_match_and_priority = refl
 a_rule_changes_between_two_frames :
     outcome said (Some (codes "in_port=1,actions=2\nsync 2\npriority=40000,actions=drop\n")) (Some (file_of false (frame ∷ record frame { time = 2000000000 } ∷ [])))
     ≡ Ok ((codes "o.p1.pcap", file_of false []) ∷ (codes "o.p2.pcap", file_of false (frame ∷ []))
-    ∷ (codes "o.journal", codes "port 1\nbegin 1\nend\nlook 1 miss\nsettle 1 1 full\nopen 1\nbegin 2\nend\nlook 2 miss\nsettle 2 2 full\nport 2\nbegin 1\nend\nopen 1\nbegin 2\nend\n") ∷ [])
+    ∷ (codes "o.journal", codes "port 1\nbegin 1\nend\nlook 1 miss\nsettle 1 1 installed 1\nopen 1\nbegin 2\nput 1 2 replaced\nend\nlook 2 mega 1\nport 2\nbegin 1\nend\nopen 1\nbegin 2\nend\n") ∷ [])
 unfolding outcome
 a_rule_changes_between_two_frames = refl
 

@@ -8,17 +8,19 @@ use Rattle.spec_case.specs.Blocks.{hi, block_of}
 use Rattle.spec_board.specs.Steps.{Step}
 use Rattle.spec_board.specs.Journals.{IsLegal, IsComplete}
 use Rattle.spec_board.specs.Decisions.{Decision, decision_of, IsDecided}
+use Rattle.spec_board.specs.Counts.{IsAccounted}
 use Rattle.spec_board.specs.Schedules.{Board, scheduled}
 use Rattle.spec_board.specs.Texts.{Journal}
 
 -- The journal is legal and complete, and each frame of the port is decided: where no steps are given, by the last version
--- of its block.
+-- of its block. Each rule was credited with what it is due, but for what the entries of the port's board owe it.
 pub record IsJournal (run : Run) (j : Journal) : Type 0 where
   pub legal : IsLegal run j.port run.flow_limit j.steps
   pub complete : IsComplete run j.port j.steps
   pub decided : (place : ℕ) → 1 ≤ place → place ≤ length (frames_of run j.port) → IsDecided run j.port j.steps place
   pub by_last_version : run.steps ≡ [] → (place : ℕ) → 1 ≤ place → place ≤ length (frames_of run j.port)
       → option_map (λ (d : Decision). d.version) (decision_of run j.port j.steps place) ≡ Some (hi run (block_of run j.port place))
+  pub accounted : (rule : ℕ) → IsAccounted run j.port j.steps rule
 
 -- the journals of the run's schedule, in the order of the words
 abbrev pub journal_in : Board → Journal

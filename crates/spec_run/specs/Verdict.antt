@@ -121,14 +121,18 @@ traces_in files ports = traces_after files [] most_trace_bytes most_frames ports
 
 -- ---- the whole
 
--- No megaflow is kept, and no step is given.
+-- how many megaflows a board keeps at most, where the words don't say
+abbrev pub default_flow_limit : ℕ
+default_flow_limit = 8192
+
+-- No step is given.
 abbrev pub run_of : Command → Script → List Capture → Run
 run_of command script traces = record {
   ports = map (λ (w : PortWord). w.port) command.ports;
   edits = script.edits;
   syncs = script.syncs;
   traces = traces;
-  flow_limit = 0;
+  flow_limit = default_flow_limit;
   steps = [];
 }
 

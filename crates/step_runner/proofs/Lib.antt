@@ -1,3 +1,4 @@
 pub mod Progress
-pub mod Decided
 pub mod Scheduled
+pub mod Frames
+pub mod Decided

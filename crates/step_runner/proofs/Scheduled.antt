@@ -1,7 +1,8 @@
 -- That the steps of a board are those of the definition's stages.
-use Rattle.std.proofs.Common.{◌≡◌, ◌⊎◌, inl, inr, ℕ, zero, suc, ◌+◌, ◌≤◌, ◌<◌, min, max, if◌then◌else◌, Bool, false, List, [], ◌∷◌, ◌++◌, length, map, filter, slice_index_or, slice_set, take, drop, replicate, count_by, All, refl, sym, ap, ◌∙◌, subst, arith}
+use Rattle.std.proofs.Common.{◌≡◌, ◌⊎◌, inl, inr, ℕ, zero, suc, ◌+◌, ◌≤◌, ◌<◌, min, max, if◌then◌else◌, Bool, false, List, [], ◌∷◌, ◌++◌, length, map, filter, Option, Some, None, slice_index_or, slice_set, take, drop, replicate, count_by, All, refl, sym, ap, ◌∙◌, subst, arith}
 use Rattle.std.specs.List.{fold, range_with_len}
 use Rattle.std.specs.Fn.{iterate}
+use Rattle.std.specs.Option.{option_map}
 use Rattle.std.proofs.lemmas.Bool.{le-ltb, lt-ltb, cond-true, cases_eq, false_from_ne_true}
 use Rattle.std.proofs.lemmas.List.{drop_all, take_all, append-nil, get_or_default, get_or-set_same, get_or-set_other}
 use Rattle.std.proofs.lemmas.Simd.{map-map}
@@ -9,17 +10,25 @@ use Rattle.std.proofs.lemmas.List.Sums.{fold-append, sum_by-cons}
 use Rattle.std.proofs.lemmas.List.Elements.{All-tail}
 use Rattle.spec_case.specs.Run.{Run, frames_of}
 use Rattle.spec_case.specs.Blocks.{hi, last_block}
-use Rattle.spec_board.specs.declared.looked.Looked.TheVariants.{Miss}
-use Rattle.spec_board.specs.Steps.{Step, Look, Settle, Begin, End, Full}
-use Rattle.spec_board.specs.State.{State, Waiting, place_at, is_pending, pending_count}
-use Rattle.spec_board.specs.Results.{key_at, looked, settled, numbers_of}
-use Rattle.spec_board.specs.Schedules.{Board, Schedule, with_step, settle_at, settle_if_missed, put_at, swept, with_pending_settled, with_sweep_made, decide_next, with_all_decided, with_next_opened, finish_board, least_block, finish_block, finish, new_schedule, with_given_steps, scheduled}
-use Rattle.pmd_board.specs.BoardView.{BoardView, Appends, state_of}
+use Rattle.spec_board.specs.declared.looked.Looked.{Looked}
+use Rattle.spec_board.specs.declared.put_done.PutDone.{PutDone}
+use Rattle.spec_board.specs.Steps.{Step, Look, Settle, Begin, Put, End}
+use Rattle.spec_board.specs.State.{Entry, State, Waiting, place_at, is_pending, pending_count}
+use Rattle.spec_board.specs.Results.{key_at, looked, settled, entry_of, put_done}
+use Rattle.spec_board.specs.Effects.{effect}
+use Rattle.spec_board.specs.Schedules.{Board, Schedule, with_step, settle_at, settle_if_missed, put_entry, put_at, swept, with_pending_settled, with_sweep_made, decide_next, with_all_decided, with_next_opened, finish_board, least_block, finish_block, finish, new_schedule, with_given_steps, scheduled}
+use Rattle.pmd_board.specs.BoardView.{BoardView, Appends, HasSettled, state_of}
+use Rattle.board_laws.proofs.NumberLaws.{entry_of-some}
 use Rattle.board_laws.proofs.Journals.{after_step}
 use Rattle.board_laws.proofs.PlaceLaws.{none_pending}
-use Rattle.step_runner.specs.Scheduled.{under_way, schedule_of, finished_in, IsDue}
+use Rattle.step_runner.specs.Progress.{HasPut}
+use Rattle.step_runner.specs.Scheduled.{under_way, schedule_of, with_listed_put, finished_in, IsDue}
 
 -- ---- steps
+
+-- the state of a board with one more step
+pub state_after : (run : Run) (a b : BoardView) (step : Step) → Appends run a step b → state_of run b ≡ effect run a.port (state_of run a) step
+state_after run a b step appends = ap (state_of run) appends.appended ∙ after_step run a.port a.journal step
 
 pub stepped : (run : Run) (a b : BoardView) (step : Step) → Appends run a step b → under_way run b ≡ with_step run step (under_way run a)
 stepped run a b step appends =
@@ -27,28 +36,50 @@ stepped run a b step appends =
     ap (under_way run) appends.appended ∙ ap moved (after_step run a.port a.journal step)
 
 -- a settle gives what the definition's does, where the board has the run's limit
-pub settled_step : (run : Run) (a b : BoardView) (place v : ℕ) → Appends run a (Settle place v Full) b → a.flow_limit ≡ run.flow_limit → under_way run b ≡ settle_at run v place (under_way run a)
-settled_step run a b place v appends limit =
-    stepped run a b (Settle place v Full) appends
-    ∙ ap (λ r. with_step run (Settle place v r) (under_way run a)) (appends.legal.1 ∙ ap (λ l. settled run l (key_at run a.port place) v (state_of run a)) limit)
+pub settled_step : (run : Run) (a b : BoardView) (place v : ℕ) → HasSettled run a place v b → a.flow_limit ≡ run.flow_limit → under_way run b ≡ settle_at run v place (under_way run a)
+settled_step run a b place v settles limit =
+    stepped run a b (Settle place v settles.result) settles.appends
+    ∙ ap (λ r. with_step run (Settle place v r) (under_way run a)) (settles.appends.legal.1 ∙ ap (λ l. settled run l (key_at run a.port place) v (state_of run a)) limit)
+
+put_entry_is : (run : Run) (b : Board) (n v : ℕ) (r : PutDone) (o : Option Entry) → entry_of n b.state.entries ≡ o → option_map (λ (e : Entry). put_done run e v b.state) o ≡ Some r
+    → put_entry run v o b ≡ with_step run (Put n v r) b
+put_entry_is run b n v r None is done = absurd (cc done)
+put_entry_is run b n v r (Some e) is done =
+    let number = (entry_of-some n b.state.entries e is).1 in
+    ap (λ k. with_step run (Put k v (put_done run e v b.state)) b) number ∙ ap (λ x. with_step run (Put n v x) b) (cc done)
+
+-- and so does a put
+pub put_step : (run : Run) (a b : BoardView) (n v : ℕ) → HasPut run a n v b → under_way run b ≡ put_at run v n (under_way run a)
+put_step run a b n v puts =
+    stepped run a b (Put n v puts.result) puts.appends
+    ∙ sym (put_entry_is run (under_way run a) n v puts.result (entry_of n (state_of run a).entries) refl puts.appends.legal.1)
 
 -- ---- stages
 
--- a look that misses, and the settle after it
-pub decided_missed : (run : Run) (v place : ℕ) (b : Board) → place ≡ b.state.next → Miss ≡ looked (key_at run b.port place) b.state
-    → decide_next run v b place ≡ settle_at run v place (with_step run (Look place Miss) b)
-decided_missed run v place b turn missed =
+-- the next place is looked up, with this result
+pub decided_next : (run : Run) (v place : ℕ) (r : Looked) (b : Board) → place ≡ b.state.next → r ≡ looked (key_at run b.port place) b.state
+    → decide_next run v b place ≡ settle_if_missed run v place r (with_step run (Look place r) b)
+decided_next run v place r b turn found =
     ap (λ p. settle_if_missed run v place (looked (key_at run b.port place) b.state) (with_step run (Look p (looked (key_at run b.port p) b.state)) b)) (sym turn)
-    ∙ ap (λ r. settle_if_missed run v place r (with_step run (Look place r) b)) (sym missed)
+    ∙ ap (λ x. settle_if_missed run v place x (with_step run (Look place x) b)) (sym found)
 
 pub no_sweep_made : (run : Run) (v : ℕ) (b : Board) → hi run b.state.block ≤ b.state.done → with_sweep_made run v b ≡ b
 no_sweep_made run v b enough = rw (le-ltb b.state.done (hi run b.state.block) enough) refl
 
-pub sweep_made : (run : Run) (v h : ℕ) (b : Board) → h ≡ hi run b.state.block → b.state.done < h → b.state.entries ≡ [] → with_sweep_made run v b ≡ with_step run End (with_step run (Begin h) b)
-sweep_made run v h b is less none =
+pub sweep_made : (run : Run) (v h : ℕ) (b : Board) → h ≡ hi run b.state.block → b.state.done < h → with_sweep_made run v b ≡ with_step run End (with_listed_put run v (with_step run (Begin h) b))
+sweep_made run v h b is less =
     cond-true _ _ _ (lt-ltb b.state.done (hi run b.state.block) (omega (arith, less, is)))
     ∙ ap (λ w. swept run v (with_step run (Begin w) b)) (sym is)
-    ∙ ap (λ es. with_step run End (fold (λ board number. put_at run v number board) (with_step run (Begin h) b) (numbers_of es))) none
+
+-- the first of those listed is put, and then the others
+pub first_put : (run : Run) (v n : ℕ) (others : List ℕ) (a b : Board) → a.state.listed ≡ n ∷ others → b.state.listed ≡ others → b ≡ put_at run v n a
+    → with_listed_put run v b ≡ with_listed_put run v a
+first_put run v n others a b was left is =
+    let put_all = fold (λ (board : Board) (number : ℕ). put_at run v number board) in
+    ap (put_all b) left ∙ ap (λ x. put_all x others) is ∙ sym (ap (put_all a) was)
+
+pub all_put : (run : Run) (v : ℕ) (b : Board) → b.state.listed ≡ [] → with_listed_put run v b ≡ b
+all_put run v b none = ap (fold (λ (board : Board) (number : ℕ). put_at run v number board) b) none
 
 -- ---- stages with nothing to do
 
@@ -125,9 +156,9 @@ none_yet zero = refl
 none_yet (suc n) = sum_by-cons (λ p. if is_pending p then 1 else 0) Waiting (replicate n Waiting) ∙ (let e = none_yet n in omega (arith, e))
 
 -- the first block is next for a new board
-pub new_due : (run : Run) (port : ℕ) → run.flow_limit ≡ 0 → IsDue run 0 (record { port = port; flow_limit = 0; journal = [] })
-new_due run port none = record {
-  limit = sym none;
+pub new_due : (run : Run) (port limit : ℕ) → limit ≡ run.flow_limit → IsDue run 0 (record { port = port; flow_limit = limit; journal = [] })
+new_due run port limit is = record {
+  limit = is;
   at = λ _. record {
     in_block = refl;
     is_next = refl;
@@ -139,6 +170,7 @@ new_due run port none = record {
   planned = λ after. absurd (omega (arith, after));
   legal = λ after. absurd (omega (arith, after));
   decided = λ after. absurd (omega (arith, after));
+  lawful = λ after. absurd (omega (arith, after));
 }
 
 -- ---- rounds

@@ -1,11 +1,12 @@
 -- Boards, as the definition of schedules sees them.
 use Rattle.std.specs.Prelude.{◌≡◌, ℕ, ◌+◌, ◌<◌, ◌≤◌, ◌==◌, if◌then◌else◌, List, [], map}
+use Rattle.std.specs.List.{fold}
 use Rattle.spec_case.specs.Run.{Run}
 use Rattle.spec_case.specs.Blocks.{last_block}
 use Rattle.spec_board.specs.Journals.{IsLegal, IsFinished}
 use Rattle.spec_board.specs.Schedules as schedules
 use Rattle.run_blocks.specs.Places.{place_before}
-use Rattle.pmd_board.specs.BoardView.{BoardView, state_of}
+use Rattle.pmd_board.specs.BoardView.{BoardView, IsLawful, state_of}
 use Rattle.step_runner.specs.Progress.{IsAt, ArePlanned, AreDecided}
 
 -- a board for which no translation is kept
@@ -15,6 +16,10 @@ under_way run b = record { port = b.port; steps = b.journal; state = state_of ru
 -- boards, where so many edits are published
 abbrev pub schedule_of : Run → ℕ → List BoardView → schedules.Schedule
 schedule_of run newest boards = record { newest = newest; boards = map (under_way run) boards; unmet = 0 }
+
+-- a board each of whose listed entries is put under a version, in rising order
+abbrev pub with_listed_put : Run → ℕ → schedules.Board → schedules.Board
+with_listed_put run v b = fold (λ board number. schedules.put_at run v number board) b b.state.listed
 
 -- a board after the turn of a block
 abbrev pub finished_in : Run → ℕ → ℕ → schedules.Board → schedules.Board
@@ -28,6 +33,7 @@ pub record IsDue (run : Run) (block : ℕ) (b : BoardView) : Type 0 where
   pub planned : last_block run < block → ArePlanned run b
   pub legal : last_block run < block → IsLegal run b.port b.flow_limit b.journal
   pub decided : last_block run < block → AreDecided run b
+  pub lawful : last_block run < block → IsLawful run b
 
 -- A board took the turn of a block.
 pub record TookTurn (run : Run) (block v : ℕ) (before after : BoardView) : Type 0 where

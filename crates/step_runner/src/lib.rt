@@ -9,16 +9,21 @@
 //!
 //! `finish` gives the boards of the run's schedule, as `spec_board` defines it: step by step its journals, in the order
 //! of the words. So each is finished: the last block is open, every frame is decided, no sweep runs, and a sweep of the
-//! last version was completed; and each frame was decided under the last version of its block. Their journals are
-//! legal, and each frame is decided once and within its window: that is what the boards' type keeps.
+//! last version was completed. Each frame was decided under the last version of its block, whether it was translated or a
+//! megaflow had its answer. Their journals are legal, and the laws of boards hold of them: each frame is decided once and
+//! within its window, and each rule is credited with or owed what it is due.
 //!
 //! # How
 //!
-//! All boards go through a block before one goes through the next: the least block of all boards is finished in turn. In
-//! each block a board makes a sweep of the block's last version, where none was completed, and then looks up each
-//! frame of the block and settles it at once under that version. The translation is that of the plain interpreter
-//! (`pipe_model`); the rules answer for every version, so none has to be published.
-//! No call of a board can be refused here, which is proved call by call (`steps`).
+//! All boards go through a block before one goes through the next: the least block of all boards is finished in turn. The
+//! tables follow the edits of the run up to the last version of the block, once for all boards (`run_tables`). In each
+//! block a board makes a sweep of that version, where none was completed: it puts each megaflow that is listed, in rising
+//! order, by the translation of its key (`sweeping`). Then it looks up each frame of the block. What no megaflow covers is
+//! translated, and settled at once.
+//!
+//! Where a megaflow decides a frame, it was translated under the last version of the block: none older is left by the
+//! sweep, and none newer may come before the block ends (`proofs/Frames`). A megaflow that isn't idle, nor stale, stays
+//! from block to block, with its mask. No call of a board can be refused here, which is proved call by call (`steps`).
 //!
 //! # What is left to others
 //!
@@ -28,6 +33,6 @@
 
 mod finishing;
 mod steps;
-mod translation;
+mod sweeping;
 
 pub use finishing::finish;

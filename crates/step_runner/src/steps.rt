@@ -1,13 +1,14 @@
-//! One step of a board that may have no entries, where nothing refuses it.
-ghost use Rattle.std.specs.Prelude.{◌≡◌, [], None, OnOk, OnErr};
+//! One step of a board, where nothing refuses it.
+ghost use Rattle.std.specs.Prelude.{◌≡◌, None, OnOk};
 ghost use Rattle.ovs_fields.specs.Packed.{numbers};
-ghost use Rattle.spec_board.specs.declared.looked.Looked.TheVariants.{Miss};
 ghost use Rattle.spec_board.specs.Steps as steps;
-ghost use Rattle.spec_board.specs.Results.{translated};
-ghost use Rattle.spec_board.specs.Refusals.{open_fault, look_fault, settle_fault, begin_fault, end_fault};
-ghost use Rattle.pmd_board.specs.BoardView.{Appends, state_of};
+ghost use Rattle.spec_board.specs.Results.{entry_of};
+ghost use Rattle.spec_board.specs.Refusals.{open_fault, look_fault, settle_fault, begin_fault, put_fault, end_fault};
+ghost use Rattle.spec_board.specs.Effects.{key_of_entry};
+ghost use Rattle.pmd_board.specs.BoardView.{Appends, HasSettled, state_of};
+ghost use Rattle.step_runner.specs.Progress.{HasPut};
 
-use pmd_board::{ActionList, BeginFault, Board, SettleFault};
+use pmd_board::{BeginFault, Board, Looked, SettleFault, Xlated};
 use run_case::{Case, Keyed};
 use std::alloc::AllocError;
 
@@ -21,13 +22,13 @@ pub fn open_block<C: Case>(board: &mut Board<C>, block: u32)
     }
 }
 
-pub fn look<C: Case>(board: &mut Board<C>, at: &Keyed<C>)
+pub fn look<C: Case>(board: &mut Board<C>, at: &Keyed<C>) -> Looked
     requires port { at.now.port ≡ board.old.port }
     requires may { look_fault C.run board.old.port (state_of C.run board.old) at.now.place ≡ None }
-    ensures { Appends C.run board.old (steps.Look at.now.place Miss) board.new }
+    ensures { Appends C.run board.old (steps.Look at.now.place result) board.new }
 {
     match board.look(at) {
-        Ok(_) => {}
+        Ok(found) => found,
         Err(_) => unreachable!(),
     }
 }
@@ -35,15 +36,14 @@ pub fn look<C: Case>(board: &mut Board<C>, at: &Keyed<C>)
 pub fn settle<C: Case>(
     board: &mut Board<C>,
     at: &Keyed<C>,
-    version: u32,
-    actions: ActionList,
+    made: Xlated<C>,
 ) -> Result<(), AllocError>
     requires port { at.now.port ≡ board.old.port }
-    requires actions { actions ≡ (translated C.run version (numbers at.now.key)).actions }
-    requires may { settle_fault C.run (state_of C.run board.old) at.now.place version ≡ None }
-    ensures { OnOk result (Appends C.run board.old (steps.Settle at.now.place version steps.Full) board.new) }
+    requires key { made.key ≡ numbers at.now.key }
+    requires may { settle_fault C.run (state_of C.run board.old) at.now.place made.version ≡ None }
+    ensures { OnOk result (HasSettled C.run board.old at.now.place made.version board.new) }
 {
-    match board.settle(at, version, actions) {
+    match board.settle(at, made) {
         Ok(_) => Ok(()),
         Err(SettleFault::OutOfMemory) => Err(AllocError),
         Err(_) => unreachable!(),
@@ -52,12 +52,22 @@ pub fn settle<C: Case>(
 
 pub fn begin<C: Case>(board: &mut Board<C>, version: u32) -> Result<(), AllocError>
     requires { begin_fault C.run (state_of C.run board.old) version ≡ None }
-    ensures begun { OnOk result (Appends C.run board.old (steps.Begin version) board.new) }
-    ensures none_listed { OnOk result ((state_of C.run board.new).listed ≡ []) }
+    ensures { OnOk result (Appends C.run board.old (steps.Begin version) board.new) }
 {
     match board.begin(version) {
         Ok(()) => Ok(()),
         Err(BeginFault::OutOfMemory) => Err(AllocError),
+        Err(_) => unreachable!(),
+    }
+}
+
+pub fn put<C: Case>(board: &mut Board<C>, number: u32, made: Xlated<C>)
+    requires key { made.key ≡ key_of_entry (entry_of number (state_of C.run board.old).entries) }
+    requires may { put_fault C.run (state_of C.run board.old) number made.version ≡ None }
+    ensures { HasPut C.run board.old number made.version board.new }
+{
+    match board.put(number, made) {
+        Ok(_) => {}
         Err(_) => unreachable!(),
     }
 }

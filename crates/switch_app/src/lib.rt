@@ -34,10 +34,10 @@
 //! Reading comes first and whole (`switch_input`). What was read is one run, and `decide_and_write` has it as its type
 //! parameter: every board, and every fact of a board, speaks of it.
 //!
-//! With the edits come the rules that they make, in a store that answers for every version. Each port's board is run to
-//! its end, which decides every frame. Only then files are written (`switch_output`). So what takes memory by the size of
-//! the run is taken before the first file: between files there is but a name, and a line of the journal. Why a run was
-//! refused is told without memory (`switch_refusals`).
+//! Each port's board is run to its end, which decides every frame; it keeps 8,192 megaflows at most. The tables follow the
+//! edits meanwhile (`step_runner`). Only then files are written (`switch_output`). So what takes memory by the size of the
+//! run is taken before the first file: between files there is but a name, and a line of the journal. Why a run was refused
+//! is told without memory (`switch_refusals`).
 //!
 //! # What is left to others
 //!

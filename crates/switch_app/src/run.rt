@@ -30,6 +30,9 @@ use switch_input::{Inputs, PortWord, read_inputs};
 use switch_output::{WriteRefusal, write_files};
 use switch_refusals::DONE;
 
+/// How many megaflows each board may have, where no word says so.
+const DEFAULT_FLOW_LIMIT: u32 = 8192;
+
 // The ports of words, in their order.
 #[tactic(auto, using(crate::proofs::Lists::ports_in_view))]
 fn ports_of(alloc: Global, words: &[PortWord<'_>]) -> Result<Ports, AllocError>
@@ -65,13 +68,13 @@ fn decide_and_write<C: Case, S: Shelf>(
     let Inputs {
         command,
         script,
-        rules,
         traces,
+        ..
     } = inputs;
     let ports = ports_of(alloc, &command.ports)?;
     let edits = RunEdits::<C>::new(script.edits);
     let run = RunData::<C>::new(alloc, ports, edits.count(), script.syncs, traces)?;
-    let boards = finish(alloc, &run, &rules)?;
+    let boards = finish(alloc, &run, &edits, DEFAULT_FLOW_LIMIT)?;
     let arrivals = arrivals_of(alloc, &run)?;
     write_files(alloc, shelf, command.out, &run, &boards, &arrivals)
 }

@@ -13,7 +13,7 @@ use Rattle.step_runner.proofs.finishing.decide_all.Goals as goal
 pub places-preserved : goal.places-preserved
 places-preserved g c =
     let run : Run = g.C.Case.run in
-    let v = c.args.version in
+    let v = c.args.tables.now in
     let first = c.next-next.result in
     let from = c.places.auto.place in record {
       swept = subst (λ p. IsSwept run p (state_of run c.decide_next.new.board) c.args.block (c.places.place + 1)) c.places.invariant.same.port c.in_ok-decide_next.ensures.decided;
@@ -45,5 +45,5 @@ returns-clause-scheduled g c =
     let end : c.places.place ≡ c.last_place-end.result + 1 = (let stop = c.places-test.false in omega (arith, stop, c.places.auto.place, c.places.auto.place-end, ordered, next, here)) in
     let last : c.places.place ≡ last_place run b.port s.block + 1 = end ∙ ap (λ n. n + 1) (here ∙ ap (last_place run b.port) (sym c.requires.at.is_at.in_block)) in
     c.places.invariant.scheduled
-    ∙ ap (λ i. fold (schedules.decide_next run c.args.version) (under_way run b) (range_with_len i (c.places.place - i))) same
-    ∙ ap (λ i. fold (schedules.decide_next run c.args.version) (under_way run b) (range_with_len s.next (i - s.next))) last
+    ∙ ap (λ i. fold (schedules.decide_next run c.args.tables.now) (under_way run b) (range_with_len i (c.places.place - i))) same
+    ∙ ap (λ i. fold (schedules.decide_next run c.args.tables.now) (under_way run b) (range_with_len s.next (i - s.next))) last

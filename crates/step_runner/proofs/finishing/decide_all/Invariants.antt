@@ -10,5 +10,5 @@ abbrev pub invariant-places : goal.invariant-places
 invariant-places g l = record {
   swept : IsSwept g.C.Case.run l.initial.board.port (state_of g.C.Case.run l.board) l.block l.place;
   same : IsSameBoard l.initial.board l.board;
-  scheduled : under_way g.C.Case.run l.board ≡ fold (schedules.decide_next g.C.Case.run l.version) (under_way g.C.Case.run l.initial.board) (range_with_len l.next (l.place - l.next));
+  scheduled : under_way g.C.Case.run l.board ≡ fold (schedules.decide_next g.C.Case.run l.tables) (under_way g.C.Case.run l.initial.board) (range_with_len l.next (l.place - l.next));
 }

@@ -33,8 +33,10 @@ finish_block-requires-clause-version g c =
     let newest = c.rounds.invariant.newest in
     let at = ap (hi run) is in
     let hi_is = c.hi.ensures.number in
+    let before = c.version.ensures.number in
+    let there = c.in_ok-follow.ensures.there in
     let v = c.max-newest.ensures in
-    omega (arith, v, hi_is, at, newest)
+    omega (arith, there, v, before, hi_is, at, newest)
 
 pub finish_block-requires-clause-due : goal.finish_block-requires-clause-due
 finish_block-requires-clause-due g c =
@@ -59,6 +61,9 @@ rounds-preserved g c =
     let hi_is = c.hi.ensures.number in
     let v = c.max-newest.ensures in
     let next = (c.last_block-last.ensures.in_order round).0 in
+    let before = c.version.ensures.number in
+    let there = c.in_ok-follow.ensures.there in
+    let now : c.follow.new.self ≡ max c.rounds.tables (hi run block) = there ∙ v ∙ ap (λ n. max n c.hi.result) before ∙ ap (max c.rounds.tables) hi_is in
     let made = c.in_ok-finish_block.ensures.scheduled in
     let count : length new ≡ length old = sym (length-map new (under_way run)) ∙ ap length made ∙ length-map old _ in
     let some = c.rounds.invariant.some in
@@ -67,8 +72,8 @@ rounds-preserved g c =
       due = subst (λ k. All (IsDue run (k + 1)) new) is c.in_ok-finish_block.ensures.due;
       some = omega (arith, count, some);
       ports = c.in_ok-finish_block.ensures.ports ∙ c.rounds.invariant.ports;
-      newest = omega (arith, v, hi_is, at, newest, next);
-      scheduled = round_made run c.rounds.newest block c.max-newest.result old new least (v ∙ ap (max c.rounds.newest) hi_is) made
+      newest = omega (arith, now, at, newest, next);
+      scheduled = round_made run c.rounds.tables block c.follow.new.self old new least now made
           ∙ ap (schedules.finish_block run) c.rounds.invariant.scheduled
           ∙ sym (ap (λ n. iterate (schedules.finish_block run) n (schedules.new_schedule run)) more ∙ iterate_more (schedules.finish_block run) round (schedules.new_schedule run));
     }
@@ -80,7 +85,7 @@ returns-clause-scheduled g c =
     let upto = c.rounds.auto.round-end in
     let last = c.last_block-last.ensures.block in
     let end : c.rounds.round ≡ last_block run + 1 = omega (arith, stop, upto, last) in
-    all_made run (schedule_of run c.rounds.newest c.rounds.boards.items) c.requires.steps (c.rounds.invariant.scheduled ∙ ap (λ n. iterate (schedules.finish_block run) n (schedules.new_schedule run)) end)
+    all_made run (schedule_of run c.rounds.tables c.rounds.boards.items) c.requires.steps (c.rounds.invariant.scheduled ∙ ap (λ n. iterate (schedules.finish_block run) n (schedules.new_schedule run)) end)
 
 pub returns-clause-decided : goal.returns-clause-decided
 returns-clause-decided g c k d within =

@@ -11,6 +11,6 @@ invariant-rounds g l = record {
   due : All (IsDue g.C.Case.run l.round) l.boards.items;
   some : 1 ≤ length l.boards.items;
   ports : map (λ (b : BoardView). b.port) l.boards.items ≡ g.C.Case.run.ports;
-  newest : l.newest ≤ hi g.C.Case.run l.round;
-  scheduled : schedule_of g.C.Case.run l.newest l.boards.items ≡ iterate (schedules.finish_block g.C.Case.run) l.round (schedules.new_schedule g.C.Case.run);
+  newest : l.tables ≤ hi g.C.Case.run l.round;
+  scheduled : schedule_of g.C.Case.run l.tables l.boards.items ≡ iterate (schedules.finish_block g.C.Case.run) l.round (schedules.new_schedule g.C.Case.run);
 }

@@ -22,7 +22,7 @@ pub returns-clause-scheduled : goal.returns-clause-scheduled
 returns-clause-scheduled g c =
     let run : Run = g.C.Case.run in
     let old : List BoardView = c.args.boards.now.items in
-    let Done : BoardView → schedules.Board = λ (b : BoardView). finished_in run c.args.block c.args.version (under_way run b) in
+    let Done : BoardView → schedules.Board = λ (b : BoardView). finished_in run c.args.block c.args.tables.now (under_way run b) in
     let value = c.deref_mut-board-items.ensures.value in
     let count = c.boards.invariant.count in
     let end = c.boards-test.false in
@@ -39,14 +39,14 @@ boards-preserved g c =
     let old : List BoardView = c.deref_mut-board-items.result.now in
     let within = (let t = c.boards-test.true in let n = c.boards.invariant.count in let m : i < length items = omega (arith, t, n) in m) in
     let before : BoardView = slice_index_or items i c.board-item.result in
-    let took : TookTurn run c.args.block c.args.version before after = record {
+    let took : TookTurn run c.args.block c.args.tables.now before after = record {
       port = c.in_ok-finish_board.ensures.port.port;
       due = c.in_ok-finish_board.ensures.due;
       scheduled = c.in_ok-finish_board.ensures.scheduled;
     } in record {
       count = length-set items i after ∙ c.boards.invariant.count;
       others = λ k d from. get_or-set_other items i k after d (λ e. omega (arith, e, from)) ∙ c.boards.invariant.others k d (omega (arith, from));
-      done = one_more (TookTurn run c.args.block c.args.version) old items i before after within (get_or_default items i c.board-item.result before within) c.boards.invariant.others c.boards.invariant.done took;
+      done = one_more (TookTurn run c.args.block c.args.tables.now) old items i before after within (get_or_default items i c.board-item.result before within) c.boards.invariant.others c.boards.invariant.done took;
     }
 
 pub returns-clause-due : goal.returns-clause-due

@@ -11,7 +11,7 @@ pub returns-clause-scheduled : goal.returns-clause-scheduled
 returns-clause-scheduled g c =
     let run : Run = g.C.Case.run in
     let b : BoardView = c.args.board.now in
-    let v = c.args.version in
+    let v = c.args.tables.now in
     let at = c.requires.due.at c.requires.there in
     c.open_next.ensures.scheduled
     ∙ ap (schedules.with_next_opened run) (c.in_ok-decide_all.ensures.scheduled ∙ ap (schedules.with_all_decided run v) c.in_ok-sweep.ensures.made)

@@ -18,9 +18,9 @@ ports-preserved g c =
     let list : c.as_slice-port-items.result.now ≡ run.ports = c.as_slice-port-items.ensures.list ∙ c.ports-3.ensures in
     let within : i < length run.ports = subst (λ (xs : List ℕ). i < length xs) list c.ports-test.true in
     let port = get_or run.ports i 0 in
-    let is_new : board ≡ record { port = port; flow_limit = 0; journal = [] } = c.in_ok-board.ensures ∙ ap (λ (xs : List ℕ). record { port = get_or xs i 0; flow_limit = 0; journal = [] }) list in
+    let is_new : board ≡ record { port = port; flow_limit = c.args.flow_limit; journal = [] } = c.in_ok-board.ensures ∙ ap (λ (xs : List ℕ). record { port = get_or xs i 0; flow_limit = c.args.flow_limit; journal = [] }) list in
     let Port : BoardView → ℕ = λ (b : BoardView). b.port in
-    let due : IsDue run 0 board = subst (IsDue run 0) (sym is_new) (new_due run port c.requires.limit) in record {
+    let due : IsDue run 0 board = subst (IsDue run 0) (sym is_new) (new_due run port c.args.flow_limit c.requires.limit) in record {
       due = subst (All (IsDue run 0)) (sym grown) (All-append (IsDue run 0) boards (board ∷ []) c.ports.invariant.due (All-cons (IsDue run 0) board [] due (All-nil (IsDue run 0))));
       ports = ap (map Port) grown ∙ map_push Port boards board ∙ ap (λ ps. ps ++ board.port ∷ []) c.ports.invariant.ports ∙ sym (take_more run.ports i 0 within ∙ ap (λ p. take i run.ports ++ p ∷ []) (sym (ap Port is_new)));
       scheduled = ap (map (under_way run)) grown ∙ map_push (under_way run) boards board

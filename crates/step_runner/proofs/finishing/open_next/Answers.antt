@@ -9,7 +9,7 @@ use Rattle.spec_board.specs.Journals.{IsFinished}
 use Rattle.spec_board.specs.Effects.{effect}
 use Rattle.board_laws.proofs.Places.{all_places}
 use Rattle.pmd_board.specs.BoardView.{BoardView, state_of}
-use Rattle.pmd_board.proofs.Steps.{state_after}
+use Rattle.step_runner.proofs.Scheduled.{state_after}
 use Rattle.step_runner.specs.Progress.{ArePlanned, IsAt, IsSwept}
 use Rattle.step_runner.proofs.Decided.{all_decided}
 use Rattle.step_runner.proofs.Progress.{opened_at, place_before-next, finished_from}
@@ -31,6 +31,7 @@ returns-then-block-last-clause-due g c =
       planned = λ after. absurd (let more = c.if-block-last.true in let last = c.last_block-last.ensures.block in omega (arith, after, more, last));
       legal = λ after. absurd (let more = c.if-block-last.true in let last = c.last_block-last.ensures.block in omega (arith, after, more, last));
       decided = λ after. absurd (let more = c.if-block-last.true in let last = c.last_block-last.ensures.block in omega (arith, after, more, last));
+      lawful = λ after. absurd (let more = c.if-block-last.true in let last = c.last_block-last.ensures.block in omega (arith, after, more, last));
     }
 
 pub returns-else-block-last-clause-due : goal.returns-else-block-last-clause-due
@@ -50,4 +51,5 @@ returns-else-block-last-clause-due g c =
       planned = λ _. planned;
       legal = λ _. c.journal.ensures.legal;
       decided = λ _. all_decided run b c.last_block-last.ensures.in_order c.journal.ensures.keys c.journal.ensures.legal planned;
+      lawful = λ _. c.journal.ensures.lawful;
     }
