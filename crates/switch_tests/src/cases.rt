@@ -15,11 +15,15 @@ const BIG_ENDIAN_NANOS_HEADER: [u8; 24] = [
     0xa1, 0xb2, 0x3c, 0x4d, 0, 2, 0, 4, 0, 0, 0, 0, 0, 0, 0, 0, 0, 4, 0, 0, 0, 0, 0, 1,
 ];
 
-/// The bytes of a file. Each frame has 60 bytes, and goes from 00:00:00:00:00:01 to 00:00:00:00:00:02.
+/// The bytes of a file. Each frame has 60 bytes, and goes from 00:00:00:00:00:01 to 00:00:00:00:00:02 where nothing else is
+/// said.
+#[derive(Drop)]
 pub enum Bytes {
     /// A capture file with a frame at each of these seconds.
     At(&'static [u8]),
-    /// The same without its last byte.
+    /// The same, each frame with a destination whose last byte is the second number.
+    To(&'static [(u8, u8)]),
+    /// A capture file with a frame at each of these seconds, without its last byte.
     CutAt(&'static [u8]),
     /// A capture file with a frame at 1 second, in which these bytes stand at an offset.
     With(usize, &'static [u8]),
@@ -29,29 +33,31 @@ pub enum Bytes {
 }
 
 /// A file by name.
+#[derive(Drop)]
 pub struct File {
     pub name: &'static str,
     pub bytes: Bytes,
 }
 
 /// A run, and what comes of it.
-pub struct Run {
+#[derive(Drop)]
+pub struct Run<'a> {
     pub shows: &'static str,
-    pub words: &'static [&'static str],
+    pub words: &'a [&'static str],
     pub edits: &'static str,
-    pub traces: &'static [File],
+    pub traces: &'a [File],
     /// The number of the call of the shelf that fails, or 0 where none does.
     pub failing_call: u64,
     pub status: u8,
     pub text: &'static str,
     /// The files that are written and closed, and the one that is still in use, if there is one.
-    pub written: &'static [File],
-    pub in_use: &'static [File],
+    pub written: &'a [File],
+    pub in_use: &'a [File],
 }
 
 const WORDS: &[&str] = &["edits", "out", "1=a.pcap", "2="];
 
-const THREE_PORTS: &[&str] = &["edits", "out", "1=a.pcap", "2=", "3="];
+pub const THREE_PORTS: &[&str] = &["edits", "out", "1=a.pcap", "2=", "3="];
 
 const TWO_TRACES: &[&str] = &["edits", "out", "1=a.pcap", "2=b.pcap"];
 
@@ -60,22 +66,22 @@ const FORWARD: &str = "in_port=1,actions=2";
 
 // The journal of that rule and one frame at port 1.
 const ONE_FRAME_JOURNAL: &[u8] =
-    b"port 1\nbegin 1\nend\nlook 1 miss\nsettle 1 1 full\nport 2\nbegin 1\nend\n";
+    b"port 1\nbegin 1\nend\nlook 1 miss\nsettle 1 1 installed 1\nport 2\nbegin 1\nend\n";
 
 // The journal of a rule for each of two frames of port 1, one before the sync point and one after it.
 const CHANGE_JOURNAL: &[u8] =
-    b"port 1\nbegin 1\nend\nlook 1 miss\nsettle 1 1 full\nopen 1\nbegin 2\nend\nlook 2 miss\nsettle 2 2 full\nport 2\nbegin 1\nend\nopen 1\nbegin 2\nend\nport 3\nbegin 1\nend\nopen 1\nbegin 2\nend\n";
+    b"port 1\nbegin 1\nend\nlook 1 miss\nsettle 1 1 installed 1\nopen 1\nbegin 2\nput 1 2 replaced\nend\nlook 2 mega 1\nport 2\nbegin 1\nend\nopen 1\nbegin 2\nend\nport 3\nbegin 1\nend\nopen 1\nbegin 2\nend\n";
 
 // The journal of a strict delete at the sync point between two frames of port 1.
 const DELETE_JOURNAL: &[u8] =
-    b"port 1\nbegin 2\nend\nlook 1 miss\nsettle 1 2 full\nopen 1\nbegin 3\nend\nlook 2 miss\nsettle 2 3 full\nport 2\nbegin 2\nend\nopen 1\nbegin 3\nend\nport 3\nbegin 2\nend\nopen 1\nbegin 3\nend\n";
+    b"port 1\nbegin 2\nend\nlook 1 miss\nsettle 1 2 installed 1\nopen 1\nbegin 3\nput 1 3 replaced\nend\nlook 2 mega 1\nport 2\nbegin 2\nend\nopen 1\nbegin 3\nend\nport 3\nbegin 2\nend\nopen 1\nbegin 3\nend\n";
 
 // A rule of 65 actions, one more than a flow may have.
 const MANY_ACTIONS: &str =
     "actions=1,1,1,1,1,1,1,1,1,1,1,1,1,1,1,1,1,1,1,1,1,1,1,1,1,1,1,1,1,1,1,1,1,1,1,1,1,1,1,1,1,1,1,1,1,1,1,1,1,1,1,1,1,1,1,1,1,1,1,1,1,1,1,1,1";
 
 /// Runs that are accepted, and those in which a call fails.
-pub static RUNS: [Run; 14] = [
+pub static RUNS: [Run<'static>; 14] = [
     Run {
         shows: "a frame of port 1 leaves by port 2 as it came",
         words: WORDS,
@@ -125,7 +131,7 @@ pub static RUNS: [Run; 14] = [
             },
             File {
                 name: "out.journal",
-                bytes: Bytes::Raw(b"port 1\nlook 1 miss\nsettle 1 0 full\nport 2\n"),
+                bytes: Bytes::Raw(b"port 1\nlook 1 miss\nsettle 1 0 installed 1\nport 2\n"),
             },
         ],
         in_use: &[],
@@ -180,7 +186,7 @@ pub static RUNS: [Run; 14] = [
             File {
                 name: "out.journal",
                 bytes: Bytes::Raw(
-                    b"port 1\nbegin 1\nend\nlook 1 miss\nsettle 1 1 full\nlook 2 miss\nsettle 2 1 full\nlook 3 miss\nsettle 3 1 full\nport 2\nbegin 1\nend\n",
+                    b"port 1\nbegin 1\nend\nlook 1 miss\nsettle 1 1 installed 1\nlook 2 mega 1\nlook 3 exact 1\nport 2\nbegin 1\nend\n",
                 ),
             },
         ],
@@ -244,7 +250,7 @@ pub static RUNS: [Run; 14] = [
             File {
                 name: "out.journal",
                 bytes: Bytes::Raw(
-                    b"port 1\nbegin 1\nend\nlook 1 miss\nsettle 1 1 full\nport 2\nbegin 1\nend\nport 3\nbegin 1\nend\n",
+                    b"port 1\nbegin 1\nend\nlook 1 miss\nsettle 1 1 installed 1\nport 2\nbegin 1\nend\nport 3\nbegin 1\nend\n",
                 ),
             },
         ],
@@ -337,7 +343,7 @@ pub static RUNS: [Run; 14] = [
             File {
                 name: "out.journal",
                 bytes: Bytes::Raw(
-                    b"port 1\nbegin 2\nend\nlook 1 miss\nsettle 1 2 full\nlook 2 miss\nsettle 2 2 full\nport 2\nbegin 2\nend\nlook 1 miss\nsettle 1 2 full\n",
+                    b"port 1\nbegin 2\nend\nlook 1 miss\nsettle 1 2 installed 1\nlook 2 mega 1\nport 2\nbegin 2\nend\nlook 1 miss\nsettle 1 2 installed 1\n",
                 ),
             },
         ],
@@ -472,14 +478,14 @@ pub static RUNS: [Run; 14] = [
         in_use: &[File {
             name: "out.journal",
             bytes: Bytes::Raw(
-                b"port 1\nbegin 1\nend\nlook 1 miss\nsettle 1 1 full\nport 2\nbegin 1\n",
+                b"port 1\nbegin 1\nend\nlook 1 miss\nsettle 1 1 installed 1\nport 2\nbegin 1\n",
             ),
         }],
     },
 ];
 
 /// Runs whose words or edits are refused.
-pub static REFUSED_EDITS: [Run; 6] = [
+pub static REFUSED_EDITS: [Run<'static>; 6] = [
     // Forms that aren't built.
     Run {
         shows: "a port that stands twice",
@@ -569,7 +575,7 @@ pub static REFUSED_EDITS: [Run; 6] = [
 ];
 
 /// Runs whose traces are refused. The magic is that of pcapng, and the link type LINKTYPE_RAW.
-pub static REFUSED_TRACES: [Run; 10] = [
+pub static REFUSED_TRACES: [Run<'static>; 10] = [
     Run {
         shows: "a header cut short",
         words: WORDS,

@@ -11,20 +11,34 @@ use std::test::Fail;
 use std::thread::Threads;
 use switch_app::run_switch;
 
-// Adds a record of this header to a capture file.
-fn push_record(file: &mut Vec<u8>, header: &[u8; 16]) -> Result<(), AllocError> {
+// The last byte of the destination of a frame, where nothing else is said.
+const DESTINATION: u8 = 2;
+
+// Adds a record of this header to a capture file, with a frame to this destination.
+fn push_record(file: &mut Vec<u8>, header: &[u8; 16], destination: u8) -> Result<(), AllocError> {
     file.extend_from_slice(header)?;
-    file.extend_from_slice(&[0, 0, 0, 0, 0, 2, 0, 0, 0, 0, 0, 1, 0x88, 0xb5])?;
+    file.extend_from_slice(&[0, 0, 0, 0, 0, destination, 0, 0, 0, 0, 0, 1, 0x88, 0xb5])?;
     file.extend_from_slice(&[0; 46])
+}
+
+// Adds a frame at a second to a capture file.
+fn push_frame(file: &mut Vec<u8>, second: u8, destination: u8) -> Result<(), AllocError> {
+    let header = [second, 0, 0, 0, 0, 0, 0, 0, 60, 0, 0, 0, 60, 0, 0, 0];
+    push_record(file, &header, destination)
 }
 
 fn trace_at(alloc: Global, seconds: &[u8]) -> Result<Vec<u8>, AllocError> {
     let mut file = HEADER.to_vec(alloc)?;
     for second in seconds {
-        push_record(
-            &mut file,
-            &[*second, 0, 0, 0, 0, 0, 0, 0, 60, 0, 0, 0, 60, 0, 0, 0],
-        )?;
+        push_frame(&mut file, *second, DESTINATION)?;
+    }
+    Ok(file)
+}
+
+fn trace_to(alloc: Global, frames: &[(u8, u8)]) -> Result<Vec<u8>, AllocError> {
+    let mut file = HEADER.to_vec(alloc)?;
+    for (second, destination) in frames {
+        push_frame(&mut file, *second, *destination)?;
     }
     Ok(file)
 }
@@ -42,6 +56,7 @@ fn trace_with(alloc: Global, offset: usize, bytes: &[u8]) -> Result<Vec<u8>, All
 fn bytes_of(alloc: Global, bytes: &Bytes) -> Result<Vec<u8>, AllocError> {
     match bytes {
         Bytes::At(seconds) => trace_at(alloc, seconds),
+        Bytes::To(frames) => trace_to(alloc, frames),
         Bytes::CutAt(seconds) => {
             let mut file = trace_at(alloc, seconds)?;
             file.pop();
@@ -50,7 +65,7 @@ fn bytes_of(alloc: Global, bytes: &Bytes) -> Result<Vec<u8>, AllocError> {
         Bytes::With(offset, bytes) => trace_with(alloc, *offset, bytes),
         Bytes::Headed(header, record) => {
             let mut file = header.to_vec(alloc)?;
-            push_record(&mut file, record)?;
+            push_record(&mut file, record, DESTINATION)?;
             Ok(file)
         }
         Bytes::Raw(bytes) => bytes.to_vec(alloc),
@@ -58,7 +73,7 @@ fn bytes_of(alloc: Global, bytes: &Bytes) -> Result<Vec<u8>, AllocError> {
 }
 
 // The shelf of a run: the file "edits" and its traces.
-fn shelf_of(alloc: Global, run: &Run) -> Result<MemoryShelf, AllocError>
+fn shelf_of(alloc: Global, run: &Run<'_>) -> Result<MemoryShelf, AllocError>
     ensures { IfOk result (λ shelf. ⟦<MemoryShelf as Shelf>⟧.in_use shelf ≡ Nothing) }
 {
     let mut files = Vec::new(alloc);
@@ -99,7 +114,7 @@ fn is_file(alloc: Global, name: &str, bytes: &[u8], want: &File) -> Result<bool,
 }
 
 // Whether a run left exactly the files that it is to leave.
-fn leaves_its_files(alloc: Global, shelf: &MemoryShelf, run: &Run) -> Result<bool, AllocError> {
+fn leaves_its_files(alloc: Global, shelf: &MemoryShelf, run: &Run<'_>) -> Result<bool, AllocError> {
     let mut same = shelf.made().len() == run.written.len();
     for (file, want) in shelf.made().iter().zip(run.written) {
         same &= is_file(alloc, file.0.as_str(), &file.1, want)?;
@@ -112,10 +127,10 @@ fn leaves_its_files(alloc: Global, shelf: &MemoryShelf, run: &Run) -> Result<boo
 }
 
 // Whether a run ends with its status and text, and leaves its files.
-fn ends_as_shown<R: Threads + Wait + Sync>(
+pub(crate) fn ends_as_shown<R: Threads + Wait + Sync>(
     rt: &R,
     alloc: Global,
-    run: &Run,
+    run: &Run<'_>,
 ) -> Result<bool, AllocError> {
     let mut shelf = shelf_of(alloc, run)?;
     let mut say = MemorySink::new(alloc, Vec::new(alloc));

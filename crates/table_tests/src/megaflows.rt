@@ -1,0 +1,195 @@
+ghost use Rattle.std.specs.Prelude.{◌≡◌, ◌<◌, false, All, IsTrue, IfOk};
+ghost use Rattle.ovs_fields.specs.Packed.{numbers, bits};
+ghost use Rattle.megaflow_table.specs.Entries.{overlaps};
+
+use megaflow_table::{Entry, Megaflows, Visits};
+use ovs_fields::{FieldId, Key, Mask};
+use std::alloc::{AllocError, Global};
+use std::test::Fail;
+
+const IN_PORT_BITS: u128 = 0xffff;
+
+const DL_DST_BITS: u128 = 0xffff_ffff_ffff;
+
+const DL_TYPE_BITS: u128 = 0xffff;
+
+/// Counts below it have room for one more packet.
+const FEW: u64 = 1000;
+
+/// The key of a packet that came in by a port for an Ethernet address.
+fn key_of(port: u16, address: u32) -> Key {
+    let mut key = Key::zero();
+    key.set(FieldId::InPort, u128::from(port));
+    key.set(FieldId::DlDst, u128::from(address));
+    key
+}
+
+/// The mask of the port alone.
+fn port_mask() -> Mask {
+    let mut mask = Mask::none();
+    mask.add(FieldId::InPort, IN_PORT_BITS);
+    mask
+}
+
+/// The mask of the port and the address.
+fn whole_mask() -> Mask {
+    let mut mask = port_mask();
+    mask.add(FieldId::DlDst, DL_DST_BITS);
+    mask
+}
+
+/// The mask of the address alone.
+fn address_mask() -> Mask {
+    let mut mask = Mask::none();
+    mask.add(FieldId::DlDst, DL_DST_BITS);
+    mask
+}
+
+/// The mask of the port and the Ethernet type.
+fn type_mask() -> Mask {
+    let mut mask = port_mask();
+    mask.add(FieldId::DlType, DL_TYPE_BITS);
+    mask
+}
+
+/// An entry that has decided nothing yet.
+fn entry(alloc: Global, number: u32, key: Key, mask: Mask) -> Entry {
+    Entry {
+        number,
+        key,
+        mask,
+        version: 1,
+        actions: 0,
+        visits: Visits::new(Vec::new(alloc)),
+        packets: 0,
+        bytes: 0,
+        owed_packets: 0,
+        owed_bytes: 0,
+        used: 0,
+    }
+}
+
+/// Whether a number is greater than those of all entries.
+fn is_greatest(table: &Megaflows, number: u32) -> bool
+    ensures { IsTrue result → All (λ e. e.number < number) table.now.entries }
+{
+    table.numbers().iter().all(|live| *live < number)
+}
+
+/// Whether an entry overlaps none of the entries.
+fn overlaps_none(table: &Megaflows, entry: &Entry) -> Result<bool, AllocError>
+    ensures { IfOk result (λ apart. IsTrue apart → All (λ e. overlaps (numbers entry.now.key) (bits entry.now.mask) e ≡ false) table.now.entries) }
+{
+    let overlapping = table.overlaps(&entry.key, &entry.mask)?;
+    Ok(overlapping.is_empty())
+}
+
+/// Installs an entry where that is allowed.
+fn install(table: &mut Megaflows, entry: Entry) -> Result<(), AllocError> {
+    table.reserve(&entry.mask)?;
+    let greatest = is_greatest(table, entry.number);
+    let apart = overlaps_none(table, &entry)?;
+    if greatest && apart {
+        table.install(entry);
+    }
+    Ok(())
+}
+
+/// An entry decides a packet, where it is there and has decided few.
+fn hit(table: &mut Megaflows, number: u32, length: u32, time: u64) {
+    let Some(entry) = table.get(number) else {
+        return;
+    };
+    let packets = entry.packets.max(entry.owed_packets);
+    let bytes = entry.bytes.max(entry.owed_bytes);
+    if packets.max(bytes) < FEW {
+        table.hit(number, length, time);
+    }
+}
+
+/// Changes an entry, if it is there.
+fn change(table: &mut Megaflows, number: u32, version: u32, visits: Visits) {
+    if table.get(number).is_some() {
+        table.change(number, version, 0, visits);
+    }
+}
+
+fn pay(table: &mut Megaflows, number: u32) {
+    if table.get(number).is_some() {
+        table.pay(number);
+    }
+}
+
+fn remove(table: &mut Megaflows, number: u32) {
+    if table.get(number).is_some() {
+        table.remove(number);
+    }
+}
+
+/// An entry of each of two masks.
+fn two_megaflows(alloc: Global) -> Result<Megaflows, AllocError> {
+    let mut table = Megaflows::new(alloc, 10);
+    install(&mut table, entry(alloc, 1, key_of(7, 0), port_mask()))?;
+    install(&mut table, entry(alloc, 4, key_of(8, 2), whole_mask()))?;
+    Ok(table)
+}
+
+#[test]
+fn a_key_has_the_one_entry_that_covers_it(rt: HostRuntime) -> Result<(), Fail> {
+    let mut table = two_megaflows(rt.alloc())?;
+    assert_eq!(rt; table.len(), 2);
+    assert_eq!(rt; table.find(&key_of(7, 2)), Some(1));
+    assert_eq!(rt; table.find(&key_of(8, 2)), Some(4));
+    assert_eq!(rt; table.find(&key_of(8, 3)), None);
+    assert_eq!(rt; table.after(1), Some(4));
+    let overlapping = table.overlaps(&key_of(8, 0), &port_mask())?;
+    assert_eq!(rt; overlapping.as_slice(), &[4][..]);
+    remove(&mut table, 4);
+    assert_eq!(rt; table.numbers(), &[1][..]);
+    assert_eq!(rt; table.find(&key_of(8, 2)), None);
+    Ok(())
+}
+
+#[test]
+fn entries_overlap_where_one_mask_covers_the_other(rt: HostRuntime) -> Result<(), Fail> {
+    let alloc = rt.alloc();
+    let mut table = two_megaflows(alloc)?;
+    install(&mut table, entry(alloc, 6, key_of(9, 0), port_mask()))?;
+    let probed = table.overlaps(&key_of(9, 2), &whole_mask())?;
+    assert_eq!(rt; probed.as_slice(), &[6][..]);
+    let apart = table.overlaps(&key_of(8, 3), &whole_mask())?;
+    assert_eq!(rt; apart.is_empty(), true);
+    let tested = table.overlaps(&key_of(5, 2), &address_mask())?;
+    assert_eq!(rt; tested.as_slice(), &[1, 4, 6][..]);
+    Ok(())
+}
+
+#[test]
+fn entries_overlap_where_neither_mask_covers_the_other(rt: HostRuntime) -> Result<(), Fail> {
+    let alloc = rt.alloc();
+    let mut table = Megaflows::new(alloc, 10);
+    install(&mut table, entry(alloc, 2, key_of(7, 3), whole_mask()))?;
+    install(&mut table, entry(alloc, 5, key_of(8, 0), type_mask()))?;
+    let typed = table.overlaps(&key_of(8, 3), &whole_mask())?;
+    assert_eq!(rt; typed.as_slice(), &[5][..]);
+    let addressed = table.overlaps(&key_of(7, 4), &type_mask())?;
+    assert_eq!(rt; addressed.as_slice(), &[2][..]);
+    let apart = table.overlaps(&key_of(9, 3), &whole_mask())?;
+    assert_eq!(rt; apart.is_empty(), true);
+    Ok(())
+}
+
+#[test]
+fn an_entry_counts_its_packets(rt: HostRuntime) -> Result<(), Fail> {
+    let alloc = rt.alloc();
+    let mut table = two_megaflows(alloc)?;
+    hit(&mut table, 4, 60, 5);
+    pay(&mut table, 4);
+    hit(&mut table, 4, 64, 9);
+    change(&mut table, 4, 2, Visits::new(vec![in alloc; 3]?));
+    let counts = table
+        .get(4)
+        .map(|e| (e.bytes, e.owed_bytes, e.used, e.version));
+    assert_eq!(rt; counts, Some((124, 64, 9, 2)));
+    Ok(())
+}

@@ -1,0 +1,25 @@
+use flow_stats::{Counts, Totals};
+use std::test::Fail;
+
+#[test]
+fn a_rule_visited_twice_is_credited_twice(rt: HostRuntime) -> Result<(), Fail> {
+    let mut totals = Totals::new(rt.alloc(), 3)?;
+    assert_eq!(rt; totals.rules(), 3);
+    totals.credit(&[1, 3, 1], 2, 120);
+    let twice = Counts {
+        packets: 4,
+        bytes: 240,
+    };
+    assert_eq!(rt; totals.of(1), twice);
+    let none = Counts {
+        packets: 0,
+        bytes: 0,
+    };
+    assert_eq!(rt; totals.of(2), none);
+    let once = Counts {
+        packets: 2,
+        bytes: 120,
+    };
+    assert_eq!(rt; totals.of(3), once);
+    Ok(())
+}
