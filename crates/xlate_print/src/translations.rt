@@ -1,0 +1,109 @@
+//! Translations as lines, and their visits counted.
+ghost use Rattle.std.specs.Prelude.{IfOk};
+ghost use Rattle.spec_dp_text.specs.Within.{AreWithinFields};
+ghost use Rattle.pipe_model.specs.Runnable.{AreRunnable};
+
+use dp_text::{print_dp_actions, translation_is_within_fields};
+use ovs_fields::{Key, Mask, all_fields};
+use std::alloc::{AllocError, Global};
+use std::fmt::Write;
+use tuple_classifier::Tables;
+use xlate_pipeline::{Translated, translate};
+
+/// The translation of a packet, whose actions can be printed.
+fn translated(
+    alloc: Global,
+    tables: &Tables,
+    ports: &[u16],
+    key: &Key,
+) -> Result<Translated, AllocError>
+    requires { AreRunnable tables.now.rules }
+    ensures { IfOk result (λ x. AreWithinFields x.translation.actions) }
+{
+    translation_is_within_fields();
+    let made = translate(alloc, tables, ports, key)?;
+    Ok(made)
+}
+
+/// Adds a number and a space for each field.
+fn print_mask(mask: &Mask, text: &mut String) -> Result<(), AllocError> {
+    for field in all_fields() {
+        let bits = mask.get(*field);
+        write!(text, "{bits:x} ")?;
+    }
+    Ok(())
+}
+
+/// Adds the numbers of rules, or `-` where there is none.
+fn print_visits(visits: &[u32], text: &mut String) -> Result<(), AllocError> {
+    let [first, others @ ..] = visits else {
+        return text.push('-');
+    };
+    write!(text, "{first}")?;
+    for number in others {
+        write!(text, "+{number}")?;
+    }
+    Ok(())
+}
+
+/// Adds the line of a translation.
+fn print_translation(made: &Translated, text: &mut String) -> Result<(), AllocError>
+    requires { AreWithinFields made.now.translation.actions }
+{
+    print_mask(made.mask(), text)?;
+    text.push_str("actions=")?;
+    print_dp_actions(made.actions().as_slice(), text)?;
+    text.push_str(" visits=")?;
+    print_visits(made.visits().as_slice(), text)?;
+    text.push('\n')
+}
+
+/// The lines of the translations of packets.
+pub fn text_of(
+    alloc: Global,
+    tables: &Tables,
+    ports: &[u16],
+    keys: &[Key],
+) -> Result<String, AllocError>
+    requires { AreRunnable tables.now.rules }
+{
+    let mut text = String::new(alloc);
+    for key in keys {
+        print_translation(&translated(alloc, tables, ports, key)?, &mut text)?;
+    }
+    Ok(text)
+}
+
+/// How many rules the translations of packets visit.
+fn visits_in_round(
+    alloc: Global,
+    tables: &Tables,
+    ports: &[u16],
+    keys: &[Key],
+) -> Result<u64, AllocError>
+    requires { AreRunnable tables.now.rules }
+{
+    let mut count: u64 = 0;
+    for key in keys {
+        let made = translate(alloc, tables, ports, key)?;
+        count = count.saturating_add(made.visits().as_slice().len() as u64);
+    }
+    Ok(count)
+}
+
+/// How many rules are visited where the packets are translated so many times.
+pub fn visits_in_rounds(
+    alloc: Global,
+    tables: &Tables,
+    ports: &[u16],
+    keys: &[Key],
+    rounds: u32,
+) -> Result<u64, AllocError>
+    requires { AreRunnable tables.now.rules }
+{
+    let mut count: u64 = 0;
+    for _ in 0..rounds {
+        count = count.saturating_add(visits_in_round(alloc, tables, ports, keys)?);
+    }
+    Ok(count)
+}
