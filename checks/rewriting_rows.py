@@ -16,19 +16,20 @@ TOP = os.path.join(os.path.dirname(os.path.abspath(__file__)), "..")
 sys.path[:0] = [os.path.join(TOP, "examples"), os.path.join(TOP, "vectors")]
 import expected
 import make
+from classifier import Tables
 from flow_fields import (
-    ETHERTYPE_ARP, ETHERTYPE_IPV4, ETHERTYPE_IPV6, PROTOCOL_ICMP, PROTOCOL_ICMPV6, PROTOCOL_TCP, PROTOCOL_UDP,
+    ETHERTYPE_ARP, ETHERTYPE_IPV4, ETHERTYPE_IPV6, PROTOCOL_ICMP, PROTOCOL_ICMPV6, PROTOCOL_TCP, PROTOCOL_UDP, packed,
 )
 from flow_rules import versions
 from flow_text import Action, read_script
-from frame_key import ETHERNET_HEADER, headers_of, transport_protocol
+from frame_key import ETHERNET_HEADER, headers_of, key_of, transport_protocol
 from frames import ALL_FRAMES
 from made_actions import ActionMaker
 from rewriting import sent, transport_begin
 from rewritings import ROWS
 from row_check import tell
-from simulate import Frame, pieces_of
 from sums import wrong_sums
+from translation import translate
 
 PORTS = [1, 2, 3]
 MADE_LISTS = 2000
@@ -208,7 +209,7 @@ def sent_of(frame, text, ports=PORTS):
     """What is sent of a frame that comes in at port 1: pairs of a port and bytes."""
     edits = read_script(text.encode()).edits
     rules = versions(edits, [len(edits)])[len(edits)]
-    return list(pieces_of(rules, ports, Frame(0, 1, 1, frame)))
+    return list(sent(translate(Tables(rules), ports, packed(key_of(1, frame))).actions, frame))
 
 
 def sent_in_hexadecimal(frame, text, ports=PORTS):

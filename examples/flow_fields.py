@@ -37,25 +37,31 @@ KEY_FIELDS = [
 KEY_FIELD = {field.name: field for field in KEY_FIELDS}
 
 
-def packed(numbers):
-    """A key as one number, its fields one after the other. Those that aren't given are 0."""
-    whole = 0
-    for field in KEY_FIELDS:
-        whole = whole << field.width | numbers.get(field.name, 0)
-    return whole
-
-
-def unpacked(whole):
-    """The number of each field of such a key."""
-    numbers = {}
-    for field in reversed(KEY_FIELDS):
-        numbers[field.name] = whole & full(field.width)
-        whole >>= field.width
-    return numbers
-
-
 def full(width):
     return (1 << width) - 1
+
+
+def places():
+    """Where each field begins and which bits are its own, in a key that is one number: the last field ends it."""
+    at = sum(field.width for field in KEY_FIELDS)
+    for field in KEY_FIELDS:
+        at -= field.width
+        yield field.name, at, full(field.width)
+
+
+PLACES = list(places())
+BEGIN = {name: at for name, at, _ in PLACES}
+
+
+def packed(numbers):
+    """A key as one number, its fields one after the other. Those that aren't given are 0."""
+    return sum(number << BEGIN[name] for name, number in numbers.items())
+
+
+def unpacked(key):
+    """The number of each field of such a key."""
+    return {name: key >> at & bits for name, at, bits in PLACES}
+
 
 # In vlan_tci, that there is a tag.
 TAG = 0x1000

@@ -66,9 +66,3 @@ def versions(edits, wanted):
             found[rules.version] = list(rules.live.values())
     refuse_over(rules.changes, "changes")
     return found
-
-
-def winner(rules, table, key):
-    """The rule of a table that decides a key: the one of the greatest priority; of equal ones the oldest."""
-    matching = [it for it in rules if it.table == table and key & it.matching.mask == it.matching.key]
-    return max(matching, key=lambda it: (it.priority, -it.number), default=None)

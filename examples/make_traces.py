@@ -471,9 +471,45 @@ def from_the_trunk():
     )
 
 
+# ---- cache-sweeps
+
+OTHER_SITE, MAIL_SITE = "203.0.113.80", "198.51.100.9"
+
+
+def open_again(source, target, ports, times):
+    """A segment that opens a connection, and the same one each time that no answer came, by the gateway."""
+    for again, after in enumerate(times):
+        yield after, connect(source, GATEWAY, target, ports, 0x4000 + ports[0] + again, ports[0], after // 1000)
+
+
+def busy_desks():
+    """What comes from two desks: to the file server, to web sites, and to mail servers."""
+    ask = arp(1, *DESK, NO_MAC, GATEWAY[1])
+    to_files = [
+        (after, connect(desk, FILE_SERVER, FILE_SERVER[1], (port, 445), 0x2000 + number, port, after // 1000))
+        for number, (after, desk, port) in enumerate(
+            [(100000, DESK, 40000), (8000000, OTHER_DESK, 40001), (9000000, OTHER_DESK, 40001), (12000000, OTHER_DESK, 40001)]
+        )
+    ]
+    frames = [
+        (0, ethernet(BROADCAST, DESK[0], ETHERTYPE_ARP, ask)),
+        *to_files,
+        *open_again(DESK, WEB_SITE, (40002, 443), [200000]),
+        *open_again(DESK, OTHER_SITE, (40003, 443), [300000]),
+        (10000000, routed(DESK[1], GATEWAY[0], DESK[0], WEB_SITE, PROTOCOL_ICMP, icmp_echo(ECHO_REQUEST, 7, 1), 0x3000)),
+        *open_again(OTHER_DESK, OTHER_SITE, (40004, 443), [11000000]),
+        *open_again(DESK, WEB_SITE, (40005, 443), [12500000]),
+        *open_again(DESK, WEB_SITE, (40006, 25), [13000000, 16000000, 18000000]),
+        *open_again(DESK, OTHER_SITE, (40007, 25), [14000000]),
+        *open_again(OTHER_DESK, MAIL_SITE, (40008, 993), [17000000]),
+    ]
+    return trace((MORNING + after, frame) for after, frame in sorted(frames))
+
+
 TRACES = {
     "access-list/outside.pcap": outside,
     "access-list/inside.pcap": inside,
+    "cache-sweeps/desks.pcap": busy_desks,
     "first-switch/desks.pcap": office,
     "flood-bridge/access-point.pcap": access_point,
     "flood-bridge/room-a.pcap": room_a,

@@ -5,18 +5,21 @@
 
 has the words, files, texts and statuses of `megaswitch`. It shares no code and no definition with it, and nothing
 about it is proved. examples/*/expected was written by it. The edits are read by flow_text.py, over the table of fields
-in flow_fields.py; flow_rules.py has what they do, frame_key.py what a frame is matched by, translation.py what the
-tables make of a packet, and rewriting.py what becomes of its bytes.
+in flow_fields.py; flow_rules.py has what they do, classifier.py which rule decides, frame_key.py what a frame is
+matched by, translation.py what the tables make of a packet, caches.py what is kept of that, and rewriting.py what
+becomes of the bytes of a frame.
 """
+import functools
 import re
 import struct
 import sys
 from collections import namedtuple
 
 sys.dont_write_bytecode = True
+from caches import FLOW_LIMIT, Board
+from classifier import Tables
 from flow_rules import versions
 from flow_text import LAST_PORT, OverLimit, TextFault, read_script
-from frame_key import key_of
 from rewriting import sent
 from translation import translate
 
@@ -165,36 +168,35 @@ def blocks_of(frames, script):
     return [*blocks, Block(frames, len(script.edits))]
 
 
-def pieces_of(rules, ports, frame):
-    """The ports that a frame goes out at, and with which bytes, in order."""
-    return sent(translate(rules, ports, key_of(frame.port, frame.bytes)), frame.bytes)
+def translator(rules, ports):
+    """What a version of the rules makes of a key."""
+    tables_of = functools.cache(lambda version: Tables(rules[version]))
+    return lambda version, key: translate(tables_of(version), ports, key)
 
 
-def sent_frames(blocks, rules, ports):
+def run_board(board, blocks):
+    """Block by block: a sweep where edits were made since the last one, and then each frame."""
+    for number, block in enumerate(blocks):
+        if number > 0:
+            board.open(number)
+        if board.done < block.hi:
+            board.sweep(block.hi)
+        for frame in block.frames:
+            board.decide(frame, block.hi)
+    return board
+
+
+def sent_frames(boards):
     """What leaves by each port, in the order of time, ingress port, place and position in the actions."""
-    decided = [(frame, rules[block.hi]) for block in blocks for frame in block.frames]
-    leaving = {port: [] for port in ports}
-    for frame, living in sorted(decided, key=lambda it: it[0][:3]):
-        for port, data in pieces_of(living, ports, frame):
+    decided = [pair for board in boards.values() for pair in board.decided]
+    leaving = {port: [] for port in boards}
+    for frame, actions in sorted(decided, key=lambda pair: pair[0][:3]):
+        for port, data in sent(actions, frame.bytes):
             leaving[port].append(frame._replace(bytes=data))
     return leaving
 
 
-def journal_of(port, blocks):
-    """The lines of a port: a sweep where edits were made since the last one, each frame, and the next block."""
-    lines, done = [f"port {port}"], 0
-    for number, block in enumerate(blocks):
-        if number > 0:
-            lines.append(f"open {number}")
-        if done < block.hi:
-            lines += [f"begin {block.hi}", "end"]
-            done = block.hi
-        for frame in block.frames:
-            lines += [f"look {frame.place} miss", f"settle {frame.place} {block.hi} full"]
-    return "".join(line + "\n" for line in lines)
-
-
-def simulate(words, contents):
+def simulate(words, contents, flow_limit=FLOW_LIMIT):
     """How a run ends, where contents gives the bytes of the file of a name or raises an OSError."""
 
     def read(name):
@@ -209,10 +211,13 @@ def simulate(words, contents):
         frames, unit = read_traces(traces, read)
     except Refused as refused:
         return Result(refused.args[0], refused.args[1] + "\n", [])
-    blocks = {port: blocks_of(frames[port], script) for port in traces}
-    leaving = sent_frames([block for port in traces for block in blocks[port]], rules, traces)
+    translated = translator(rules, list(traces))
+    boards = {
+        port: run_board(Board(port, translated, flow_limit), blocks_of(frames[port], script)) for port in traces
+    }
+    leaving = sent_frames(boards)
     files = [(f"{out}.p{port}.pcap", write_trace(leaving[port], unit)) for port in traces]
-    journal = "".join(journal_of(port, blocks[port]) for port in traces)
+    journal = "".join(line + "\n" for board in boards.values() for line in board.lines)
     return Result(DONE, "", [*files, (f"{out}.journal", journal.encode())])
 
 

@@ -1,13 +1,17 @@
-"""What the flow tables make of a packet: the datapath actions that a frame of its key is sent with.
+"""What the flow tables make of a packet: the datapath actions that a frame of its key is sent with, the rules that say
+so, and the bits of the key that they were found by.
 
 After ovs-actions(7), in the profile of docs/FORMATS.md: a write acts where the packet is what its field needs, and the
 limits are on depth, lookups and datapath actions.
 
 A flow action changes the key of the packet and nothing else. Only where the packet is sent, the frame is brought up to
-date, by a datapath action for each field that differs.
+date, by a datapath action for each field that differs. So a write may be silent because the field was what is written,
+and has consulted the bits that it writes, as well as those that it reads.
 """
-from flow_fields import ETHERTYPE_IPV4, ETHERTYPE_IPV6, KEY_FIELD, TAG, full, is_stated, packed
-from flow_rules import winner
+from collections import namedtuple
+
+from classifier import WHOLE, bits_of
+from flow_fields import ETHERTYPE_IPV4, ETHERTYPE_IPV6, TAG, full, is_stated, packed, unpacked
 from flow_text import Action
 
 # The first lookup is at depth 0.
@@ -21,11 +25,19 @@ LAST_TTL = 1
 VLAN_BITS = 0x0FFF
 PRIORITY_BITS, PRIORITY_SHIFT = 0xE000, 13
 
+# What no frame carries: it is 0 at first, so that no bit of it tells keys apart.
+REGISTERS = WHOLE["metadata"] | sum(WHOLE[f"reg{number}"] for number in range(16))
+
 # The fields of a frame that are written where they stand, before its tag changes and after.
 BEFORE_TAG = ("dl_src", "dl_dst")
 AFTER_TAG = (
     "nw_src", "nw_dst", "ipv6_src", "ipv6_dst", "nw_tos", "nw_ttl", "arp_sha", "arp_tha", "tp_src", "tp_dst",
 )
+
+
+# What is done to a frame; the numbers of the rules that were found on the way, in order; and the mask: each key that has
+# the same bits there has the same translation.
+Translated = namedtuple("Translated", "actions visits mask")
 
 
 class Stopped(Exception):
@@ -36,14 +48,23 @@ class ListEnded(Exception):
     """A list of actions ends before its last one."""
 
 
-def translate(rules, ports, key):
-    """The datapath actions for a packet of this key, where these rules live: Output, Set, PushVlan and PopVlan."""
-    translation = Translation(rules, ports, key)
+def translate(tables, ports, key):
+    """What a packet of a key comes to by the tables of a version. Its actions are Output, Set, PushVlan and PopVlan."""
+    translation = Translation(tables, ports, unpacked(key))
     try:
         translation.look_up(0, 0)
     except Stopped:
-        return []
-    return translation.actions
+        translation.actions = []
+    return Translated(translation.actions, translation.visits, translation.consulted & ~REGISTERS)
+
+
+def fields_needed(field):
+    """The fields of a key that say whether a packet is what a write to a named field needs."""
+    if field.name in ("vlan_vid", "vlan_pcp"):
+        return ["vlan_tci"]
+    if field.key in ("tp_src", "tp_dst"):
+        return ["dl_type", "nw_proto", "ip_frag"]
+    return ["dl_type"] if field.needs else []
 
 
 def can_write(field, key):
@@ -84,22 +105,32 @@ def changed_tag(before, after):
 
 
 class Translation:
-    """A packet on its way: its key as it now is, the key of the frame as it was last sent, and the actions so far."""
+    """A packet on its way: its key as it now is, the key of the frame as it was last sent, and the actions, the rules and
+    the bits of the key so far."""
 
-    def __init__(self, rules, ports, key):
-        self.rules, self.ports = rules, sorted(ports)
-        self.packet = dict.fromkeys(KEY_FIELD, 0) | key
-        self.frame = dict(self.packet)
-        self.actions, self.lookups = [], 0
+    def __init__(self, tables, ports, key):
+        self.tables, self.ports = tables, sorted(ports)
+        self.packet, self.frame = dict(key), dict(key)
+        self.actions, self.visits, self.lookups = [], [], 0
+        self.consulted = WHOLE["in_port"] | WHOLE["dl_type"] | (WHOLE["ip_frag"] if self.is_ip() else 0)
+
+    def is_ip(self):
+        return self.packet["dl_type"] in (ETHERTYPE_IPV4, ETHERTYPE_IPV6)
 
     def look_up(self, table, depth):
         """Does what the rule says that decides, which another may lead one level deeper."""
         self.lookups += 1
         if depth > DEEPEST or self.lookups > MOST_LOOKUPS:
             raise Stopped
-        rule = winner(self.rules, table, packed(self.packet))
+        rule, consulted = self.tables.look_up(table, packed(self.packet))
+        self.consulted |= consulted
+        if rule:
+            self.visits.append(rule.number)
+            self.follow(rule.actions, depth)
+
+    def follow(self, actions, depth):
         try:
-            for action in rule.actions if rule else []:
+            for action in actions:
                 self.act(action, depth)
         except ListEnded:
             pass
@@ -147,12 +178,22 @@ class Translation:
 
     # ---- reading and writing
 
+    def consult(self, name, bits=0):
+        """Bits of a field, or all of them where none are named. A tag is always consulted as a whole."""
+        self.consulted |= bits_of(name, bits) if bits and name != "vlan_tci" else WHOLE[name]
+
+    def can_write(self, field):
+        for name in fields_needed(field):
+            self.consult(name)
+        return can_write(field, self.packet)
+
     def read(self, slice_):
+        self.consult(slice_.field.key, mask_of(slice_) << slice_.field.low)
         number = self.packet[slice_.field.key] >> slice_.field.low
         return (number & mask_of(slice_)) >> slice_.low
 
     def write(self, field, value, mask):
-        if can_write(field, self.packet):
+        if self.can_write(field):
             mask &= writable_bits(field)
             self.replace(field.key, value << field.low, mask << field.low)
 
@@ -160,15 +201,20 @@ class Translation:
         """Writes bits of the key. A tag whose bit 0x1000 is taken away is no tag."""
         if not mask:
             return
+        self.consult(name, mask)
         number = with_bits(self.packet[name], value, mask)
         self.packet[name] = 0 if name == "vlan_tci" and not number & TAG else number
 
     def move(self, source, target):
-        self.write(target.field, self.read(source) << target.low, mask_of(target))
+        """Nothing is read for a packet that isn't what the target needs."""
+        if self.can_write(target.field):
+            self.write(target.field, self.read(source) << target.low, mask_of(target))
 
     def lower_ttl(self):
-        if self.packet["dl_type"] not in (ETHERTYPE_IPV4, ETHERTYPE_IPV6):
+        self.consult("dl_type")
+        if not self.is_ip():
             return
+        self.consult("nw_ttl")
         if self.packet["nw_ttl"] <= LAST_TTL:
             raise ListEnded
         self.packet["nw_ttl"] -= 1
@@ -176,11 +222,13 @@ class Translation:
     # ---- tags
 
     def push_tag(self):
+        self.consult("vlan_tci")
         if self.packet["vlan_tci"] & TAG:
             raise Stopped
         self.packet["vlan_tci"] = TAG
 
     def pop_tag(self):
+        self.consult("vlan_tci")
         self.packet["vlan_tci"] = 0
 
     def write_vlan(self, number):
