@@ -1,16 +1,12 @@
--- What a key and a mask feed to a hash function: the hash of their numbers.
+-- What a key and a mask feed to a hash function.
 use Rattle.std.specs.Prelude.{◌≡◌, ℕ, IsTrue, List}
-use Rattle.std.specs.Hash as fed
 use Rattle.std.specs.Hash.{on_Alike, same_Alike}
 use Rattle.spec_keys.specs.Keys.{same}
-use Rattle.spec_keys.specs.Hash.{key_hash}
 use Rattle.ovs_fields.specs.declared.key.Key.{Key}
 use Rattle.ovs_fields.specs.declared.mask.Mask.{Mask}
 use Rattle.ovs_fields.specs.Equality.{Decides-same}
+use Rattle.ovs_fields.specs.Feeding.{list_writes}
 use Rattle.ovs_fields.specs.Packed.{numbers, bits}
-
-abbrev pub list_writes : List ℕ → List (List ℕ)
-list_writes list = fed.u64 (key_hash list)
 
 abbrev pub key_writes : Key → List (List ℕ)
 key_writes k = list_writes (numbers k)

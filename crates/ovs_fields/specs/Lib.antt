@@ -1,4 +1,5 @@
 pub mod Equality
+pub mod Feeding
 pub mod Hashing
 pub mod Lists
 pub mod Packed

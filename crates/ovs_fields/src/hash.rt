@@ -68,7 +68,7 @@ macro_rules! all_zero {
 }
 
 /// Whether metadata and the registers are 0, as in the key of every frame.
-fn registers_are_zero(fields: &Fields) -> bool
+pub(crate) fn registers_are_zero(fields: &Fields) -> bool
     ensures { result ≡ are_zero register_fields (list_of fields.now) }
 {
     with_registers!(all_zero(fields))

@@ -3,8 +3,8 @@ ghost use Rattle.spec_keys.specs.Keys.{IsKey};
 ghost use Rattle.ovs_fields.specs.Lists.{list_of};
 
 use crate::FieldId;
+use crate::feed::feed;
 use crate::fields::Fields;
-use crate::hash::key_hash;
 use std::hash::{Hash, Hasher};
 
 /// The key of a packet: a number for each field, within the field's width.
@@ -80,7 +80,7 @@ impl Hash for Key {
     ghost respects_eq = { key_writes_alike };
 
     fn hash<H: Hasher>(&self, state: &mut H) {
-        state.write_u64(key_hash(self));
+        feed(&self.fields, state);
     }
 }
 

@@ -2,8 +2,8 @@ ghost use Rattle.std.specs.Prelude.{◌≡◌, ◌^◌, ◌<◌};
 ghost use Rattle.spec_keys.specs.Keys.{IsKey};
 ghost use Rattle.ovs_fields.specs.Lists.{list_of};
 
+use crate::feed::feed;
 use crate::fields::Fields;
-use crate::hash::key_hash;
 use crate::{FieldId, Key};
 use std::hash::{Hash, Hasher};
 
@@ -73,7 +73,6 @@ impl Eq for Mask {
     ghost laws = { same_equivalence bits };
 }
 
-// A mask is hashed as the key with its numbers would be.
 impl Hash for Mask {
     ghost use Rattle.ovs_fields.specs.Hashing.{mask_writes, mask_writes_alike};
 
@@ -82,10 +81,7 @@ impl Hash for Mask {
     ghost respects_eq = { mask_writes_alike };
 
     fn hash<H: Hasher>(&self, state: &mut H) {
-        let key = Key {
-            fields: self.fields,
-        };
-        state.write_u64(key_hash(&key));
+        feed(&self.fields, state);
     }
 }
 

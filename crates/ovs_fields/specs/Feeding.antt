@@ -1,0 +1,41 @@
+-- What the numbers of a key or a mask feed to a hash function: words that neighbours share, and none for parts that are 0.
+use Rattle.std.specs.Prelude.{ℕ, ◌+◌, ◌*◌, ◌^◌, List, [], ◌++◌, if◌then◌else◌}
+use Rattle.std.specs.Hash as fed
+use Rattle.spec_keys.specs.declared.field_id.FieldId.TheVariants.{InPort, Metadata, Reg0, Reg1, Reg2, Reg3, Reg4, Reg5, Reg6, Reg7, Reg8, Reg9, Reg10, Reg11, Reg12, Reg13, Reg14, Reg15, DlSrc, DlDst, DlType, VlanTci, NwSrc, NwDst, Ipv6Src, Ipv6Dst, NwProto, NwTos, NwTtl, IpFrag, ArpSha, ArpTha, TpSrc, TpDst}
+use Rattle.spec_keys.specs.Fields.{register_fields}
+use Rattle.spec_keys.specs.Keys.{value_of, are_zero}
+use Rattle.ovs_fields.specs.Runs.{ipv6_addresses, arp_addresses}
+
+-- two numbers of n bits in one, the first in its higher half
+abbrev pub joined_words : ℕ → ℕ → ℕ → ℕ
+joined_words n high low = high * 2 ^ n + low
+
+abbrev pub header_writes : List ℕ → List (List ℕ)
+header_writes l =
+    fed.u128 (joined_words 64 (value_of l DlSrc) (value_of l DlDst))
+    ++ (fed.u128 (joined_words 64 (joined_words 32 (value_of l NwSrc) (value_of l NwDst))
+    (joined_words 32 (joined_words 16 (value_of l InPort) (value_of l DlType)) (joined_words 16 (value_of l TpSrc) (value_of l TpDst))))
+    ++ fed.u64 (joined_words 32 (value_of l VlanTci)
+    (joined_words 16 (joined_words 8 (value_of l NwProto) (value_of l NwTos)) (joined_words 8 (value_of l NwTtl) (value_of l IpFrag)))))
+
+abbrev pub ipv6_writes : List ℕ → List (List ℕ)
+ipv6_writes l = if are_zero ipv6_addresses l then [] else fed.u128 (value_of l Ipv6Src) ++ fed.u128 (value_of l Ipv6Dst)
+
+abbrev pub arp_writes : List ℕ → List (List ℕ)
+arp_writes l = if are_zero arp_addresses l then [] else fed.u128 (joined_words 64 (value_of l ArpSha) (value_of l ArpTha))
+
+abbrev pub register_writes : List ℕ → List (List ℕ)
+register_writes l =
+    if are_zero register_fields l then [] else
+    fed.u64 (value_of l Metadata)
+    ++ (fed.u64 (joined_words 32 (value_of l Reg0) (value_of l Reg1))
+    ++ (fed.u64 (joined_words 32 (value_of l Reg2) (value_of l Reg3))
+    ++ (fed.u64 (joined_words 32 (value_of l Reg4) (value_of l Reg5))
+    ++ (fed.u64 (joined_words 32 (value_of l Reg6) (value_of l Reg7))
+    ++ (fed.u64 (joined_words 32 (value_of l Reg8) (value_of l Reg9))
+    ++ (fed.u64 (joined_words 32 (value_of l Reg10) (value_of l Reg11))
+    ++ (fed.u64 (joined_words 32 (value_of l Reg12) (value_of l Reg13))
+    ++ fed.u64 (joined_words 32 (value_of l Reg14) (value_of l Reg15)))))))))
+
+abbrev pub list_writes : List ℕ → List (List ℕ)
+list_writes l = header_writes l ++ (ipv6_writes l ++ (arp_writes l ++ register_writes l))
