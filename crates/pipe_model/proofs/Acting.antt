@@ -1,5 +1,5 @@
 -- What single actions do.
-use Rattle.std.proofs.Common.{◌≡◌, ℕ, Bool, true, false, ◌==◌, ◌&&◌, ◌||◌, not, if◌then◌else◌, List, [], ◌∷◌, length, map, Some, None, refl, sym, ap, ◌∙◌, eq-eqb, ne_eqb, inl, inr, arith}
+use Rattle.std.proofs.Common.{◌≡◌, ℕ, Bool, true, false, ◌==◌, ◌&&◌, ◌||◌, not, if◌then◌else◌, List, [], ◌∷◌, map, Some, None, refl, sym, ap, ◌∙◌, eq-eqb, ne_eqb, inl, inr}
 use Rattle.std.specs.List.{find, list_any}
 use Rattle.std.proofs.lemmas.Bool.{cases_eq}
 use Rattle.spec_actions.specs.declared.named_field.NamedField.{NamedField}
@@ -88,9 +88,3 @@ unfolding write
 write-met n value bits s key met wrote =
     ap (λ (k : List ℕ). with_current k s) wrote
     ∙ sym (ap (λ (t : Bool). if t then with_current (written (named n).field (in_field n value) (written_bits n bits) s.current) s else s) met)
-
--- ---- lists
-
-pub empty_from_length : (xs : List ℕ) → length xs ≡ 0 → xs ≡ []
-empty_from_length [] none = refl
-empty_from_length (x ∷ xs) none = absurd (omega arith)

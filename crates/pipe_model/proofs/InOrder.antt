@@ -1,9 +1,6 @@
 -- Numbers in rising order: there is but one such list of the same numbers, each as often.
-use Rattle.std.proofs.Common.{◌≡◌, inl, inr, ℕ, suc, ◌+◌, ◌≤◌, ◌<◌, Bool, true, false, ◌==◌, if◌then◌else◌, List, [], ◌∷◌, length, filter, refl, sym, ap, ap₂, ◌∙◌, subst, eq-eqb, ne_eqb, leb-true, leb-false, le_refl, arith, nat_le}
+use Rattle.std.proofs.Common.{◌≡◌, inl, inr, ℕ, ◌+◌, ◌≤◌, ◌<◌, Bool, true, false, ◌==◌, if◌then◌else◌, List, [], ◌∷◌, filter, refl, sym, ap, ap₂, ◌∙◌, subst, eq-eqb, ne_eqb, leb-true, leb-false, le_refl, arith, nat_le}
 use Rattle.std.proofs.lemmas.Bool.{cases_lt, cases_eq}
-use Rattle.std.proofs.lemmas.List.Sums.{length-filter}
-use Rattle.std.proofs.lemmas.List.Sorted.{sum_by-IsPermutation}
-use Rattle.std.specs.List.Sorted.{IsPermutation, IsNonDecreasing}
 use Rattle.spec_xlate.specs.Translation.{inserted, rising}
 
 -- how often a number stands in a list
@@ -12,7 +9,7 @@ occurrences v [] = 0
 occurrences v (x ∷ xs) = (if x == v then 1 else 0) + occurrences v xs
 
 -- Numbers rise, from a bound on.
-abbrev Rise : ℕ → List ℕ → Type 0
+abbrev pub Rise : ℕ → List ℕ → Type 0
 Rise low [] = Unit {0}
 Rise low (x ∷ xs) = (low ≤ x) × Rise x xs
 
@@ -33,7 +30,7 @@ none_below v low [] lt h = refl
 none_below v low (x ∷ xs) lt h =
     let later : v < x = omega (arith, h.0, lt) in elsewhere v x xs (λ e. omega arith) ∙ none_below v x xs later h.1
 
-pub same_rising : (low : ℕ) (ys zs : List ℕ) → Rise low ys → Rise low zs → ((v : ℕ) → occurrences v ys ≡ occurrences v zs) → ys ≡ zs
+same_rising : (low : ℕ) (ys zs : List ℕ) → Rise low ys → Rise low zs → ((v : ℕ) → occurrences v ys ≡ occurrences v zs) → ys ≡ zs
 same_rising low [] [] left right same = refl
 same_rising low [] (z ∷ zs) left right same = let one = here z zs in let none = same z in absurd (omega arith)
 same_rising low (y ∷ ys) [] left right same = let one = here y ys in let none = same y in absurd (omega arith)
@@ -67,7 +64,7 @@ rise_inserted low n (x ∷ xs) le h = by_test (nat_le n x) refl (λ after. rise_
     by_test true test further = (le, (leb-true n x test, h.1))
     by_test false test further = let after : x < n = leb-false n x test in (h.0, further (omega arith))
 
-rise_rising : (xs : List ℕ) → Rise 0 (rising xs)
+pub rise_rising : (xs : List ℕ) → Rise 0 (rising xs)
 unfolding rising
 rise_rising [] = tt
 rise_rising (x ∷ xs) = rise_inserted 0 x (rising xs) (omega arith) (rise_rising xs)
@@ -116,30 +113,8 @@ occurrences-filter p v (x ∷ xs) =
     other_number true other others = elsewhere v x (filter p xs) other ∙ others
     other_number false other others = others
 
--- ---- a sort
-
-occurrences-count : (v : ℕ) (xs : List ℕ) → occurrences v xs ≡ length (filter (λ x. x == v) xs)
-occurrences-count v [] = refl
-occurrences-count v (x ∷ xs) = by_test (x == v) (occurrences-count v xs)
-  where
-    by_test : (t : Bool) → occurrences v xs ≡ length (filter (λ x. x == v) xs) → (if t then 1 else 0) + occurrences v xs ≡ length (if t then x ∷ filter (λ x. x == v) xs else filter (λ x. x == v) xs)
-    by_test true others = omega (arith, others)
-    by_test false others = omega (arith, others)
-
-occurrences-permutation : (v : ℕ) (xs ys : List ℕ) → IsPermutation xs ys → occurrences v ys ≡ occurrences v xs
-occurrences-permutation v xs ys moved =
-    occurrences-count v ys ∙ length-filter (λ x. x == v) ys ∙ sum_by-IsPermutation (λ x. if x == v then 1 else 0) xs ys moved ∙ sym (length-filter (λ x. x == v) xs) ∙ sym (occurrences-count v xs)
-
-rise_from : (x : ℕ) (xs : List ℕ) → IsNonDecreasing (x ∷ xs) → Rise x xs
-rise_from x [] h = tt
-rise_from x (y ∷ ys) h = (h 0 1 0 (omega arith) (omega arith), rise_from y ys (λ i j d le within. h (suc i) (suc j) d (omega arith) (omega arith)))
-
-rise_all : (xs : List ℕ) → IsNonDecreasing xs → Rise 0 xs
-rise_all [] h = tt
-rise_all (x ∷ xs) h = (omega arith, rise_from x xs h)
-
--- sorted after some were left out is the same as left out of those in rising order
-pub sorted_without : (p : ℕ → Bool) (xs ys : List ℕ) → IsPermutation (filter p xs) ys → IsNonDecreasing ys → ys ≡ filter p (rising xs)
-sorted_without p xs ys moved sorted =
-    same_rising 0 ys (filter p (rising xs)) (rise_all ys sorted) (rise_filter p 0 (rising xs) (rise_rising xs))
-    (λ v. occurrences-permutation v (filter p xs) ys moved ∙ occurrences-filter p v xs ∙ ap (λ n. if p v then n else 0) (sym (occurrences-rising v xs)) ∙ sym (occurrences-filter p v (rising xs)))
+-- left out of those in rising order, or put in rising order after they were left out: the same
+pub filter-rising : (p : ℕ → Bool) (xs : List ℕ) → filter p (rising xs) ≡ rising (filter p xs)
+filter-rising p xs =
+    same_rising 0 (filter p (rising xs)) (rising (filter p xs)) (rise_filter p 0 (rising xs) (rise_rising xs)) (rise_rising (filter p xs))
+    (λ v. occurrences-filter p v (rising xs) ∙ ap (λ n. if p v then n else 0) (occurrences-rising v xs) ∙ sym (occurrences-filter p v xs) ∙ sym (occurrences-rising v (filter p xs)))

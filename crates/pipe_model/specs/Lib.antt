@@ -1,4 +1,5 @@
 pub mod Modes
+pub mod Others
 pub mod Plains
 pub mod Runnable
 pub mod States

@@ -35,7 +35,7 @@ pub fn plain(
         version,
         ports,
     };
-    let mut state = Translating::start(alloc, key);
+    let mut state = Translating::start(Plain::empty(alloc), key);
     look(&mut state, &sw, 0, DEEPEST + 1)?;
     Ok(state.finish())
 }

@@ -25,7 +25,11 @@
 //!
 //! Each action is a method of `Translating`; only lookups call each other (`lookups`). An output appends at once what turns
 //! the frame's key into the current one, and the outputs; what is beyond the limit is cut off again, and the translation is
-//! over.
+//! over. Where a packet goes to all other ports, these are found one number after the other, so that no sorted copy of the
+//! ports is made.
+//!
+//! A translation is made in lists that its caller hands in (`Translating::start`): what they hold is dropped, and their
+//! memory is used again, so that it takes none where what it makes fits in them. `Plain::empty` gives the first ones.
 //!
 //! # What is left to others
 //!

@@ -1,6 +1,7 @@
 ghost use Rattle.std.specs.Prelude.{◌≡◌};
 
 use dp_actions::ActionList;
+use std::alloc::Global;
 use std::marker::Model;
 
 /// The numbers of the rules that a translation visited, in order, each as often as it was.
@@ -44,4 +45,19 @@ pub struct Plain {
     pub actions: ActionList,
     /// The rules visited, in order.
     pub visits: Visits,
+}
+
+impl Plain {
+    ghost use Rattle.std.specs.Prelude.{[]};
+    ghost use Rattle.pipe_model.specs.Plains.{translation_in};
+
+    /// No actions and no visits. It takes no memory; what the lists take later is of `alloc`.
+    pub fn empty(alloc: Global) -> Plain
+        ensures { translation_in result ≡ record { actions = []; visits = [] } }
+    {
+        Plain {
+            actions: ActionList::new(Vec::new(alloc)),
+            visits: Visits::new(Vec::new(alloc)),
+        }
+    }
 }

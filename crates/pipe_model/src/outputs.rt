@@ -1,13 +1,15 @@
 //! What an output appends, and the limit on what a translation may emit.
-ghost use Rattle.std.specs.Prelude.{◌≡◌, ◌++◌, nat_lt, if◌then◌else◌, OnOk, map, length, take};
+ghost use Rattle.std.specs.Prelude.{◌≡◌, ◌==◌, ◌++◌, nat_lt, if◌then◌else◌, OnOk, filter, map, length, take};
 ghost use Rattle.spec_actions.specs.declared.action.DpAction.TheVariants as datapath;
 ghost use Rattle.spec_xlate.specs.Commit.{commit};
 ghost use Rattle.spec_xlate.specs.Translation.{action_limit};
 ghost use Rattle.spec_xlate.specs.Translation.Mode.{Stopped};
 ghost use Rattle.ovs_fields.specs.Packed.{numbers};
 ghost use Rattle.pipe_model.specs.Modes.{mode_of};
+ghost use Rattle.pipe_model.specs.Others.{others_of};
 
 use crate::mode::Mode;
+use crate::ports::next_other;
 use dp_actions::{ActionList, DpAction, commit};
 use ovs_fields::Key;
 use std::alloc::AllocError;
@@ -27,6 +29,40 @@ pub(crate) fn append_outputs(
     commit(base, current, actions)?;
     'ports: for port in ports {
         actions.push(DpAction::Output(*port))?;
+    }
+    Ok(())
+}
+
+/// Appends what makes a frame of one key into a frame of another, and outputs to all ports but one, in rising order.
+///
+/// It goes from each port to the next higher one, by a pass over the ports, of which a switch has few. So it needs no sorted
+/// copy of them.
+pub(crate) fn append_outputs_but(
+    base: &Key,
+    current: &Key,
+    ports: &[u16],
+    in_port: u16,
+    actions: &mut ActionList,
+) -> Result<(), AllocError>
+    ensures { OnOk result (actions.new ≡ actions.old ++ (commit (numbers base.now) (numbers current.now) ++ map datapath.Output (others_of in_port ports.now))) }
+{
+    commit(base, current, actions)?;
+    let mut from: u32 = 0;
+    'numbers: while let Some(number) = next_other(ports, in_port, from) {
+        append_outputs_to(number, ports, actions)?;
+        from = u32::from(number) + 1;
+    }
+    Ok(())
+}
+
+/// Appends an output for each port of a number.
+fn append_outputs_to(number: u16, ports: &[u16], actions: &mut ActionList) -> Result<(), AllocError>
+    ensures { OnOk result (actions.new ≡ actions.old ++ map datapath.Output (filter (λ p. p == number) ports.now)) }
+{
+    'ports: for port in ports {
+        if *port == number {
+            actions.push(DpAction::Output(*port))?;
+        }
     }
     Ok(())
 }

@@ -1,34 +1,28 @@
-ghost use Rattle.std.specs.Prelude.{◌≡◌, ◌==◌, not, if◌then◌else◌, Some, None, filter, IfOk};
-ghost use Rattle.std.specs.List.{find};
-ghost use Rattle.spec_xlate.specs.Translation.{rising, is_other_port};
+ghost use Rattle.std.specs.Prelude.{◌≡◌, ◌==◌, not, if◌then◌else◌, Some, None, min};
+ghost use Rattle.std.specs.List.{find, list_any, reduce};
+ghost use Rattle.spec_xlate.specs.Translation.{is_other_port};
 ghost use Rattle.ovs_fields.specs.Packed.{numbers};
+ghost use Rattle.pipe_model.specs.Others.{others_from};
 ghost use Rattle.pipe_model.specs.States.{without_rules};
 
 use ovs_fields::{FieldId, Key};
-use std::alloc::{AllocError, Global};
 
-/// The ports but the one where the packet came in.
-fn others(alloc: Global, ports: &[u16], in_port: u16) -> Result<Vec<u16>, AllocError>
-    ensures { IfOk result (λ v. v.items ≡ filter (λ p. not (p == in_port)) ports.now) }
+/// Whether there is a port but the one where the packet came in.
+pub(crate) fn has_others(ports: &[u16], in_port: u16) -> bool
+    ensures { result ≡ list_any (λ p. not (p == in_port)) ports.now }
+{
+    ports.iter().any(|port| *port != in_port)
+}
+
+/// The least port from a number on, but for the one where the packet came in.
+pub(crate) fn next_other(ports: &[u16], in_port: u16, from: u32) -> Option<u16>
+    ensures { result ≡ reduce min (others_from in_port from ports.now) }
 {
     ports
         .iter()
         .copied()
-        .filter(|port| *port != in_port)
-        .collect(alloc)
-}
-
-/// The ports but the one where the packet came in, in rising order.
-pub(crate) fn other_ports(
-    alloc: Global,
-    ports: &[u16],
-    in_port: u16,
-) -> Result<Vec<u16>, AllocError>
-    ensures { IfOk result (λ v. v.items ≡ filter (λ p. not (p == in_port)) (rising ports.now)) }
-{
-    let mut ports = others(alloc, ports, in_port)?;
-    ports.sort_unstable();
-    Ok(ports)
+        .filter(|port| *port != in_port && u32::from(*port) >= from)
+        .min()
 }
 
 /// The port of a number, if it is one of the switch by which the packet didn't come in.

@@ -10,8 +10,8 @@ ghost use Rattle.ovs_fields.specs.Packed.{numbers};
 
 use crate::lists::{Plain, Visits};
 use crate::mode::Mode;
-use crate::outputs::{append_outputs, cut_off};
-use crate::ports::{other_port, other_ports};
+use crate::outputs::{append_outputs, append_outputs_but, cut_off};
+use crate::ports::{has_others, other_port};
 use dp_actions::ActionList;
 use named_fields::{
     NamedField, Prerequisite, Slice, TAG_BIT, holds, is_tagged, named, read_slice, set_tag,
@@ -19,7 +19,7 @@ use named_fields::{
 };
 use ovs_fields::{FieldId, Key};
 use rule_tables::OfAction;
-use std::alloc::{AllocError, Global};
+use std::alloc::AllocError;
 
 /// The depth of the deepest lookup, that of the first being 0. The limits are this profile's.
 pub const DEEPEST: u32 = 64;
@@ -39,7 +39,6 @@ const PCP_UNIT: u16 = 0x2000;
 /// Contracts see it as the `State` of `spec_xlate` (`state_of`), and each call does what a definition there does.
 #[derive(Drop)]
 pub struct Translating {
-    alloc: Global,
     /// The packet's key as the actions so far have made it.
     current: Key,
     /// The key of the frame as the datapath actions so far have made it.
@@ -57,16 +56,19 @@ impl Translating {
     ghost use Rattle.pipe_model.specs.Plains.{translation_in};
     ghost use Rattle.pipe_model.specs.States.{state_of, is_going, visiting, stepped, without_rules};
 
-    /// Before the first lookup of a packet. It takes no memory.
-    pub fn start(alloc: Global, key: &Key) -> Translating
+    /// Before the first lookup of a packet. What the lists hold is dropped, and their memory is used again. It takes none.
+    pub fn start(lists: Plain, key: &Key) -> Translating
         ensures { state_of result ≡ start (numbers key.now) }
     {
+        let mut actions = lists.actions;
+        actions.truncate(0);
+        let mut visits = lists.visits.into_vec();
+        visits.clear();
         Translating {
-            alloc,
             current: *key,
             base: *key,
-            actions: ActionList::new(Vec::new(alloc)),
-            visits: Vec::new(alloc),
+            actions,
+            visits,
             lookups_left: LOOKUP_LIMIT,
             mode: Mode::Going,
         }
@@ -209,11 +211,15 @@ impl Translating {
     fn send_on(&mut self, ports: &[u16]) -> Result<(), AllocError>
         ensures { OnOk result (state_of self.new ≡ output_all (other_ports (without_rules ports.now) (state_of self.old).current) (state_of self.old)) }
     {
-        let others = other_ports(self.alloc, ports, self.in_port())?;
-        if others.is_empty() {
+        let in_port = self.in_port();
+        if !has_others(ports, in_port) {
             return Ok(());
         }
-        self.send(&others)
+        let actions = &mut self.actions;
+        let appended = append_outputs_but(&self.base, &self.current, ports, in_port, actions);
+        self.mode = cut_off(&mut self.actions, self.mode);
+        self.base = self.current;
+        appended
     }
 
     /// Writes bits of a named field, if the packet is what that needs.
