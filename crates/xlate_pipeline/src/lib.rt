@@ -19,7 +19,8 @@
 //! packet's on the mask has the same translation, and consults the same bits. A key is clean where metadata and registers
 //! are 0, as they are in the key of each frame, and so none of their bits is in the mask.
 //!
-//! The only error is out of memory, and then nothing is left behind.
+//! The only error is out of memory, and then nothing is left behind. Where what is made fits in the lists that were handed
+//! in, no memory is taken.
 //!
 //! # How
 //!
@@ -36,6 +37,9 @@
 //!
 //! The mask grows in place along the run (`lookups`), so that no list of masks is kept. Bits of metadata and of registers
 //! are left out at the end.
+//!
+//! The lists are the caller's: whoever hands in those of a translation that is done with (`Translated::into_plain`) has the
+//! next one made in the same memory.
 //!
 //! # What is left to others
 //!

@@ -11,8 +11,8 @@ use crate::registers::without_registers;
 use crate::switch::Switch;
 use crate::translated::Translated;
 use ovs_fields::{Key, Mask};
-use pipe_model::{DEEPEST, Translating};
-use std::alloc::{AllocError, Global};
+use pipe_model::{DEEPEST, Plain, Translating};
+use std::alloc::AllocError;
 use tuple_classifier::Tables;
 
 /// What the tables make of a packet of this key, with the bits of the key that were consulted.
@@ -20,9 +20,12 @@ use tuple_classifier::Tables;
 /// `ports` are the numbers of the switch's ports, in any order. A translation that passes a limit has no datapath actions: a
 /// lookup more than 64 deep, a 513th lookup, a 129th datapath action. Its visits and its bits stay.
 ///
+/// What `lists` hold is dropped, and their memory is used again: none is taken where what is made fits in what they have
+/// room for. A translation that passes a limit may need more.
+///
 /// The only error is out of memory, and then nothing is left behind.
 pub fn translate(
-    alloc: Global,
+    lists: Plain,
     tables: &Tables,
     ports: &[u16],
     key: &Key,
@@ -37,7 +40,7 @@ pub fn translate(
     let sw = Switch { tables, ports };
     let mut mask = Mask::none();
     consult_start(&mut mask, key);
-    let mut state = Translating::start(alloc, key);
+    let mut state = Translating::start(lists, key);
     look(&mut state, &mut mask, &sw, 0, DEEPEST + 1)?;
     let mask = without_registers(&mask);
     Ok(Translated::new(*key, tables.version(), state.finish(), mask))
