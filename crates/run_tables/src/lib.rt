@@ -22,7 +22,8 @@
 //! # How
 //!
 //! The rules are kept by their masks (`tuple_classifier`), packets are translated over them (`xlate_pipeline`), and the
-//! ports are those of the run. An edit changes the tables in place, so no older version is kept.
+//! ports are those of the run. An edit changes the tables in place, so no older version is kept. A translation is made in
+//! lists that its caller hands in, whose memory it uses again.
 //!
 //! # What is left to others
 //!
@@ -33,4 +34,5 @@
 mod tables;
 mod threads;
 
+pub use pipe_model::Plain;
 pub use tables::Tables;

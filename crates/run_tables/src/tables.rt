@@ -5,6 +5,7 @@ ghost use Rattle.ovs_fields.specs.Packed.{numbers};
 ghost use Rattle.pipe_model.specs.Runnable.{has_sound_actions};
 
 use ovs_fields::Key;
+use pipe_model::Plain;
 use run_case::{Case, RunData};
 use run_edits::RunEdits;
 use run_xlate::Xlated;
@@ -84,17 +85,20 @@ impl<C: Case> Tables<C> {
 
     /// What the tables make of a packet of this key, with the bits of the key that decide it.
     ///
+    /// What `lists` hold is dropped, and their memory is used again: none is taken where what is made fits in what they
+    /// have room for. A translation that passes a limit may need more.
+    ///
     /// The only error is out of memory, and then nothing is left behind.
     pub fn translate(
         &self,
-        alloc: Global,
         run: &RunData<C>,
         key: &Key,
+        lists: Plain,
     ) -> Result<Xlated<C>, AllocError>
         ensures key { IfOk result (λ x. x.key ≡ numbers key.now) }
         ensures version { IfOk result (λ x. x.version ≡ self.now) }
     {
-        let made = translate(alloc, &self.rules, run.ports().as_slice(), key)?;
+        let made = translate(lists, &self.rules, run.ports().as_slice(), key)?;
         let mask = *made.mask();
         Ok(Xlated::new(*key, self.version(), made.into_plain(), mask))
     }
