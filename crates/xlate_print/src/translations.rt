@@ -5,6 +5,7 @@ ghost use Rattle.pipe_model.specs.Runnable.{AreRunnable};
 
 use dp_text::{print_dp_actions, translation_is_within_fields};
 use ovs_fields::{Key, Mask, all_fields};
+use pipe_model::Plain;
 use std::alloc::{AllocError, Global};
 use std::fmt::Write;
 use tuple_classifier::Tables;
@@ -21,7 +22,7 @@ fn translated(
     ensures { IfOk result (λ x. AreWithinFields x.translation.actions) }
 {
     translation_is_within_fields();
-    let made = translate(alloc, tables, ports, key)?;
+    let made = translate(Plain::empty(alloc), tables, ports, key)?;
     Ok(made)
 }
 
@@ -74,24 +75,38 @@ pub fn text_of(
     Ok(text)
 }
 
-/// How many rules the translations of packets visit.
-fn visits_in_round(
-    alloc: Global,
+/// The lists of the last translation, and how many rules were visited so far.
+#[derive(Drop)]
+struct Visiting {
+    lists: Plain,
+    visits: u64,
+}
+
+/// Translates packets into the lists of the translations before, and counts the rules that they visit.
+fn visit_round(
+    before: Visiting,
     tables: &Tables,
     ports: &[u16],
     keys: &[Key],
-) -> Result<u64, AllocError>
+) -> Result<Visiting, AllocError>
     requires { AreRunnable tables.now.rules }
 {
-    let mut count: u64 = 0;
+    let Visiting {
+        mut lists,
+        mut visits,
+    } = before;
     for key in keys {
-        let made = translate(alloc, tables, ports, key)?;
-        count = count.saturating_add(made.visits().as_slice().len() as u64);
+        let made = translate(lists, tables, ports, key)?;
+        visits = visits.saturating_add(made.visits().as_slice().len() as u64);
+        lists = made.into_plain();
     }
-    Ok(count)
+    Ok(Visiting { lists, visits })
 }
 
 /// How many rules are visited where the packets are translated so many times.
+///
+/// Each translation uses the lists of the one before again, so that it takes no memory but where it is longer than all
+/// before.
 pub fn visits_in_rounds(
     alloc: Global,
     tables: &Tables,
@@ -101,9 +116,12 @@ pub fn visits_in_rounds(
 ) -> Result<u64, AllocError>
     requires { AreRunnable tables.now.rules }
 {
-    let mut count: u64 = 0;
+    let mut so_far = Visiting {
+        lists: Plain::empty(alloc),
+        visits: 0,
+    };
     for _ in 0..rounds {
-        count = count.saturating_add(visits_in_round(alloc, tables, ports, keys)?);
+        so_far = visit_round(so_far, tables, ports, keys)?;
     }
-    Ok(count)
+    Ok(so_far.visits)
 }
