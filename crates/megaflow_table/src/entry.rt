@@ -2,6 +2,7 @@ ghost use Rattle.std.specs.Prelude.{◌≡◌, ◌+◌, ◌<◌, ◌^◌};
 
 use crate::visits::Visits;
 use ovs_fields::{Key, Mask, agree, and};
+use std::mem;
 
 /// A megaflow: it decides every packet whose key agrees with `key` on `mask`.
 #[derive(Debug, Drop)]
@@ -49,12 +50,14 @@ impl Entry {
         self.used = time;
     }
 
-    pub(crate) fn change(&mut self, version: u32, actions: u32, visits: Visits)
-        ensures { self.new ≡ changed_to version actions visits self.old }
+    // Answers the visits that it had.
+    pub(crate) fn change(&mut self, version: u32, actions: u32, visits: Visits) -> Visits
+        ensures changed { self.new ≡ changed_to version actions visits self.old }
+        ensures visits { result ≡ self.old.visits }
     {
         self.version = version;
         self.actions = actions;
-        self.visits = visits;
+        mem::replace(&mut self.visits, visits)
     }
 
     pub(crate) fn pay(&mut self)

@@ -21,6 +21,7 @@
 //!   come: no two entries overlap, and the numbers rise.
 //! - `install` appends an entry, which must overlap none and have a greater number than all.
 //! - `hit`, `change` and `pay` change one entry as their names say, and `remove` takes one out. Everything else stays.
+//!   `change` answers the visits that the entry had, whose memory can be used again.
 //! - Only `reserve` and `overlaps` take memory, and where that is lacking nothing changed. What `reserve` made room for
 //!   is kept until the next `install`, whatever is removed or changed in between.
 //!

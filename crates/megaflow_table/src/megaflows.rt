@@ -139,9 +139,11 @@ impl Megaflows {
         entry.hit(length, time);
     }
 
-    /// Gives an entry the actions and visits of a version. Its counts stay. It takes no memory.
-    pub fn change(&mut self, number: u32, version: u32, actions: u32, visits: Visits)
+    /// Gives an entry the actions and visits of a version, and answers the visits that it had. Its counts stay. It takes
+    /// no memory.
+    pub fn change(&mut self, number: u32, version: u32, actions: u32, visits: Visits) -> Visits
         requires { IsSome (entry_of number self.old.entries) }
+        ensures visits { option_map (λ e. e.visits) (entry_of number self.old.entries) ≡ Some result }
         ensures entries { self.new.entries ≡ changed number (changed_to version actions visits) self.old.entries }
         ensures room { self.new.room ≡ self.old.room }
         ensures limit { self.new.limit ≡ self.old.limit }
@@ -149,7 +151,7 @@ impl Megaflows {
         let Some(entry) = self.entries.get_mut(&number) else {
             unreachable!()
         };
-        entry.change(version, actions, visits);
+        entry.change(version, actions, visits)
     }
 
     /// Leaves an entry owing nothing. It takes no memory.

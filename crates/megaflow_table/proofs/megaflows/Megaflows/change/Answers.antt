@@ -1,7 +1,8 @@
-use Rattle.std.proofs.Common.{refl, sym, ap, ◌∙◌}
-use Rattle.std.specs.Option.{option_copied_mut}
+use Rattle.std.proofs.Common.{Some, refl, sym, ap, ◌∙◌}
+use Rattle.std.specs.Option.{option_copied_mut, option_map}
+use Rattle.megaflow_table.specs.declared.entry.Entry.{Entry}
 use Rattle.megaflow_table.specs.Entries.{Flows, changed_to}
-use Rattle.megaflow_table.proofs.WriteLaws.{written_table, written_flows, not_live, names_from}
+use Rattle.megaflow_table.proofs.WriteLaws.{entry_in, written_table, written_flows, not_live, names_from}
 use Rattle.megaflow_table.proofs.megaflows.Megaflows.change.Goals as goal
 
 pub unreachable-requires : goal.unreachable-requires
@@ -10,10 +11,17 @@ unreachable-requires c = not_live c.self.inside c.args.number c.args.self.now c.
 pub invariant_of-self : goal.invariant_of-self
 invariant_of-self c =
     written_table c.self.inside c.args.number c.in-Some.entry.now c.change.new.self (c.get_mut.follows.lender c.change.new.self) c.self.invariant c.in-Some.ensures.value (c.get_mut.follows.holds c.change.new.self)
-    (names_from (changed_to c.args.version c.args.actions c.args.visits) c.in-Some.entry.now c.change.new.self c.change.ensures (record { number = refl; key = refl; mask = refl }))
+    (names_from (changed_to c.args.version c.args.actions c.args.visits) c.in-Some.entry.now c.change.new.self c.change.ensures.changed (record { number = refl; key = refl; mask = refl }))
 
 pub returns : goal.returns
 returns c =
     let flows = written_flows c.self.inside c.args.number c.in-Some.entry.now c.change.new.self (c.get_mut.follows.lender c.change.new.self) c.self.invariant c.in-Some.ensures.value (c.get_mut.follows.holds c.change.new.self)
-    (changed_to c.args.version c.args.actions c.args.visits) c.change.ensures c.args.self.now c.self.view_is in
-    record { entries = ap (λ (f : Flows). f.entries) flows; room = ap (λ (f : Flows). f.room) flows; limit = ap (λ (f : Flows). f.limit) flows }
+    (changed_to c.args.version c.args.actions c.args.visits) c.change.ensures.changed c.args.self.now c.self.view_is in
+    record {
+      visits =
+          ap (option_map (λ (e : Entry). e.visits)) (entry_in c.self.inside c.args.number c.args.self.now c.self.view_is c.self.invariant ∙ sym c.in-Some.ensures.value)
+          ∙ ap Some (sym c.change.ensures.visits);
+      entries = ap (λ (f : Flows). f.entries) flows;
+      room = ap (λ (f : Flows). f.room) flows;
+      limit = ap (λ (f : Flows). f.limit) flows;
+    }
