@@ -14,8 +14,8 @@ ghost use Rattle.board_steps.specs.StepViews.{settled_view};
 ghost use Rattle.port_caches.specs.Views.{AreCachesOf, IsHeld, actions_at, entry_view};
 ghost use Rattle.port_caches.specs.Steps.{AreRules, CanHit, HasFewTotals, IsCredited, IsFrameOf, IsHit, IsPut, IsSame, IsSettled, put_state, settle_state};
 
-use crate::entries::{displace, judged, named_by, new_entry, pay, visits_of};
-use crate::lists::{HeldList, hold, list_for, push_list, reserve_lists};
+use crate::entries::{displace, judged, named_by, new_entry, pay, spare_lists, visits_of};
+use crate::lists::{HeldList, WrittenList, hold, list_for, push_list, reserve_lists};
 use board_steps::{EntryNumbers, Settled};
 use exact_cache::ExactCache;
 use flow_stats::Totals;
@@ -30,6 +30,7 @@ use std::marker::Model;
 /// The caches of one ingress port.
 #[derive(Drop)]
 pub struct PortCaches {
+    alloc: Global,
     flows: Megaflows,
     /// How many entries were made.
     made: u32,
@@ -44,6 +45,14 @@ pub struct PortCaches {
 pub struct SettledFrame {
     pub settled: Settled,
     pub list: usize,
+}
+
+/// An entry that was revalidated: what became of it, and lists that aren't needed any more. What these hold means
+/// nothing; their memory can be used again.
+#[derive(Debug, Drop)]
+pub struct Revalidated {
+    pub done: PutDone,
+    pub lists: Plain,
 }
 
 impl Model for PortCaches {
@@ -67,6 +76,7 @@ impl PortCaches {
         ensures rules { IfOk result (λ c. c.rules ≡ rules) }
     {
         Ok(PortCaches {
+            alloc,
             flows: Megaflows::new(alloc, limit),
             made: 0,
             exact: ExactCache::new(alloc)?,
@@ -216,7 +226,7 @@ impl PortCaches {
 
     /// An entry is revalidated at a time in nanoseconds, by the translation of its key under a version, whose mask is
     /// this one: it is paid, and dropped where it was unused for ten seconds or where the mask has a bit that its own
-    /// lacks; else it has the translation. It takes no memory.
+    /// lacks; else it has the translation. Lists that aren't needed then are given back. It takes no memory.
     pub fn put(
         &mut self,
         number: u32,
@@ -224,27 +234,41 @@ impl PortCaches {
         made: Plain,
         mask: &Mask,
         clock: u64,
-    ) -> PutDone
+    ) -> Revalidated
         requires live { IsSome (entry_of number self.old.entries) }
         requires room { 1 ≤ self.old.room }
         requires rules { AreRules self.old.rules made.visits }
         requires fits { (s : State) (e : states.Entry) → AreCachesOf self.old s → s.clock ≡ clock → entry_of number s.entries ≡ Some e
             → HasFewTotals (put_state e (bits mask.now) version (translation_in made) s) }
-        ensures { IsPut number (bits mask.now) version (translation_in made) clock self.old result self.new }
+        ensures { IsPut number (bits mask.now) version (translation_in made) clock self.old result.done self.new }
     {
-        let result = self.judge(number, &made, mask, clock);
+        let done = self.judge(number, &made, mask, clock);
         pay(&mut self.flows, &mut self.totals, number);
         let (_, own) = named_by(&self.flows, number);
-        let visits = visits_of(made.visits);
-        match result {
-            PutDone::Idle | PutDone::Removed => self.flows.remove(number),
-            PutDone::Kept => self.flows.change(number, version, own, visits),
+        match done {
+            PutDone::Idle | PutDone::Removed => {
+                self.flows.remove(number);
+                Revalidated { done, lists: made }
+            }
+            PutDone::Kept => {
+                let visits = visits_of(made.visits);
+                let before = self.flows.change(number, version, own, visits);
+                let lists = spare_lists(made.actions, before);
+                Revalidated { done, lists }
+            }
             PutDone::Replaced => {
-                let list = list_for(&mut self.lists, own as usize, made.actions) as u32;
-                self.flows.change(number, version, list, visits);
+                let visits = visits_of(made.visits);
+                let WrittenList { place, spare } = list_for(
+                    self.alloc,
+                    &mut self.lists,
+                    own as usize,
+                    made.actions,
+                );
+                let before = self.flows.change(number, version, place as u32, visits);
+                let lists = spare_lists(spare, before);
+                Revalidated { done, lists }
             }
         }
-        result
     }
 }
 

@@ -15,6 +15,7 @@ ghost use Rattle.port_caches.specs.Drops.{ArePayable, credited_with, entries_aft
 ghost use Rattle.port_caches.specs.Steps.{AreRules};
 ghost use Rattle.port_caches.specs.declared.lists.HeldList.{HeldList};
 
+use dp_actions::ActionList;
 use flow_stats::Totals;
 use megaflow_table::{Entry, Megaflows, Visits};
 use ovs_fields::{Key, Mask, covers};
@@ -30,6 +31,14 @@ pub(crate) fn visits_of(visits: pipe_model::Visits) -> Visits
     ensures { result ≡ visits }
 {
     Visits::new(visits.into_vec())
+}
+
+/// Actions and visits that nothing names any more, as lists of a translation. It takes no memory.
+pub(crate) fn spare_lists(actions: ActionList, visits: Visits) -> Plain {
+    Plain {
+        actions,
+        visits: pipe_model::Visits::new(visits.into_vec()),
+    }
 }
 
 /// An entry that decided no packet yet. Its actions are a place among lists.

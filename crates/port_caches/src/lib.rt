@@ -21,7 +21,7 @@
 //!   definition: present, full, or installed, with the entries that were dropped. Each rule visited is credited with
 //!   the frame at once.
 //! - After `put` they are those of the state that the definition's put leads to, with its answer. An entry is paid, by
-//!   the visits that it had, before anything else becomes of it.
+//!   the visits that it had, before anything else becomes of it. Nothing is said of the lists that it gives back.
 //! - `remember` has the slots of the definition's `with_cached`, and `reserve` changes nothing but the room.
 //!
 //! `hit` and `settle` answer the place of a list of actions. That list has the actions by which the frame was decided,
@@ -29,7 +29,9 @@
 //! actions are never copied.
 //!
 //! Only `new`, `settle` and `reserve` take memory. Where it is lacking, `settle` and `reserve` changed nothing but the
-//! room. `put` uses one list of the room, which `settle` leaves as asked by `keep`.
+//! room. `put` uses one list of the room, which `settle` leaves as asked by `keep`. It gives back the lists that aren't
+//! needed any more, those of the translation or those of the entry before: a sweep makes its next translation in their
+//! memory.
 //!
 //! # How
 //!
@@ -58,6 +60,6 @@ mod lists;
 mod threads;
 
 pub use board_steps::{EntryNumbers, Settled};
-pub use caches::{PortCaches, SettledFrame};
+pub use caches::{PortCaches, Revalidated, SettledFrame};
 pub use flow_stats::Totals;
 pub use megaflow_table::{Entry, Megaflows};

@@ -4,7 +4,8 @@ ghost use Rattle.std.specs.Prelude.{◌≡◌, ◌<◌, ◌≤◌, ◌+◌, [], 
 ghost use Rattle.port_caches.specs.Lists.{actions_at, room_in, most_lists, IsListFor};
 
 use dp_actions::ActionList;
-use std::alloc::AllocError;
+use std::alloc::{AllocError, Global};
+use std::mem;
 
 /// How many lists there may be: an entry names its list by 32 bits.
 const MOST_LISTS: usize = 1 << 32;
@@ -53,19 +54,35 @@ pub(crate) fn hold(lists: &mut Vec<HeldList>, list: usize)
     lists[list].held = true;
 }
 
+/// A list that was written: its place, and actions that no list has any more, whose memory can be used again.
+pub(crate) struct WrittenList {
+    pub(crate) place: usize,
+    pub(crate) spare: ActionList,
+}
+
 /// The place of a list with these actions that no decided frame names: an entry's own list is written over, unless a
-/// decided frame names it; then a list is added.
-pub(crate) fn list_for(lists: &mut Vec<HeldList>, own: usize, actions: ActionList) -> usize
+/// decided frame names it; then a list is added, and nothing is left over.
+pub(crate) fn list_for(
+    alloc: Global,
+    lists: &mut Vec<HeldList>,
+    own: usize,
+    actions: ActionList,
+) -> WrittenList
     requires own { own < length lists.old.items }
     requires room { 1 ≤ room_in lists.old }
-    ensures list { IsListFor own actions lists.old.items result lists.new.items }
+    ensures list { IsListFor own actions lists.old.items result.place lists.new.items }
     ensures few { vec_len lists.old ≤ most_lists → vec_len lists.new ≤ most_lists }
-    ensures within { result < most_lists }
+    ensures within { result.place < most_lists }
     ensures room { room_in lists.old ≤ room_in lists.new + 1 }
 {
     if lists[own].held {
-        return push_list(lists, actions, false);
+        return WrittenList {
+            place: push_list(lists, actions, false),
+            spare: ActionList::new(Vec::new(alloc)),
+        };
     }
-    lists[own].actions = actions;
-    own
+    WrittenList {
+        place: own,
+        spare: mem::replace(&mut lists[own].actions, actions),
+    }
 }

@@ -47,20 +47,20 @@ named_by-own-requires c =
     let there = viewed_some b.lists.items c.args.number b.flows.entries (subst (λ (v : Caches). IsSome (entry_of c.args.number v.entries)) (sym c.self.view_is) c.requires.live) in
     ap is_some (paid_there b c.self.invariant c.args.number there.0 there.1 c.pay.new.flows.entries c.pay.ensures.entries)
 
-pub change-requires : goal.change-requires
-change-requires c =
+pub change-before-requires : goal.change-before-requires
+change-before-requires c =
     let b = c.self.inside in
     let there = viewed_some b.lists.items c.args.number b.flows.entries (subst (λ (v : Caches). IsSome (entry_of c.args.number v.entries)) (sym c.self.view_is) c.requires.live) in
     ap is_some (paid_there b c.self.invariant c.args.number there.0 there.1 c.pay.new.flows.entries c.pay.ensures.entries)
 
-pub change-requires-in-Replaced : goal.change-requires-in-Replaced
-change-requires-in-Replaced c =
+pub change-before-requires-in-Replaced : goal.change-before-requires-in-Replaced
+change-before-requires-in-Replaced c =
     let b = c.self.inside in
     let there = viewed_some b.lists.items c.args.number b.flows.entries (subst (λ (v : Caches). IsSome (entry_of c.args.number v.entries)) (sym c.self.view_is) c.requires.live) in
     ap is_some (paid_there b c.self.invariant c.args.number there.0 there.1 c.pay.new.flows.entries c.pay.ensures.entries)
 
-pub list_for-list-requires-clause-own : goal.list_for-list-requires-clause-own
-list_for-list-requires-clause-own c =
+pub list_for-place-requires-clause-own : goal.list_for-place-requires-clause-own
+list_for-place-requires-clause-own c =
     let b = c.self.inside in
     let there = viewed_some b.lists.items c.args.number b.flows.entries (subst (λ (v : Caches). IsSome (entry_of c.args.number v.entries)) (sym c.self.view_is) c.requires.live) in
     let paid = paid_there b c.self.invariant c.args.number there.0 there.1 c.pay.new.flows.entries c.pay.ensures.entries in
@@ -84,24 +84,24 @@ returns-in-Idle c =
     let after = caches_in (record b { flows = c.remove.new.self; totals = c.pay.new.totals }) in
     let t = translation_in c.args.made in
     let mask = bits c.args.mask.now in
-    let judged : Judged c.args.number mask c.args.version t c.args.clock (caches_in b) c.judge-result.result after =
-    subst (λ (v : Caches). (s : states.State) (e : states.Entry) → s.clock ≡ c.args.clock → entry_of c.args.number v.entries ≡ Some e → c.judge-result.result ≡ put_of e t mask s) (sym c.self.view_is) c.judge-result.ensures in
+    let judged : Judged c.args.number mask c.args.version t c.args.clock (caches_in b) c.judge-done.result after =
+    subst (λ (v : Caches). (s : states.State) (e : states.Entry) → s.clock ≡ c.args.clock → entry_of c.args.number v.entries ≡ Some e → c.judge-done.result ≡ put_of e t mask s) (sym c.self.view_is) c.judge-done.ensures in
     let drops : (s : states.State) → AreCachesOf (caches_in b) s → AreCachesOf after (effects.dropped (c.args.number ∷ []) (effects.put_by c.args.number c.args.version s)) =
     λ s of.
     dropped_effect b c.self.invariant c.args.number there.0 there.1 c.pay.new.flows.entries c.pay.ensures.entries after refl refl c.pay.ensures.totals
     (ap (map (entry_view b.lists.items)) c.remove.ensures.entries) s of c.args.version in
-    let effect : (s : states.State) → AreCachesOf (caches_in b) s → AreCachesOf after (effects.with_put c.judge-result.result c.args.number c.args.version t (effects.put_by c.args.number c.args.version s)) =
+    let effect : (s : states.State) → AreCachesOf (caches_in b) s → AreCachesOf after (effects.with_put c.judge-done.result c.args.number c.args.version t (effects.put_by c.args.number c.args.version s)) =
     λ s of.
     elim c.in-Idle.is [
       | inl idle ↦ subst (λ (r : PutDone). AreCachesOf after (effects.with_put r c.args.number c.args.version t (effects.put_by c.args.number c.args.version s))) (sym idle) (drops s of)
       | inr removed ↦ subst (λ (r : PutDone). AreCachesOf after (effects.with_put r c.args.number c.args.version t (effects.put_by c.args.number c.args.version s))) (sym removed) (drops s of)
     ] in
-    subst (λ (v : Caches). IsPut c.args.number mask c.args.version t c.args.clock v c.judge-result.result after) c.self.view_is
-    (put_is c.args.number mask c.args.version t c.args.clock (caches_in b) c.judge-result.result after
+    subst (λ (v : Caches). IsPut c.args.number mask c.args.version t c.args.clock v c.judge-done.result after) c.self.view_is
+    (put_is c.args.number mask c.args.version t c.args.clock (caches_in b) c.judge-done.result after
     (record { limit = c.remove.ensures.limit ∙ c.pay.ensures.limit; rules = c.pay.ensures.rules; held = λ n actions is. is }) (omega arith) judged (λ s e of there is. effect s of))
 
-pub invariant_of-self-in-Kept-1 : goal.invariant_of-self-in-Kept-1
-invariant_of-self-in-Kept-1 c =
+pub invariant_of-self-in-Kept : goal.invariant_of-self-in-Kept
+invariant_of-self-in-Kept c =
     let b = c.self.inside in
     let there = viewed_some b.lists.items c.args.number b.flows.entries (subst (λ (v : Caches). IsSome (entry_of c.args.number v.entries)) (sym c.self.view_is) c.requires.live) in
     let paid = paid_there b c.self.invariant c.args.number there.0 there.1 c.pay.new.flows.entries c.pay.ensures.entries in
@@ -110,7 +110,7 @@ invariant_of-self-in-Kept-1 c =
     subst (λ (vs : List ℕ). AreRules (length c.pay.new.totals) vs) (sym (c.visits_of-visits.ensures))
     (subst (λ (n : ℕ). AreRules n c.args.made.visits) (ap (λ (v : Caches). v.rules) (sym c.self.view_is) ∙ sym c.pay.ensures.rules) c.requires.rules) in
     record {
-      entries = subst (AreKept (length b.lists.items) b.made (length c.pay.new.totals)) (sym c.change.ensures.entries)
+      entries = subst (AreKept (length b.lists.items) b.made (length c.pay.new.totals)) (sym c.change-before.ensures.entries)
           (changed_kept b c.self.invariant c.args.number there.0 there.1 c.pay.new.flows.entries c.pay.ensures.entries (length b.lists.items) c.named_by-own.result.1 c.args.version c.visits_of-visits.result
           (length c.pay.new.totals) c.pay.ensures.rules (omega arith)
           (subst (λ (n : ℕ). n < length b.lists.items) (sym own) (kept_found (length b.lists.items) b.made (length b.totals) b.flows.entries c.args.number there.0 c.self.invariant.entries there.1).list)
@@ -124,22 +124,22 @@ returns-in-Kept c =
     let there = viewed_some b.lists.items c.args.number b.flows.entries (subst (λ (v : Caches). IsSome (entry_of c.args.number v.entries)) (sym c.self.view_is) c.requires.live) in
     let paid = paid_there b c.self.invariant c.args.number there.0 there.1 c.pay.new.flows.entries c.pay.ensures.entries in
     let own = (c.named_by-own.ensures (flow.paid there.0) paid).1 in
-    let after = caches_in (record b { flows = c.change.new.self; totals = c.pay.new.totals }) in
+    let after = caches_in (record b { flows = c.change-before.new.self; totals = c.pay.new.totals }) in
     let t = translation_in c.args.made in
     let mask = bits c.args.mask.now in
-    let judged : Judged c.args.number mask c.args.version t c.args.clock (caches_in b) c.judge-result.result after =
-    subst (λ (v : Caches). (s : states.State) (e : states.Entry) → s.clock ≡ c.args.clock → entry_of c.args.number v.entries ≡ Some e → c.judge-result.result ≡ put_of e t mask s) (sym c.self.view_is) c.judge-result.ensures in
-    let effect : (s : states.State) (e : states.Entry) → AreCachesOf (caches_in b) s → entry_of c.args.number (caches_in b).entries ≡ Some e → put_of e t mask s ≡ c.judge-result.result
-    → AreCachesOf after (effects.with_put c.judge-result.result c.args.number c.args.version t (effects.put_by c.args.number c.args.version s)) =
+    let judged : Judged c.args.number mask c.args.version t c.args.clock (caches_in b) c.judge-done.result after =
+    subst (λ (v : Caches). (s : states.State) (e : states.Entry) → s.clock ≡ c.args.clock → entry_of c.args.number v.entries ≡ Some e → c.judge-done.result ≡ put_of e t mask s) (sym c.self.view_is) c.judge-done.ensures in
+    let effect : (s : states.State) (e : states.Entry) → AreCachesOf (caches_in b) s → entry_of c.args.number (caches_in b).entries ≡ Some e → put_of e t mask s ≡ c.judge-done.result
+    → AreCachesOf after (effects.with_put c.judge-done.result c.args.number c.args.version t (effects.put_by c.args.number c.args.version s)) =
     λ s e of is result.
     subst (λ (r : PutDone). AreCachesOf after (effects.with_put r c.args.number c.args.version t (effects.put_by c.args.number c.args.version s))) (sym c.in-Kept.is)
     (changed_effect b c.self.invariant c.args.number there.0 there.1 c.pay.new.flows.entries c.pay.ensures.entries after refl refl c.pay.ensures.totals
-    b.lists.items c.named_by-own.result.1 c.args.version c.visits_of-visits.result t (length c.pay.new.totals) c.pay.ensures.rules (ap (map (entry_view b.lists.items)) c.change.ensures.entries)
+    b.lists.items c.named_by-own.result.1 c.args.version c.visits_of-visits.result t (length c.pay.new.totals) c.pay.ensures.rules (ap (map (entry_view b.lists.items)) c.change-before.ensures.entries)
     (ap (actions_at b.lists.items) own ∙ kept_own b c.self.invariant c.args.number there.0 there.1 e is t mask s (result ∙ c.in-Kept.is))
     (c.visits_of-visits.ensures) (λ n within other. refl) s of) in
-    subst (λ (v : Caches). IsPut c.args.number mask c.args.version t c.args.clock v c.judge-result.result after) c.self.view_is
-    (put_is c.args.number mask c.args.version t c.args.clock (caches_in b) c.judge-result.result after
-    (record { limit = c.change.ensures.limit ∙ c.pay.ensures.limit; rules = c.pay.ensures.rules; held = λ n actions is. is }) (omega arith) judged effect)
+    subst (λ (v : Caches). IsPut c.args.number mask c.args.version t c.args.clock v c.judge-done.result after) c.self.view_is
+    (put_is c.args.number mask c.args.version t c.args.clock (caches_in b) c.judge-done.result after
+    (record { limit = c.change-before.ensures.limit ∙ c.pay.ensures.limit; rules = c.pay.ensures.rules; held = λ n actions is. is }) (omega arith) judged effect)
 
 pub invariant_of-self-in-Replaced : goal.invariant_of-self-in-Replaced
 invariant_of-self-in-Replaced c =
@@ -147,16 +147,16 @@ invariant_of-self-in-Replaced c =
     let there = viewed_some b.lists.items c.args.number b.flows.entries (subst (λ (v : Caches). IsSome (entry_of c.args.number v.entries)) (sym c.self.view_is) c.requires.live) in
     let paid = paid_there b c.self.invariant c.args.number there.0 there.1 c.pay.new.flows.entries c.pay.ensures.entries in
     let own = (c.named_by-own.ensures (flow.paid there.0) paid).1 in
-    let list = c.list_for-list.ensures.list in
-    let visits : AreRules (length c.pay.new.totals) c.visits_of-visits.result =
-    subst (λ (vs : List ℕ). AreRules (length c.pay.new.totals) vs) (sym (c.visits_of-visits.ensures))
+    let list = c.list_for-place.ensures.list in
+    let visits : AreRules (length c.pay.new.totals) c.visits_of-visits-in-Replaced.result =
+    subst (λ (vs : List ℕ). AreRules (length c.pay.new.totals) vs) (sym (c.visits_of-visits-in-Replaced.ensures))
     (subst (λ (n : ℕ). AreRules n c.args.made.visits) (ap (λ (v : Caches). v.rules) (sym c.self.view_is) ∙ sym c.pay.ensures.rules) c.requires.rules) in
     record {
-      entries = subst (AreKept (length c.list_for-list.new.lists.items) b.made (length c.pay.new.totals)) (sym c.change-in-Replaced.ensures.entries)
-          (changed_kept b c.self.invariant c.args.number there.0 there.1 c.pay.new.flows.entries c.pay.ensures.entries (length c.list_for-list.new.lists.items) c.list_for-list.result c.args.version
-          c.visits_of-visits.result (length c.pay.new.totals) c.pay.ensures.rules list.longer list.within
-          (subst (λ (n : ℕ). (c.list_for-list.result ≡ n) ⊎ (c.list_for-list.result ≡ length b.lists.items)) own list.own_or_new) visits);
-      few = c.list_for-list.ensures.few c.self.invariant.few;
+      entries = subst (AreKept (length c.list_for-place.new.lists.items) b.made (length c.pay.new.totals)) (sym c.change-before-in-Replaced.ensures.entries)
+          (changed_kept b c.self.invariant c.args.number there.0 there.1 c.pay.new.flows.entries c.pay.ensures.entries (length c.list_for-place.new.lists.items) c.list_for-place.result.place c.args.version
+          c.visits_of-visits-in-Replaced.result (length c.pay.new.totals) c.pay.ensures.rules list.longer list.within
+          (subst (λ (n : ℕ). (c.list_for-place.result.place ≡ n) ⊎ (c.list_for-place.result.place ≡ length b.lists.items)) own list.own_or_new) visits);
+      few = c.list_for-place.ensures.few c.self.invariant.few;
     }
 
 pub returns-in-Replaced : goal.returns-in-Replaced
@@ -165,21 +165,21 @@ returns-in-Replaced c =
     let there = viewed_some b.lists.items c.args.number b.flows.entries (subst (λ (v : Caches). IsSome (entry_of c.args.number v.entries)) (sym c.self.view_is) c.requires.live) in
     let paid = paid_there b c.self.invariant c.args.number there.0 there.1 c.pay.new.flows.entries c.pay.ensures.entries in
     let own = (c.named_by-own.ensures (flow.paid there.0) paid).1 in
-    let list = c.list_for-list.ensures.list in
-    let lists = c.list_for-list.new.lists.items in
-    let after = caches_in (record b { flows = c.change-in-Replaced.new.self; totals = c.pay.new.totals; lists = c.list_for-list.new.lists }) in
+    let list = c.list_for-place.ensures.list in
+    let lists = c.list_for-place.new.lists.items in
+    let after = caches_in (record b { flows = c.change-before-in-Replaced.new.self; totals = c.pay.new.totals; lists = c.list_for-place.new.lists }) in
     let t = translation_in c.args.made in
     let mask = bits c.args.mask.now in
-    let judged : Judged c.args.number mask c.args.version t c.args.clock (caches_in b) c.judge-result.result after =
-    subst (λ (v : Caches). (s : states.State) (e : states.Entry) → s.clock ≡ c.args.clock → entry_of c.args.number v.entries ≡ Some e → c.judge-result.result ≡ put_of e t mask s) (sym c.self.view_is) c.judge-result.ensures in
-    let effect : (s : states.State) → AreCachesOf (caches_in b) s → AreCachesOf after (effects.with_put c.judge-result.result c.args.number c.args.version t (effects.put_by c.args.number c.args.version s)) =
+    let judged : Judged c.args.number mask c.args.version t c.args.clock (caches_in b) c.judge-done.result after =
+    subst (λ (v : Caches). (s : states.State) (e : states.Entry) → s.clock ≡ c.args.clock → entry_of c.args.number v.entries ≡ Some e → c.judge-done.result ≡ put_of e t mask s) (sym c.self.view_is) c.judge-done.ensures in
+    let effect : (s : states.State) → AreCachesOf (caches_in b) s → AreCachesOf after (effects.with_put c.judge-done.result c.args.number c.args.version t (effects.put_by c.args.number c.args.version s)) =
     λ s of.
     subst (λ (r : PutDone). AreCachesOf after (effects.with_put r c.args.number c.args.version t (effects.put_by c.args.number c.args.version s))) (sym c.in-Replaced.is)
     (changed_effect b c.self.invariant c.args.number there.0 there.1 c.pay.new.flows.entries c.pay.ensures.entries after refl refl c.pay.ensures.totals
-    lists c.list_for-list.result c.args.version c.visits_of-visits.result t (length c.pay.new.totals) c.pay.ensures.rules (ap (map (entry_view lists)) c.change-in-Replaced.ensures.entries)
+    lists c.list_for-place.result.place c.args.version c.visits_of-visits-in-Replaced.result t (length c.pay.new.totals) c.pay.ensures.rules (ap (map (entry_view lists)) c.change-before-in-Replaced.ensures.entries)
     (ap (λ (o : Option HeldList). option_map_or (λ (l : HeldList). l.actions) o []) list.there)
-    (c.visits_of-visits.ensures)
+    (c.visits_of-visits-in-Replaced.ensures)
     (λ n within other. list.others n within (λ same. other (same ∙ own))) s of) in
-    subst (λ (v : Caches). IsPut c.args.number mask c.args.version t c.args.clock v c.judge-result.result after) c.self.view_is
-    (put_is c.args.number mask c.args.version t c.args.clock (caches_in b) c.judge-result.result after
-    (record { limit = c.change-in-Replaced.ensures.limit ∙ c.pay.ensures.limit; rules = c.pay.ensures.rules; held = list.held }) c.list_for-list.ensures.room judged (λ s e of there is. effect s of))
+    subst (λ (v : Caches). IsPut c.args.number mask c.args.version t c.args.clock v c.judge-done.result after) c.self.view_is
+    (put_is c.args.number mask c.args.version t c.args.clock (caches_in b) c.judge-done.result after
+    (record { limit = c.change-before-in-Replaced.ensures.limit ∙ c.pay.ensures.limit; rules = c.pay.ensures.rules; held = list.held }) c.list_for-place.ensures.room judged (λ s e of there is. effect s of))
