@@ -1,21 +1,22 @@
 -- What the calls of a port's caches need, and which states have the same caches.
-use Rattle.std.proofs.Common.{◌≡◌, ℕ, ◌+◌, ◌*◌, ◌-◌, ◌^◌, ◌<◌, ◌≤◌, List, [], ◌∷◌, length, filter, All, Option, Some, None, refl, sym, ap, ◌∙◌, subst, arith}
+use Rattle.std.proofs.Common.{◌≡◌, ℕ, ◌+◌, ◌*◌, ◌-◌, ◌^◌, ◌<◌, ◌≤◌, List, [], ◌∷◌, length, filter, All, Option, Some, None, inl, inr, refl, sym, ap, ◌∙◌, subst, arith}
 use Rattle.std.specs.Option.{option_and_then}
 use Rattle.spec_pcap.specs.Pcap.{Frame, snap_length}
 use Rattle.spec_keys.specs.Keys.{agree}
 use Rattle.spec_xlate.specs.Translation.{Translation}
 use Rattle.spec_case.specs.Run.{Run, last_version, frame_at, frames_of}
 use Rattle.spec_case.specs.Blocks.{AreInOrder}
-use Rattle.spec_board.specs.declared.looked.Looked.TheVariants.{Exact, Mega}
+use Rattle.spec_board.specs.declared.looked.Looked.{Looked}
+use Rattle.spec_board.specs.declared.looked.Looked.TheVariants.{Exact, Mega, Miss}
 use Rattle.spec_board.specs.declared.put_done.PutDone.{PutDone}
 use Rattle.spec_board.specs.declared.put_done.PutDone.TheVariants.{Idle, Removed, Kept, Replaced}
-use Rattle.spec_board.specs.Steps.{Step, Settle, Put, Settled, Present, Full, Installed}
+use Rattle.spec_board.specs.Steps.{Step, Look, Settle, Put, Settled, Present, Full, Installed}
 use Rattle.spec_board.specs.State.{Entry, Slot, State, Total}
 use Rattle.spec_board.specs.Cache.{cached, with_cached}
 use Rattle.spec_board.specs.Results.{covering, entry_of, exact_entry, found_by, key_at, looked, mask_for, put_done, put_of, settled, translated}
-use Rattle.spec_board.specs.Effects.{credited, credited_by, effect, is_among, key_of_entry, put_by, with_put}
+use Rattle.spec_board.specs.Effects.{advanced, credited, credited_by, decided_by, effect, is_among, key_of_entry, put_by, with_put}
 use Rattle.spec_board.specs.Journals.{IsLegal, Legal, after}
-use Rattle.board_laws.specs.Entries.{HasKeys}
+use Rattle.board_laws.specs.Entries.{HasKeys, IsFound}
 use Rattle.board_laws.specs.Counts.{HasBoundedCounts}
 use Rattle.board_laws.proofs.Added.{visits_added}
 use Rattle.board_laws.proofs.Kept.{kept_after}
@@ -30,6 +31,7 @@ use Rattle.exact_cache.proofs.SameSlots.{same_slots-with_cached, same_slots-tran
 use Rattle.flow_stats.specs.Sums.{total_of}
 use Rattle.port_caches.specs.Views.{AreCachesOf, Caches}
 use Rattle.port_caches.specs.Steps.{AreRules, CanHit, HasFewTotals, IsFrameOf, IsSame, put_state, settle_effect, settle_result, settle_state}
+use Rattle.pmd_board.specs.Remembered.{slots_after}
 
 -- ---- states with the same caches
 
@@ -68,18 +70,33 @@ named_live : (o : Option ℕ) (entries : List Entry) (e : Entry) → option_and_
 named_live None entries e h = absurd (cc h)
 named_live (Some n) entries e h = subst (λ m. entry_of m entries ≡ Some e) (sym (entry_of-some n entries e h).1) h
 
-pub exact_live : (key : List ℕ) (number : ℕ) (s : State) → looked key s ≡ Exact number → IsLive number s
+exact_live : (key : List ℕ) (number : ℕ) (s : State) → looked key s ≡ Exact number → IsLive number s
 exact_live key number s h =
     let f = exact_by (exact_entry key s) (covering key s.entries) number h in
     (f.0, subst (λ m. entry_of m s.entries ≡ Some f.0) f.2 (named_live (cached s.slots key) s.entries f.0 f.1))
 
-pub mega_live : (run : Run) (port limit : ℕ) (steps : List Step) → IsLegal run port limit steps → (key : List ℕ) (number : ℕ)
+mega_live : (run : Run) (port limit : ℕ) (steps : List Step) → IsLegal run port limit steps → (key : List ℕ) (number : ℕ)
     → looked key (after run port steps) ≡ Mega number → IsLive number (after run port steps)
 mega_live run port limit steps legal key number h =
     let s = after run port steps in
     let f = mega_by (exact_entry key s) (covering key s.entries) number h in
     let among = (find-some (λ (e : Entry). agree key e.key e.mask) s.entries f.0 f.1).0 in
     (f.0, subst (λ m. entry_of m s.entries ≡ Some f.0) f.2 (entry_of-among f.0 s.entries (kept_after run port limit steps legal).apart.rising among))
+
+pub found_live : (run : Run) (port limit : ℕ) (steps : List Step) → IsLegal run port limit steps → (key : List ℕ) (r : Looked) (number : ℕ)
+    → IsFound r number → looked key (after run port steps) ≡ r → IsLive number (after run port steps)
+found_live run port limit steps legal key r number (inl exact) h = exact_live key number (after run port steps) (h ∙ exact)
+found_live run port limit steps legal key r number (inr mega) h = mega_live run port limit steps legal key number (h ∙ mega)
+
+-- what a look leads to that found the entry of this number
+abbrev pub hit_state : Run → ℕ → ℕ → ℕ → Looked → State → State
+hit_state run port place number r s =
+    let frame = frame_at run port place in
+    record (decided_by number place frame (advanced frame s)) { slots = slots_after r (key_at run port place) s.slots }
+
+pub hit_is : (run : Run) (port place number : ℕ) (r : Looked) (s : State) → IsFound r number → effect run port s (Look place r) ≡ hit_state run port place number r s
+hit_is run port place number r s (inl exact) = rw exact refl
+hit_is run port place number r s (inr mega) = rw mega refl
 
 -- counts have room for a frame more
 pub can_hit : (run : Run) (port limit : ℕ) (steps : List Step) (c : Caches) (number length_ place : ℕ) → IsLegal run port limit steps
@@ -102,18 +119,20 @@ are_rules run v rules key le = λ k d within. (let a = visits_added run v key k 
 
 -- ---- slots
 
-slots_remembered : (a b c : List Slot) (key : List ℕ) (number : ℕ) → AreSameSlots a b → AreSameSlots c (with_cached key number a)
-    → AreSameSlots c (with_cached key number b)
-slots_remembered a b c key number alike put =
+slots_remembered : (a b c : List Slot) (key : List ℕ) (r : Looked) → AreSameSlots a b → AreSameSlots c (slots_after r key a)
+    → AreSameSlots c (slots_after r key b)
+slots_remembered a b c key (Exact number) alike put = same_slots-transitive c a b put alike
+slots_remembered a b c key (Mega number) alike put =
     same_slots-transitive c (with_cached key number a) (with_cached key number b) put (same_slots-with_cached a b key number alike)
+slots_remembered a b c key Miss alike put = same_slots-transitive c a b put alike
 
--- the exact-match cache keeps an entry for a key
-pub remembered : (c d : Caches) (t : State) (key : List ℕ) (number : ℕ) → AreCachesOf c t → d ≡ record c { slots = d.slots }
-    → AreSameSlots d.slots (with_cached key number c.slots) → AreCachesOf d (record t { slots = with_cached key number t.slots })
-remembered c d t key number are rest put = record {
+-- the exact-match cache keeps what a look of a key found
+pub remembered : (c d : Caches) (t : State) (key : List ℕ) (r : Looked) → AreCachesOf c t → d ≡ record c { slots = d.slots }
+    → AreSameSlots d.slots (slots_after r key c.slots) → AreCachesOf d (record t { slots = slots_after r key t.slots })
+remembered c d t key r are rest put = record {
   entries = are.entries ∙ sym (ap (λ (x : Caches). x.entries) rest);
   made = are.made ∙ sym (ap (λ (x : Caches). x.made) rest);
-  slots = slots_remembered c.slots t.slots d.slots key number are.slots put;
+  slots = slots_remembered c.slots t.slots d.slots key r are.slots put;
   totals = λ rule. are.totals rule ∙ sym (ap (λ (x : Caches). total_of x.totals rule) rest);
 }
 

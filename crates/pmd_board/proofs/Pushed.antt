@@ -7,7 +7,7 @@ use Rattle.spec_actions.specs.declared.action.DpAction.{DpAction}
 use Rattle.spec_case.specs.Run.{Run, last_version}
 use Rattle.spec_case.specs.Blocks.{AreInOrder}
 use Rattle.spec_board.specs.Steps.{Step}
-use Rattle.spec_board.specs.State.{Decided, place_at, is_decided}
+use Rattle.spec_board.specs.State.{State, Decided, place_at, is_decided}
 use Rattle.spec_board.specs.Results.{key_at}
 use Rattle.spec_board.specs.Effects.{effect}
 use Rattle.spec_board.specs.Journals.{Legal, IsLegal, opened, after}
@@ -112,6 +112,13 @@ pushed run b c step k p blocks legal keys versions places caches room =
       bounds = rw (p.port, blocks) k.bounds;
       room = room;
     }
+
+-- the same, where what the step leads to is written otherwise
+pub pushed_as : {X : Type 0} (run : Run) (b c : Inside X) (step : rust.Step) (t : State) → effect run b.port (state_of run (view_of b)) (step_view step) ≡ t
+    → IsKept run b → IsPushed b c step → c.blocks ≡ b.blocks → Legal run b.port b.caches.limit (state_of run (view_of b)) (step_view step)
+    → HasKeys run b.port t.next → AreVersionsOf c t → ArePlacesOf c t → HasCachesOf run c t → HasRoom run c → IsKept run c
+pushed_as run b c step t led k p blocks legal keys versions places caches room =
+    pushed run b c step k p blocks legal (rw led keys) (rw led versions) (rw led places) (rw led caches) room
 
 -- A new board keeps what it has to.
 pub opened_keeps : {X : Type 0} (run : Run) (b : Inside X) → HasPort run.ports b.port → AreInOrder run.syncs (last_version run)

@@ -1,3 +1,4 @@
+pub mod Remembered
 pub mod SweepLists
 pub mod BoardView
 pub mod Fields

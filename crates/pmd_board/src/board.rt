@@ -247,6 +247,7 @@ impl<C: Case> Board<C> {
         ensures told { IfSome result (λ d. IsDecision C.run self.now place d.0 d.1.now) }
         ensures some { IfSome result (λ d. states.place_at place (state_of C.run self.now) ≡ states.Decided d.0 d.1.now) }
         ensures none { IfNone result (states.is_decided (states.place_at place (state_of C.run self.now)) ≡ false) }
+        ensures lawful { IsLawful C.run self.now }
     {
         let _ = &self.journal;
         match self.kept(place) {

@@ -51,7 +51,7 @@ mod threads;
 
 pub use board::Board;
 pub use board_steps::{EntryNumbers, Settled, Step};
-pub use port_caches::{Megaflows, Totals};
+pub use port_caches::{Megaflows, Revalidated, Totals};
 pub use run_xlate::Xlated;
 pub use spec_board::{
     BeginFault, EndFault, LookFault, Looked, OpenFault, PutDone, PutFault, SettleFault,

@@ -1,25 +1,38 @@
 //! The steps of a board.
-ghost use Rattle.std.specs.Prelude.{◌≡◌, ◌⊎◌, ◌<◌, ◌+◌, IfOk, IfErr, OnOk, OnErr, Some, None, true, false};
+ghost use Rattle.std.specs.Prelude.{◌≡◌, ◌⊎◌, ◌<◌, ◌+◌, IfOk, IfErr, IsTrue, OnOk, OnErr, Some, None, true, false};
 ghost use Rattle.ovs_fields.specs.Packed.{numbers};
-ghost use Rattle.spec_board.specs.declared.looked.Looked.TheVariants.{Exact, Mega, Miss};
+ghost use Rattle.exact_cache.specs.SameSlots.{AreSameSlots};
+ghost use Rattle.spec_board.specs.declared.looked.Looked.TheVariants.{Miss};
 ghost use Rattle.spec_board.specs.declared.faults.SettleFault.TheVariants as settle_faults;
 ghost use Rattle.spec_board.specs.declared.faults.BeginFault.TheVariants as begin_faults;
 ghost use Rattle.spec_board.specs.Steps as steps;
 ghost use Rattle.spec_board.specs.Results.{entry_of, looked};
-ghost use Rattle.spec_board.specs.Effects.{key_of_entry};
+ghost use Rattle.spec_board.specs.Effects.{is_among, key_of_entry};
 ghost use Rattle.spec_board.specs.Refusals.{open_fault, look_fault, settle_fault, begin_fault, put_fault, end_fault};
+ghost use Rattle.board_laws.specs.Entries.{IsFound};
 ghost use Rattle.pmd_board.specs.BoardView.{Appends, HasSettled, IsLawful, state_of};
+ghost use Rattle.pmd_board.specs.Remembered.{slots_after};
 
 use crate::board::Board;
 use crate::place::Place;
 use crate::sweep_list::SweepList;
 use board_steps::Step;
+use ovs_fields::Key;
+use port_caches::{PortCaches, Revalidated};
 use run_case::{Case, Keyed};
 use run_xlate::Xlated;
-use spec_board::{
-    BeginFault, EndFault, LookFault, Looked, OpenFault, PutDone, PutFault, SettleFault,
-};
+use spec_board::{BeginFault, EndFault, LookFault, Looked, OpenFault, PutFault, SettleFault};
 use std::alloc::AllocError;
+
+// The exact-match cache keeps which entry a look found among the megaflows.
+fn remember(caches: &mut PortCaches, key: &Key, found: Looked)
+    ensures slots { AreSameSlots caches.new.slots (slots_after found (numbers key.now) caches.old.slots) }
+    ensures rest { caches.new ≡ record caches.old { slots = caches.new.slots } }
+{
+    if let Looked::Mega(number) = found {
+        caches.remember(key, number);
+    }
+}
 
 impl<C: Case> Board<C> {
     /// Opens a block, the next one, once all is done in the block before it.
@@ -54,46 +67,31 @@ impl<C: Case> Board<C> {
             self.laws_hold();
             return Err(fault);
         }
-        let result = self.caches.look(&at.key);
-        match result {
-            Looked::Exact(number) => self.hit_exactly(at, number),
-            Looked::Mega(number) => self.hit(at, number),
+        let found = self.caches.look(&at.key);
+        match found {
+            Looked::Exact(number) | Looked::Mega(number) => self.hit(at, number, found),
             Looked::Miss => self.miss(at),
         }
         self.laws_hold();
-        Ok(result)
+        Ok(found)
     }
 
-    fn hit_exactly(&mut self, at: &Keyed<C>, number: u32)
+    // The frame is decided by the entry that its look found.
+    fn hit(&mut self, at: &Keyed<C>, number: u32, found: Looked)
         requires port { at.now.port ≡ self.old.port }
         requires may { look_fault C.run self.old.port (state_of C.run self.old) at.now.place ≡ None }
-        requires found { looked (numbers at.now.key) (state_of C.run self.old) ≡ Exact number }
-        ensures { Appends C.run self.old (steps.Look at.now.place (Exact number)) self.new }
+        requires found { looked (numbers at.now.key) (state_of C.run self.old) ≡ found }
+        requires number { IsFound found number }
+        ensures { Appends C.run self.old (steps.Look at.now.place found) self.new }
     {
         let (version, list) = self.caches.hit(number, at.length, at.time);
+        remember(&mut self.caches, &at.key, found);
         self.next += 1;
         self.clock = self.clock.max(at.time);
         self.places[at.place as usize - 1] = Place::Decided { version, list };
         self.journal.push_reserved(Step::Look {
             place: at.place,
-            result: Looked::Exact(number),
-        });
-    }
-
-    fn hit(&mut self, at: &Keyed<C>, number: u32)
-        requires port { at.now.port ≡ self.old.port }
-        requires may { look_fault C.run self.old.port (state_of C.run self.old) at.now.place ≡ None }
-        requires found { looked (numbers at.now.key) (state_of C.run self.old) ≡ Mega number }
-        ensures { Appends C.run self.old (steps.Look at.now.place (Mega number)) self.new }
-    {
-        let (version, list) = self.caches.hit(number, at.length, at.time);
-        self.caches.remember(&at.key, number);
-        self.next += 1;
-        self.clock = self.clock.max(at.time);
-        self.places[at.place as usize - 1] = Place::Decided { version, list };
-        self.journal.push_reserved(Step::Look {
-            place: at.place,
-            result: Looked::Mega(number),
+            result: found,
         });
     }
 
@@ -210,10 +208,11 @@ impl<C: Case> Board<C> {
     /// credited with what it owes them. Where it wasn't used for ten seconds, or the translation consulted a bit that its
     /// mask lacks, it is dropped; else it has the translation.
     ///
-    /// It takes no memory. The translation is given up where it refuses.
-    pub fn put(&mut self, number: u32, made: Xlated<C>) -> Result<PutDone, PutFault>
-        requires { made.key ≡ key_of_entry (entry_of number (state_of C.run self.old).entries) }
-        ensures put { IfOk result (λ r. Appends C.run self.old (steps.Put number made.version r) self.new) }
+    /// Where the sweep doesn't list the megaflow, the translation may be of any key. It is given up where it refuses; else
+    /// lists that aren't needed any more are given back. It takes no memory.
+    pub fn put(&mut self, number: u32, made: Xlated<C>) -> Result<Revalidated, PutFault>
+        requires { IsTrue (is_among (state_of C.run self.old).listed number) → made.key ≡ key_of_entry (entry_of number (state_of C.run self.old).entries) }
+        ensures put { IfOk result (λ r. Appends C.run self.old (steps.Put number made.version r.done) self.new) }
         ensures refused { IfErr result (λ f. (put_fault C.run (state_of C.run self.old) number made.version ≡ Some f) × (self.new ≡ self.old)) }
         ensures lawful { IsLawful C.run self.new }
     {
@@ -221,19 +220,19 @@ impl<C: Case> Board<C> {
             self.laws_hold();
             return Err(fault);
         }
-        let result = self.revalidate(number, made);
+        let revalidated = self.revalidate(number, made);
         self.laws_hold();
-        Ok(result)
+        Ok(revalidated)
     }
 
-    fn revalidate(&mut self, number: u32, made: Xlated<C>) -> PutDone
+    fn revalidate(&mut self, number: u32, made: Xlated<C>) -> Revalidated
         requires key { made.key ≡ key_of_entry (entry_of number (state_of C.run self.old).entries) }
         requires may { put_fault C.run (state_of C.run self.old) number made.version ≡ None }
-        ensures { Appends C.run self.old (steps.Put number made.version result) self.new }
+        ensures { Appends C.run self.old (steps.Put number made.version result.done) self.new }
     {
         let version = made.version();
         let mask = *made.mask();
-        let result = self
+        let revalidated = self
             .caches
             .put(number, version, made.into_plain(), &mask, self.clock);
         self.listed.forget(number);
@@ -241,9 +240,9 @@ impl<C: Case> Board<C> {
         self.journal.push_reserved(Step::Put {
             entry: number,
             version,
-            result,
+            result: revalidated.done,
         });
-        result
+        revalidated
     }
 
     /// Ends the sweep that runs, once no megaflow is left to put.

@@ -1,11 +1,9 @@
 use Rattle.std.proofs.Common.{arith, None, ◌≡◌, ◌^◌, ◌<◌, max, refl, sym, ap, ◌∙◌, subst}
 use Rattle.spec_case.specs.Run.{Run, frame_at}
-use Rattle.spec_board.specs.declared.looked.Looked.TheVariants.{Mega}
 use Rattle.spec_board.specs.State as states
 use Rattle.spec_board.specs.Steps as steps
 use Rattle.spec_board.specs.Results.{entry_of, key_at}
-use Rattle.spec_board.specs.Cache.{with_cached}
-use Rattle.spec_board.specs.Effects.{advanced}
+use Rattle.spec_board.specs.Effects.{advanced, decided_by}
 use Rattle.spec_board.specs.Refusals.{look_fault}
 use Rattle.spec_board.specs.Journals.{Legal}
 use Rattle.board_steps.specs.declared.step.Step.TheVariants as rust
@@ -16,9 +14,10 @@ use Rattle.port_caches.specs.Views.{Caches, IsHeld, KeepsHeld}
 use Rattle.pmd_board.specs.declared.place.Place.TheVariants as rust_place
 use Rattle.pmd_board.specs.BoardView.{BoardView, state_of}
 use Rattle.pmd_board.specs.Fields.{view_of}
-use Rattle.pmd_board.proofs.Caches.{can_hit, mega_live, recast, remembered}
+use Rattle.pmd_board.specs.Remembered.{slots_after}
+use Rattle.pmd_board.proofs.Caches.{can_hit, found_live, hit_is, hit_state, recast, remembered}
 use Rattle.pmd_board.proofs.LookedUp.{few_frames, found_there, hit_places, looked_room, turn_of}
-use Rattle.pmd_board.proofs.Pushed.{appends, key_looked_up, pushed}
+use Rattle.pmd_board.proofs.Pushed.{appends, key_looked_up, pushed_as}
 use Rattle.pmd_board.proofs.board.Board.hit.Goals as goal
 
 pub hit-version-requires : goal.hit-version-requires
@@ -29,10 +28,11 @@ hit-version-requires g c =
     let s : states.State = state_of run (view_of b) in
     let at = c.args.at.now in
     let port : at.port ≡ b.port = c.requires.port ∙ ap (λ (x : BoardView). x.port) (sym c.self.view_is) in
-    let found = found_there run b c.args.self.now at.port at.place _ (Mega c.args.number) c.self.view_is at.key_is c.requires.port c.requires.found in
+    let found = found_there run b c.args.self.now at.port at.place _ c.args.found c.self.view_is at.key_is c.requires.port c.requires.found in
     let few : s.next < 2 ^ 32 = (let f = few_frames run b k in omega (arith, f, k.lawful.next_within)) in
     can_hit run b.port b.caches.limit (steps_view b.journal.items) b.caches c.args.number at.length at.place k.legal k.room.short k.caches.caches few
-    (rw (← port) at.length_is) (mega_live run b.port b.caches.limit (steps_view b.journal.items) k.legal (key_at run b.port at.place) c.args.number found)
+    (rw (← port) at.length_is)
+    (found_live run b.port b.caches.limit (steps_view b.journal.items) k.legal (key_at run b.port at.place) c.args.found c.args.number c.requires.number found)
 
 pub invariant_of-self : goal.invariant_of-self
 invariant_of-self g c =
@@ -42,30 +42,32 @@ invariant_of-self g c =
     let s : states.State = state_of run (view_of b) in
     let at = c.args.at.now in
     let number = c.args.number in
+    let r = c.args.found in
     let port : at.port ≡ b.port = c.requires.port ∙ ap (λ (x : BoardView). x.port) (sym c.self.view_is) in
     let may : look_fault run b.port s at.place ≡ None =
     subst (λ (x : BoardView). look_fault run x.port (state_of run x) at.place ≡ None) (sym c.self.view_is) c.requires.may in
-    let found = found_there run b c.args.self.now at.port at.place _ (Mega number) c.self.view_is at.key_is c.requires.port c.requires.found in
-    let legal : Legal run b.port b.caches.limit s (steps.Look at.place (Mega number)) = (may, sym found) in
+    let found = found_there run b c.args.self.now at.port at.place _ r c.self.view_is at.key_is c.requires.port c.requires.found in
+    let legal : Legal run b.port b.caches.limit s (steps.Look at.place r) = (may, sym found) in
     let turn = turn_of run b at.place k may (rw (← port) at.has_place) in
     let keys = key_looked_up run b.port s.next k.has_keys at.place turn.turn (rw (← port) at.has_key) in
     let frame = frame_at run b.port at.place in
     let time : at.time ≡ frame.time = rw (← port) at.time_is in
-    let live = mega_live run b.port b.caches.limit (steps_view b.journal.items) k.legal (key_at run b.port at.place) number found in
+    let live = found_live run b.port b.caches.limit (steps_view b.journal.items) k.legal (key_at run b.port at.place) r number c.requires.number found in
     let hit = c.hit-version.ensures in
     let decided = hit.decided live.0 (ap (λ es. entry_of number es) (sym k.caches.caches.entries) ∙ live.1) in
     let key : numbers at.key ≡ key_at run b.port at.place = at.key_is ∙ ap (λ q. key_at run q at.place) port in
     let rest = c.remember.ensures.rest in
     let caches_hit = hit.effect (advanced frame s) at.place frame (record { length_is = rw (← port) at.length_is; time_is = time })
     (recast b.caches s (advanced frame s) refl refl refl (λ rule. refl) k.caches.caches) in
-    let caches = remembered c.hit-version.new.self c.remember.new.self _ (key_at run b.port at.place) number caches_hit rest
-    (subst (λ y. AreSameSlots c.remember.new.self.slots (with_cached y number c.hit-version.new.self.slots)) key c.remember.ensures.slots) in
+    let caches = remembered c.hit-version.new.self c.remember.new.caches (decided_by number at.place frame (advanced frame s)) (key_at run b.port at.place) r caches_hit rest
+    (subst (λ y. AreSameSlots c.remember.new.caches.slots (slots_after r y c.hit-version.new.self.slots)) key c.remember.ensures.slots) in
     let limit = ap (λ (x : Caches). x.limit) rest ∙ hit.same.limit in
-    let lists : c.hit-version.new.self.lists ≡ c.remember.new.self.lists = sym (ap (λ (x : Caches). x.lists) rest) in
+    let lists : c.hit-version.new.self.lists ≡ c.remember.new.caches.lists = sym (ap (λ (x : Caches). x.lists) rest) in
     let keeps = subst (KeepsHeld b.caches.lists) lists hit.same.held in
     let held = subst (λ l. IsHeld l c.hit-version.result.1 live.0.actions) lists decided.1 in
     let push = c.push_reserved.ensures in
-    pushed run b _ (rust.Look at.place (Mega number)) k (record { port = refl; limit = limit; items = push.items }) refl legal keys
+    pushed_as run b _ (rust.Look at.place r) (hit_state run b.port at.place number r s) (hit_is run b.port at.place number r s c.requires.number) k
+    (record { port = refl; limit = limit; items = push.items }) refl legal keys
     (record {
       block = k.versions.block;
       newest = k.versions.newest;
@@ -73,7 +75,7 @@ invariant_of-self g c =
       done = k.versions.done;
       is_sweeping = k.versions.is_sweeping;
     })
-    (hit_places run b _ at.place number c.hit-version.result.0 c.hit-version.result.1 frame live.0 (with_cached (key_at run b.port at.place) number s.slots) k turn
+    (hit_places run b _ at.place number c.hit-version.result.0 c.hit-version.result.1 frame live.0 (slots_after r (key_at run b.port at.place) s.slots) k turn
     (record { next = refl; places = refl; count = refl; blocks = refl; block = refl; sweeping = refl; listed = refl; limit = limit; room = ap (λ (x : Caches). x.room) rest ∙ hit.room; len = push.len; capacity = push.capacity; port = refl }) live.1 keeps decided.0 held
     (c.max-self-inside.ensures ∙ ap (max b.clock) time) refl)
     (record {
@@ -90,9 +92,8 @@ returns g c =
     let b = c.self.inside in
     let run : Run = g.C.Case.run in
     let at = c.args.at.now in
-    let r = Mega c.args.number in
     let may = subst (λ (x : BoardView). look_fault run x.port (state_of run x) at.place ≡ None) (sym c.self.view_is) c.requires.may in
-    let found = found_there run b c.args.self.now at.port at.place _ r c.self.view_is at.key_is c.requires.port c.requires.found in
-    appends run b (rust.Look at.place r) c.args.self.now _ _ _ c.self.view_is refl
+    let found = found_there run b c.args.self.now at.port at.place _ c.args.found c.self.view_is at.key_is c.requires.port c.requires.found in
+    appends run b (rust.Look at.place c.args.found) c.args.self.now _ _ _ c.self.view_is refl
     (ap (λ (x : Caches). x.limit) c.remember.ensures.rest ∙ c.hit-version.ensures.same.limit)
     c.push_reserved.ensures.items (may, sym found)

@@ -24,8 +24,8 @@ use Rattle.pmd_board.proofs.Settles.{IsMadeOf, listed_live, put_caches, put_tota
 use Rattle.pmd_board.proofs.Sweeps.{fewer_left, put_of_state, sweeps_where_listed}
 use Rattle.pmd_board.proofs.board.Board.revalidate.Goals as goal
 
-pub put-result-requires-clause-rules : goal.put-result-requires-clause-rules
-put-result-requires-clause-rules g c =
+pub put-revalidated-requires-clause-rules : goal.put-revalidated-requires-clause-rules
+put-revalidated-requires-clause-rules g c =
     let b = c.self.inside in
     let run : Run = g.C.Case.run in
     let k = c.self.invariant in
@@ -39,8 +39,8 @@ put-result-requires-clause-rules g c =
     record { key_is = refl; mask_is = refl; translation_is = c.into_plain.ensures ∙ ap (λ x. translated run x own) (sym version) } in
     visits_rules run own v b.caches.rules own (mask_for run v own) (translation_in c.into_plain.result) made k.caches.rules k.in_order s.block (may_put run s c.args.number v may).not_ahead
 
-pub put-result-requires-clause-fits : goal.put-result-requires-clause-fits
-put-result-requires-clause-fits g c s e these clock found =
+pub put-revalidated-requires-clause-fits : goal.put-revalidated-requires-clause-fits
+put-revalidated-requires-clause-fits g c s e these clock found =
     let b = c.self.inside in
     let run : Run = g.C.Case.run in
     let k = c.self.invariant in
@@ -73,9 +73,9 @@ invariant_of-self g c =
       mask_is = c.mask.ensures.mask ∙ ap₂ (mask_for run) (sym version) key;
       translation_is = c.into_plain.ensures ∙ ap₂ (translated run) (sym version) key;
     } in
-    let r = c.put-result.result in
-    let put = c.put-result.ensures in
-    let did = put_caches run b.port number v b.clock b.caches c.put-result.new.self r s e e.key (bits c.mask.result.now) (translation_in c.into_plain.result) made put
+    let r = c.put-revalidated.result.done in
+    let put = c.put-revalidated.ensures in
+    let did = put_caches run b.port number v b.clock b.caches c.put-revalidated.new.self r s e e.key (bits c.mask.result.now) (translation_in c.into_plain.result) made put
     k.places.clock live.1 k.caches.caches in
     let legal : Legal run b.port b.caches.limit s (steps.Put number v r) =
     (may, ap (option_map (λ x. put_done run x v s)) live.1 ∙ ap Some (sym did.0)) in
@@ -101,8 +101,8 @@ invariant_of-self g c =
       next = now.next ∙ k.places.next;
       clock = now.clock ∙ k.places.clock;
       pending = ap (count_by states.is_pending) now.places ∙ k.places.pending;
-      views = now.places ∙ k.places.views ∙ sym (views_kept b.caches.lists c.put-result.new.self.lists b.places.items put.same.held k.places.named);
-      named = names_kept b.caches.lists c.put-result.new.self.lists b.places.items put.same.held k.places.named;
+      views = now.places ∙ k.places.views ∙ sym (views_kept b.caches.lists c.put-revalidated.new.self.lists b.places.items put.same.held k.places.named);
+      named = names_kept b.caches.lists c.put-revalidated.new.self.lists b.places.items put.same.held k.places.named;
     })
     (record {
       caches = did.1;
@@ -141,9 +141,9 @@ returns g c =
       mask_is = c.mask.ensures.mask ∙ ap₂ (mask_for run) (sym version) key;
       translation_is = c.into_plain.ensures ∙ ap₂ (translated run) (sym version) key;
     } in
-    let r = c.put-result.result in
-    let put = c.put-result.ensures in
-    let did = put_caches run b.port number v b.clock b.caches c.put-result.new.self r s e e.key (bits c.mask.result.now) (translation_in c.into_plain.result) made put
+    let r = c.put-revalidated.result.done in
+    let put = c.put-revalidated.ensures in
+    let did = put_caches run b.port number v b.clock b.caches c.put-revalidated.new.self r s e e.key (bits c.mask.result.now) (translation_in c.into_plain.result) made put
     k.places.clock live.1 k.caches.caches in
     appends_as run b (rust.Put number v r) (steps.Put number c.args.made.version r) c.args.self.now _ _ _ (ap (λ x. steps.Put number x r) version)
     c.self.view_is refl put.same.limit c.push_reserved.ensures.items (may, ap (option_map (λ x. put_done run x v s)) live.1 ∙ ap Some (sym did.0))
