@@ -12,6 +12,7 @@ ghost use Rattle.step_runner.specs.Scheduled.{under_way, schedule_of, finished_i
 
 use crate::steps;
 use crate::sweeping::sweep;
+use pipe_model::Plain;
 use pmd_board::{Board, Looked};
 use run_case::{Case, Keyed, RunData};
 use run_edits::RunEdits;
@@ -30,7 +31,7 @@ fn upcall<C: Case>(
     requires may { settle_fault C.run (state_of C.run board.old) at.now.place tables.now ≡ None }
     ensures { OnOk result (HasSettled C.run board.old at.now.place tables.now board.new) }
 {
-    let made = tables.translate(alloc, run, &at.key)?;
+    let made = tables.translate(run, &at.key, Plain::empty(alloc))?;
     steps::settle(board, at, made)
 }
 

@@ -18,8 +18,9 @@
 //! All boards go through a block before one goes through the next: the least block of all boards is finished in turn. The
 //! tables follow the edits of the run up to the last version of the block, once for all boards (`run_tables`). In each
 //! block a board makes a sweep of that version, where none was completed: it puts each megaflow that is listed, in rising
-//! order, by the translation of its key (`sweeping`). Then it looks up each frame of the block. What no megaflow covers is
-//! translated, and settled at once.
+//! order, by the translation of its key (`sweeping`). Each translation is made in the memory of lists that the put before
+//! it gave back. Then the board looks up each frame of the block. What no megaflow covers is translated, and settled at
+//! once.
 //!
 //! Where a megaflow decides a frame, it was translated under the last version of the block: none older is left by the
 //! sweep, and none newer may come before the block ends (`proofs/Frames`). A megaflow that isn't idle, nor stale, stays

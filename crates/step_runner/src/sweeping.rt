@@ -7,13 +7,15 @@ ghost use Rattle.step_runner.specs.Progress.{IsAt, IsSweeping, IsSwept, IsSameBo
 ghost use Rattle.step_runner.specs.Scheduled.{under_way, with_listed_put};
 
 use crate::steps;
+use pipe_model::Plain;
 use pmd_board::Board;
 use run_case::{Case, RunData};
 use run_tables::Tables;
 use std::alloc::{AllocError, Global};
 
 // Puts each entry that the sweep of a board lists, in rising order, by the translation of its key under the sweep's
-// version.
+// version. Each translation is made in the lists that the put before it gave back, so that a sweep that keeps its entries
+// takes no memory for each.
 fn put_listed<C: Case>(
     alloc: Global,
     run: &RunData<C>,
@@ -29,10 +31,11 @@ fn put_listed<C: Case>(
     ensures put { OnOk result (under_way C.run board.new ≡ with_listed_put C.run tables.now (under_way C.run board.old)) }
 {
     let _ = board.journal();
+    let mut lists = Plain::empty(alloc);
     let mut after = 0;
     'entries: while let Some((number, key)) = board.next_check(after) {
-        let made = tables.translate(alloc, run, &key)?;
-        steps::put(board, number, made);
+        let made = tables.translate(run, &key, lists)?;
+        lists = steps::put(board, number, made);
         after = number;
     }
     Ok(())

@@ -21,8 +21,8 @@ entries-init g c = record {
   left = refl;
 }
 
-pub put-requires-clause-may : goal.put-requires-clause-may
-put-requires-clause-may g c =
+pub put-lists-requires-clause-may : goal.put-lists-requires-clause-may
+put-lists-requires-clause-may g c =
     let run : Run = g.C.Case.run in
     let b : BoardView = c.entries.board in
     let s : State = state_of run b in
@@ -41,8 +41,8 @@ entries-smaller g c =
     let v = c.in_ok-made.made.version in
     let first = first_above c.entries.after n s.listed c.entries.invariant.above c.in-Some.ensures.some.0 in
     let rises : Rising (n ∷ first.0) = subst Rising first.1 c.entries.invariant.above.1 in
-    let moved = state_after run b c.put.new.board (steps.Put n v c.put.ensures.result) c.put.ensures.appends in
-    let left : (state_of run c.put.new.board).listed ≡ first.0 = ap (λ (t : State). t.listed) moved ∙ put_leaves run b.port s n v c.put.ensures.result first.0 first.1 rises in
+    let moved = state_after run b c.put-lists.new.board (steps.Put n v c.put-lists.ensures.result) c.put-lists.ensures.appends in
+    let left : (state_of run c.put-lists.new.board).listed ≡ first.0 = ap (λ (t : State). t.listed) moved ∙ put_leaves run b.port s n v c.put-lists.ensures.result first.0 first.1 rises in
     let count = ap length left in
     let before = ap length first.1 in omega (arith, count, before)
 
@@ -52,22 +52,22 @@ entries-preserved g c =
     let port = c.args.board.now.port in
     let b : BoardView = c.entries.board in
     let s : State = state_of run b in
-    let new : BoardView = c.put.new.board in
+    let new : BoardView = c.put-lists.new.board in
     let n = c.in-Some.number in
     let v = c.in_ok-made.made.version in
-    let step : steps.Step = steps.Put n v c.put.ensures.result in
+    let step : steps.Step = steps.Put n v c.put-lists.ensures.result in
     let same = c.entries.invariant.same in
     let first = first_above c.entries.after n s.listed c.entries.invariant.above c.in-Some.ensures.some.0 in
     let rises : Rising (n ∷ first.0) = subst Rising first.1 c.entries.invariant.above.1 in
-    let moved : state_of run new ≡ effect run port s step = state_after run b new step c.put.ensures.appends ∙ ap (λ p. effect run p s step) same.port in
-    let left : (state_of run new).listed ≡ first.0 = ap (λ (t : State). t.listed) moved ∙ put_leaves run port s n v c.put.ensures.result first.0 first.1 rises in
+    let moved : state_of run new ≡ effect run port s step = state_after run b new step c.put-lists.ensures.appends ∙ ap (λ p. effect run p s step) same.port in
+    let left : (state_of run new).listed ≡ first.0 = ap (λ (t : State). t.listed) moved ∙ put_leaves run port s n v c.put-lists.ensures.result first.0 first.1 rises in
     let made : under_way run new ≡ schedules.put_at run c.args.tables.now n (under_way run b) =
-    put_step run b new n v c.put.ensures ∙ ap (λ w. schedules.put_at run w n (under_way run b)) c.in_ok-made.ensures.version in record {
+    put_step run b new n v c.put-lists.ensures ∙ ap (λ w. schedules.put_at run w n (under_way run b)) c.in_ok-made.ensures.version in record {
       sweeping = subst (λ (t : State). IsSweeping run port t c.args.block (state_of run c.args.board.now).next) (sym moved)
-          (put_keeps run port s c.args.block (state_of run c.args.board.now).next n v c.put.ensures.result c.entries.invariant.sweeping);
+          (put_keeps run port s c.args.block (state_of run c.args.board.now).next n v c.put-lists.ensures.result c.entries.invariant.sweeping);
       same = record {
-        port = ap (λ (x : BoardView). x.port) c.put.ensures.appends.appended ∙ same.port;
-        limit = ap (λ (x : BoardView). x.flow_limit) c.put.ensures.appends.appended ∙ same.limit;
+        port = ap (λ (x : BoardView). x.port) c.put-lists.ensures.appends.appended ∙ same.port;
+        limit = ap (λ (x : BoardView). x.flow_limit) c.put-lists.ensures.appends.appended ∙ same.limit;
       };
       above = subst (λ (ns : List ℕ). Rising (n ∷ ns)) (sym left) rises;
       left = first_put run c.args.tables.now n first.0 (under_way run b) (under_way run new) first.1 left made ∙ c.entries.invariant.left;
