@@ -1,10 +1,16 @@
-"""What scripts of this folder share: processor times and cycles of programs, captures, and tables of figures."""
+"""What scripts of this folder share: processor times, cycles and memory of programs, captures, and tables of figures."""
+import ctypes
 import os
 import re
 import shutil
+import statistics
 import struct
 import subprocess
 import sys
+
+
+# Of ptrace(2): what it is asked, and that a process is held as it ends.
+PTRACE_CONT, PTRACE_SEIZE, PTRACE_O_TRACEEXIT = 7, 0x4206, 0x40
 
 
 def write_capture(name, frames):
@@ -26,6 +32,40 @@ def run(words):
     if status != 0:
         sys.exit(f"bench: {' '.join(words)} did not end with status 0")
     return printed, usage.ru_utime + usage.ru_stime
+
+
+def seconds(words):
+    """The processor's seconds that a program takes."""
+    return run(words)[1]
+
+
+def medians(measure, commands, runs):
+    """The median of what is measured of each command, all run in turns."""
+    taken = [[measure(words) for words in commands] for _ in range(runs)]
+    return [statistics.median(column) for column in zip(*taken)]
+
+
+def ptrace(request, process, options=None):
+    call = ctypes.CDLL(None, use_errno=True).ptrace
+    call.argtypes = [ctypes.c_long, ctypes.c_long, ctypes.c_void_p, ctypes.c_void_p]
+    if call(request, process, None, options) != 0:
+        sys.exit(f"bench: a process isn't traced: {os.strerror(ctypes.get_errno())}")
+
+
+def peak_of(words):
+    """The greatest resident memory of a program in bytes, which the system tells as long as it is there.
+
+    What it tells of a process that ended counts what stood there before the program, which is this script.
+    """
+    child = subprocess.Popen(words, stdout=subprocess.DEVNULL, stderr=subprocess.DEVNULL)
+    ptrace(PTRACE_SEIZE, child.pid, PTRACE_O_TRACEEXIT)
+    os.waitpid(child.pid, 0)
+    with open(f"/proc/{child.pid}/status", encoding="utf-8") as file:
+        kibibytes = int(re.search(r"^VmHWM:\s*(\d+) kB", file.read(), re.MULTILINE)[1])
+    ptrace(PTRACE_CONT, child.pid)
+    if child.wait() != 0:
+        sys.exit(f"bench: {' '.join(words)} did not end with status 0")
+    return kibibytes * 1024
 
 
 def build(crate, words):
@@ -60,6 +100,10 @@ def megahertz():
 def told_cycles(counted):
     """From where cycles are."""
     return "counted by perf" if counted else f"from the time, at {megahertz():.0f} MHz by /proc/cpuinfo"
+
+
+def yes_or_no(holds):
+    return "yes" if holds else "NO"
 
 
 def print_table(heads, rows):
