@@ -5,16 +5,15 @@
 //! whole, with its first one.
 #![tactic(auto)]
 
-ghost use Rattle.std.specs.Prelude.{◌≤◌, length, IfOk, IsTrue};
+ghost use Rattle.std.specs.Prelude.{IsTrue};
 ghost use Rattle.std.specs.List.{list_all};
 ghost use Rattle.edit_script.specs.Plain.{has_sound_actions};
 
 use action_text::print_actions;
-use anyhow::{Result, anyhow, bail};
-use edge_io::read_all;
-use edge_real::RealShelf;
-use edit_script::{Edit, MOST_BYTES, Script, read_script};
+use anyhow::{Result, bail};
+use edit_script::Edit;
 use match_text::print_match;
+use measured_input::read_edits;
 use std::alloc::AllocError;
 use std::env;
 
@@ -38,23 +37,12 @@ fn print_edits(edits: &[Edit], text: &mut String) -> Result<(), AllocError>
     Ok(())
 }
 
-fn script_of(rt: &HostRuntime, name: &str) -> Result<Script>
-    ensures { IfOk result (λ script. IsTrue (list_all has_sound_actions script.edits.items)) }
-{
-    let bytes = read_all(rt.alloc(), &mut RealShelf::new(rt), name, MOST_BYTES).map_err(
-        |fault| anyhow!("{name}: the file is not read: {fault:?}"),
-    )?;
-    read_script(rt.alloc(), &bytes).map_err(|fault| anyhow!(
-        "{name}: this is no file of edits: {fault:?}"
-    ))
-}
-
 fn main(rt: HostRuntime) -> Result<()> {
     let words: Vec<String> = env::args(&rt)?.skip(1).collect(rt.alloc())?;
     let [name] = words.as_slice() else {
         bail!("use: flow_print FILE");
     };
-    let script = script_of(&rt, name)?;
+    let script = read_edits(&rt, name)?;
     let mut text = String::new(rt.alloc());
     print_edits(&script.edits, &mut text)?;
     print!(rt; "{text}")?;

@@ -7,21 +7,15 @@
 //! Nothing is promised of the number, which `bench/keys.c` makes too, and compares.
 #![tactic(auto)]
 
-ghost use Rattle.std.specs.Prelude.{◌^◌, ◌≤◌, length, IfOk};
+ghost use Rattle.std.specs.Prelude.{◌^◌, ◌≤◌, length};
 
-use anyhow::{Result, anyhow, bail};
-use edge_io::read_all;
-use edge_real::RealShelf;
+use anyhow::{Result, bail};
 use frame_keys::key_of;
+use measured_input::{number_of, read_capture};
 use ovs_fields::{FieldId, Key, all_fields};
-use pcap_reader::{Trace, read_trace};
+use pcap_reader::Trace;
 use std::alloc::Global;
 use std::env;
-
-/// The most bytes and frames of a capture file.
-const MOST_BYTES: usize = 1 << 30;
-
-const MOST_FRAMES: usize = 1 << 24;
 
 /// The port at which all frames come in.
 const PORT: u16 = 1;
@@ -59,29 +53,13 @@ fn frames_of(alloc: Global, trace: &Trace) -> Result<Vec<&[u8]>>
     Ok(frames)
 }
 
-fn trace_of(rt: &HostRuntime, name: &str) -> Result<Trace>
-    ensures { IfOk result (λ trace. length trace.frames ≤ 2 ^ 24) }
-{
-    let bytes = read_all(rt.alloc(), &mut RealShelf::new(rt), name, MOST_BYTES).map_err(
-        |fault| anyhow!("{name}: the file is not read: {fault:?}"),
-    )?;
-    read_trace(rt.alloc(), bytes, MOST_FRAMES).map_err(|fault| anyhow!(
-        "{name}: this is no capture file of Ethernet: {fault:?}"
-    ))
-}
-
-fn rounds_of(word: &str) -> Result<u32> {
-    word.parse::<u32>()
-        .map_err(|_| anyhow!("{word:?}: no number of rounds"))
-}
-
 fn main(rt: HostRuntime) -> Result<()> {
     let words: Vec<String> = env::args(&rt)?.skip(1).collect(rt.alloc())?;
     let [name, count] = words.as_slice() else {
         bail!("use: key_cost FILE ROUNDS");
     };
-    let count = rounds_of(count)?;
-    let trace = trace_of(&rt, name)?;
+    let count = number_of("rounds", count)?;
+    let trace = read_capture(&rt, name)?;
     let frames = frames_of(rt.alloc(), &trace)?;
     println!(rt;
         "{:032x} frames={} rounds={count}",

@@ -16,18 +16,19 @@ mod inputs;
 mod translations;
 mod words;
 
-use crate::inputs::{keys_of, script_of, tables_of, trace_of};
+use crate::inputs::{keys_of, tables_of};
 use crate::translations::{text_of, visits_in_rounds};
 use crate::words::read_command;
 use anyhow::Result;
+use measured_input::{read_capture, read_edits};
 use std::env;
 
 fn main(rt: HostRuntime) -> Result<()> {
     let words: Vec<String> = env::args(&rt)?.skip(1).collect(rt.alloc())?;
     let command = read_command(rt.alloc(), &words)?;
-    let script = script_of(&rt, command.edits)?;
+    let script = read_edits(&rt, command.edits)?;
     let tables = tables_of(rt.alloc(), &script.edits)?;
-    let trace = trace_of(&rt, command.trace)?;
+    let trace = read_capture(&rt, command.trace)?;
     let keys = keys_of(rt.alloc(), command.port, &trace)?;
     let rounds = command.rounds;
     let ports = command.ports.as_slice();

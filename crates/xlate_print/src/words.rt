@@ -1,5 +1,6 @@
 //! The words of the command line.
 use anyhow::{Result, anyhow, bail};
+use measured_input::split_rounds;
 use std::alloc::Global;
 
 const USE: &str = "use: xlate_print EDITS TRACE PORT PORTS.. [--rounds=N]";
@@ -30,22 +31,6 @@ fn ports_of(alloc: Global, words: &[String]) -> Result<Vec<u16>> {
         ports.push(port_of(word.as_str())?)?;
     }
     Ok(ports)
-}
-
-fn rounds_of(digits: &str) -> Result<u32> {
-    digits
-        .parse::<u32>()
-        .map_err(|_| anyhow!("{digits:?}: no number of rounds"))
-}
-
-/// The words before the number of rounds, and that number where the last word gives one.
-fn split_rounds(words: &[String]) -> Result<(&[String], Option<u32>)> {
-    if let [before @ .., last] = words
-        && let Some(digits) = last.strip_prefix("--rounds=")
-    {
-        return Ok((before, Some(rounds_of(digits)?)));
-    }
-    Ok((words, None))
 }
 
 /// Reads the words of the command line.
