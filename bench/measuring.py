@@ -69,10 +69,11 @@ def peak_of(words):
 
 
 def build(crate, words):
-    """Proves and builds the program of a crate, by a run with these words in its folder."""
+    """Proves and builds the program of a crate, by a run with these words in its folder. Without `rt` all ends here."""
     name = os.path.basename(crate)
     if not shutil.which("rt"):
-        sys.exit(f"bench: {name} is not built, since `rt` of the Rattle kit is not on the PATH")
+        print(f"bench: {name} is not built, since `rt` of the Rattle kit is not on the PATH; nothing is measured")
+        sys.exit()
     ran = subprocess.run(["rt", "run", "--", *words], cwd=crate, capture_output=True, text=True)
     if ran.returncode != 0:
         sys.exit(f"bench: {name} is not built:\n{ran.stdout}{ran.stderr}")
@@ -107,8 +108,10 @@ def yes_or_no(holds):
 
 
 def print_table(heads, rows):
+    """Prints a table, as README.md has it."""
     lines = [heads, *rows]
-    widths = [max(len(line[at]) for line in lines) for at in range(len(heads))]
-    for line in lines:
-        print("  ".join([line[0].ljust(widths[0]), *(it.rjust(width) for it, width in zip(line[1:], widths[1:]))]))
+    first, *others = [max(len(line[at]) for line in lines) for at in range(len(heads))]
+    padded = [[line[0].ljust(first), *(it.rjust(width) for it, width in zip(line[1:], others))] for line in lines]
+    for line in [padded[0], ["-" * width for width in (first, *others)], *padded[1:]]:
+        print(f"| {' | '.join(line)} |")
     print()
