@@ -39,6 +39,17 @@ def seconds(words):
     return run(words)[1]
 
 
+def processor_of(words):
+    """The processor's seconds that a program takes whose output goes nowhere."""
+    child = subprocess.Popen(words, stdout=subprocess.DEVNULL, stderr=subprocess.DEVNULL)
+    _, status, usage = os.wait4(child.pid, 0)
+    # (what wait4 took, subprocess is not to wait for)
+    child.returncode = status
+    if status != 0:
+        sys.exit(f"bench: {' '.join(words)} did not end with status 0")
+    return usage.ru_utime + usage.ru_stime
+
+
 def medians(measure, commands, runs):
     """The median of what is measured of each command, all run in turns."""
     taken = [[measure(words) for words in commands] for _ in range(runs)]
