@@ -2,3 +2,4 @@ pub mod Prefixes
 mod Sends
 pub mod Decided
 mod Written
+mod Filters

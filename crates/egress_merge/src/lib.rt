@@ -14,10 +14,14 @@
 //!
 //! # How
 //!
-//! The arrivals are made once for all ports. Each port's file is one walk along them: the board of an arrival's port is
-//! found by going through the ports, of which there are few, and lends the actions of the frame, whose bytes go from
-//! its trace to the shelf. What only sends is written from there. A frame that is rewritten on the way is copied into a
-//! buffer first (`action_exec`), one for each file, and only where it goes out at the port after it was rewritten.
+//! The arrivals are made once for all ports, and so are their *filters*: a number for each, with a bit for each port
+//! that its actions send to (`filters_of`). Each port's file is one walk along the filters, so that a frame costs a port
+//! that doesn't get it no more than the test of a bit. Where the port's bit is there, the board of the arrival's port is
+//! found by going through the ports, of which there are few, and lends the actions of the frame, whose bytes go from its
+//! trace to the shelf. Ports whose numbers leave the same remainder by 64 share a bit, and then the actions tell.
+//!
+//! What only sends is written from the trace. A frame that is rewritten on the way is copied into a buffer first
+//! (`action_exec`), one for each file, and only where it goes out at the port after it was rewritten.
 //!
 //! # What is left to others
 //!
@@ -26,6 +30,8 @@
 #![tactic(auto)]
 
 mod port_file;
+mod port_filter;
 mod sending;
 
 pub use port_file::write_port;
+pub use port_filter::{PortFilter, filters_of};

@@ -4,7 +4,7 @@ ghost use Rattle.spec_pcap.specs.Pcap.{record_of, file_of};
 ghost use Rattle.spec_case.specs.Run.{is_nanos};
 ghost use Rattle.spec_case.specs.Arrivals.{in_order, arrivals as came_in};
 ghost use Rattle.spec_run.specs.Journals.{steps_of, actions_for};
-ghost use Rattle.spec_run.specs.Outputs.{frames_by, frames_out};
+ghost use Rattle.spec_run.specs.Outputs.{frames_by, frames_out, sent_to};
 ghost use Rattle.edge_io.specs.declared.outside.InUse.TheVariants.{Nothing, Created};
 ghost use Rattle.edge_io.specs.Counts.{HasCause, with_write_fault};
 ghost use Rattle.edge_io.specs.Shelf.{wrote, kept};
@@ -12,10 +12,12 @@ ghost use Rattle.run_blocks.specs.Places.{HasPort};
 ghost use Rattle.pmd_board.specs.BoardView.{journals_view};
 ghost use Rattle.frame_arrivals.specs.Arrivals.{IsArrival};
 ghost use Rattle.egress_merge.specs.Boards.{IsAllDecided};
+ghost use Rattle.egress_merge.specs.Filters.{PassesAll, AreFilters};
 ghost use Rattle.spec_xlate.specs.Translation.{action_limit};
 ghost use Rattle.edge_io.specs.Written.{written, WrotePrefix};
 ghost use Rattle.spec_base.specs.Files.{IsPrefixOf};
 
+use crate::port_filter::PortFilter;
 use crate::sending::send;
 use action_exec::FrameBuffer;
 use edge_io::{Failed, Shelf};
@@ -42,7 +44,7 @@ fn board_of<'a, C: Case>(run: &RunData<C>, boards: &'a [Board<C>], port: u16) ->
 }
 
 // The actions by which an arrived frame was decided.
-fn actions_of<'a, C: Case>(
+pub fn actions_of<'a, C: Case>(
     run: &RunData<C>,
     boards: &'a [Board<C>],
     arrival: Arrival,
@@ -85,6 +87,38 @@ fn send_arrived<C: Case, S: Shelf>(
     send(shelf, writer, time, frame, actions, port, buffer)
 }
 
+// Writes an arrived frame as often as what was decided of it sends it out at the port. Where its filter has no bit of the
+// port, nothing of it is looked at.
+fn send_decided<C: Case, S: Shelf>(
+    shelf: &mut S,
+    writer: &mut PcapWriter,
+    run: &RunData<C>,
+    boards: &[Board<C>],
+    arrival: Arrival,
+    filter: PortFilter,
+    port: u16,
+    buffer: &mut FrameBuffer,
+) -> Result<(), Failed>
+    requires in_use { S.in_use shelf.old ≡ Created }
+    requires boards { map (λ b. b.port) boards.now ≡ C.run.ports }
+    requires there { IsArrival C.run arrival }
+    requires decided { All (IsAllDecided C.run) boards.now }
+    requires filter { PassesAll (actions_for C.run (journals_view boards.now) arrival.port arrival.place) filter }
+    ensures nanos { writer.new ≡ writer.old }
+    ensures in_use { S.in_use shelf.new ≡ Created }
+    ensures ok { let bytes = flat_map (record_of writer.old) (sent_to C.run (journals_view boards.now) port arrival) in
+        IsTrue S.tells → OnOk result (S.told shelf.new ≡ wrote (S.told shelf.old) bytes) }
+    ensures err { let bytes = flat_map (record_of writer.old) (sent_to C.run (journals_view boards.now) port arrival) in
+        IsTrue S.tells → OnErr result (WrotePrefix (S.told shelf.old) (S.told shelf.new) bytes) }
+    ensures cause { HasCause with_write_fault (S.counts shelf.old) (S.counts shelf.new) result }
+{
+    if !filter.may_send_to(port) {
+        return Ok(());
+    }
+    let actions = actions_of(run, boards, arrival);
+    send_arrived(shelf, writer, run, arrival, actions, port, buffer)
+}
+
 /// Writes the capture file of a port under a name: what the decided frames of a run send out at it, in the order of
 /// their arrivals. Its times are in nanoseconds where those of a trace of the run are.
 ///
@@ -104,11 +138,13 @@ pub fn write_port<C: Case, S: Shelf>(
     run: &RunData<C>,
     boards: &[Board<C>],
     arrivals: &[Arrival],
+    filters: &[PortFilter],
 ) -> Result<(), Failed>
     requires in_use { S.in_use shelf.old ≡ Nothing }
     requires boards { map (λ b. b.port) boards.now ≡ C.run.ports }
     requires arrivals { arrivals.now ≡ in_order (came_in C.run) }
     requires decided { All (IsAllDecided C.run) boards.now }
+    requires filters { AreFilters C.run (journals_view boards.now) arrivals.now filters.now }
     ensures in_use { OnOk result (S.in_use shelf.new ≡ Nothing) }
     ensures ok { let bytes = file_of (is_nanos C.run) (frames_out C.run (journals_view boards.now) port) in
         IsTrue S.tells → OnOk result (S.told shelf.new ≡ kept (S.told shelf.old) (name.now, bytes)) }
@@ -123,14 +159,14 @@ pub fn write_port<C: Case, S: Shelf>(
     prove!(boards.len() == ports);
     let mut buffer = FrameBuffer::new(alloc);
     let mut writer = PcapWriter::start(shelf, name, run.nanos())?;
-    'arrivals: for arrival in arrivals {
-        let actions = actions_of(run, boards, *arrival);
-        send_arrived(
+    'arrivals: for at in 0..arrivals.len() {
+        send_decided(
             shelf,
             &mut writer,
             run,
-            *arrival,
-            actions,
+            boards,
+            arrivals[at],
+            filters[at],
             port,
             &mut buffer,
         )?;

@@ -7,11 +7,12 @@ ghost use Rattle.edge_io.specs.Shelf.{kept};
 ghost use Rattle.edge_io.specs.Written.{written};
 ghost use Rattle.pmd_board.specs.BoardView.{journals_view};
 ghost use Rattle.egress_merge.specs.Boards.{IsAllDecided};
+ghost use Rattle.egress_merge.specs.Filters.{AreFilters};
 ghost use Rattle.switch_output.specs.Refused.{IfWriteFault, HasCause, IsCutIn};
 
 use crate::refusal::WriteRefusal;
 use edge_io::{Failed, Shelf};
-use egress_merge::write_port;
+use egress_merge::{PortFilter, filters_of, write_port};
 use flow_dump::write_journals;
 use pmd_board::Board;
 use run_case::{Case, RunData};
@@ -38,12 +39,14 @@ fn write_port_file<C: Case, S: Shelf>(
     run: &RunData<C>,
     boards: &[Board<C>],
     arrivals: &[Arrival],
+    filters: &[PortFilter],
     port: u16,
 ) -> Result<(), WriteRefusal>
     requires in_use { S.in_use shelf.old ≡ Nothing }
     requires boards { map (λ b. b.port) boards.now ≡ C.run.ports }
     requires arrivals { arrivals.now ≡ in_order (came_in C.run) }
     requires decided { All (IsAllDecided C.run) boards.now }
+    requires filters { AreFilters C.run (journals_view boards.now) arrivals.now filters.now }
     ensures in_use { OnOk result (S.in_use shelf.new ≡ Nothing) }
     ensures ok { let file = port_file out.now C.run (journals_view boards.now) port in
         IsTrue S.tells → OnOk result (S.told shelf.new ≡ kept (S.told shelf.old) file) }
@@ -57,7 +60,16 @@ fn write_port_file<C: Case, S: Shelf>(
     ensures cause { IfErr result (HasCause (S.counts shelf.old) (S.counts shelf.new)) }
 {
     let name = port_file_name(alloc, out, port)?;
-    match write_port(alloc, shelf, name.as_str(), port, run, boards, arrivals) {
+    match write_port(
+        alloc,
+        shelf,
+        name.as_str(),
+        port,
+        run,
+        boards,
+        arrivals,
+        filters,
+    ) {
         Ok(()) => Ok(()),
         Err(Failed::Fault) => Err(WriteRefusal::WriteFault { name }),
         Err(Failed::OutOfMemory) => Err(WriteRefusal::OutOfMemory),
@@ -89,8 +101,12 @@ fn write_port_files<C: Case, S: Shelf>(
     ensures cause { IfErr result (HasCause (S.counts shelf.old) (S.counts shelf.new)) }
 {
     let ports = run.ports().as_slice();
+    // So there is a file that is cut short where there is no memory for filters.
+    let some = run.ports().len() > 0;
+    prove!(some);
+    let filters = filters_of(alloc, run, boards, arrivals)?;
     'files: for port in ports {
-        write_port_file(alloc, shelf, out, run, boards, arrivals, *port)?;
+        write_port_file(alloc, shelf, out, run, boards, arrivals, &filters, *port)?;
     }
     Ok(())
 }

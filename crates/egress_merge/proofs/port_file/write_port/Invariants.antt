@@ -11,6 +11,6 @@ abbrev pub invariant-arrivals : goal.invariant-arrivals
 invariant-arrivals g l = record {
   in_use : g.S.Shelf.in_use l.shelf ≡ Created;
   nanos : l.writer ≡ is_nanos g.C.Case.run;
-  told : IsTrue g.S.Shelf.tells → g.S.Shelf.told l.shelf ≡ record (g.S.Shelf.told l.fn.shelf) { current = file_of (is_nanos g.C.Case.run) (flat_map (sent_to g.C.Case.run (journals_view l.boards) l.port) (take l.arrival-index l.arrivals)); last = l.name };
+  told : IsTrue g.S.Shelf.tells → g.S.Shelf.told l.shelf ≡ record (g.S.Shelf.told l.fn.shelf) { current = file_of (is_nanos g.C.Case.run) (flat_map (sent_to g.C.Case.run (journals_view l.boards) l.port) (take l.at l.arrivals)); last = l.name };
   counts : g.S.Shelf.counts l.shelf ≡ g.S.Shelf.counts l.fn.shelf;
 }

@@ -1,14 +1,25 @@
-use Rattle.std.proofs.Common.{ap, ◌∙◌}
+use Rattle.std.proofs.Common.{◌≡◌, ◌<◌, length, refl, sym, ap, ◌∙◌, inl, arith}
+use Rattle.std.proofs.lemmas.List.{append-nil}
 use Rattle.std.proofs.lemmas.Result.{err_from_is_err_and}
 use Rattle.edge_io.specs.Shelf.{Told}
 use Rattle.spec_run.specs.Outputs.{port_file}
 use Rattle.pmd_board.specs.BoardView.{journals_view}
+use Rattle.switch_output.specs.declared.refusal.WriteRefusal.TheVariants.{OutOfMemory}
 use Rattle.switch_output.proofs.Written.{files_more, cut_in_at}
 use Rattle.switch_output.proofs.writing.write_port_files.Goals as goal
 
+pub returns-in_err-filters-clause-err : goal.returns-in_err-filters-clause-err
+returns-in_err-filters-clause-err g c = λ t.
+    let p = err_from_is_err_and c.from_residual.result c.from_residual.ensures.1 in
+    let run = g.C.Case.run in
+    let file = port_file c.args.out.now run (journals_view c.args.boards.now) in
+    let done = (g.S.Shelf.told c.args.shelf.now).done in
+    let some : 0 < length run.ports = omega (arith, ap length c.ports-2.ensures, c.len-some.ensures.len, c.len-some.ensures.some) in
+    rw (p.1, p.2, c.requires.in_use) (cut_in_at file run.ports run.ports 0 done done done OutOfMemory refl some (sym (append-nil done)) (inl refl) tt)
+
 pub returns-in_err-write_port_file-clause-err : goal.returns-in_err-write_port_file-clause-err
 returns-in_err-write_port_file-clause-err g c = λ t.
-    let p = err_from_is_err_and c.from_residual.result c.from_residual.ensures.1 in
+    let p = err_from_is_err_and c.from_residual-in_err-write_port_file.result c.from_residual-in_err-write_port_file.ensures.1 in
     let file = port_file c.args.out.now g.C.Case.run (journals_view c.args.boards.now) in
     rw (p.1, p.2) (cut_in_at file c.as_slice-ports.result.now g.C.Case.run.ports c.files.port-index _ _ _ _ (c.as_slice-ports.ensures.list ∙ c.ports.ensures) c.files-test.true (c.files.invariant.done t)
     (c.in_err-write_port_file.ensures.err t) c.in_err-write_port_file.ensures.fault)
