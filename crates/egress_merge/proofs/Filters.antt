@@ -46,16 +46,16 @@ neither : (a b : ℕ) → max a b ≡ 0 → (a ≡ 0) × (b ≡ 0)
 neither a b none = (omega (arith, none), omega (arith, none))
 
 -- a filter to which the bit of an output was added
-pub with_output : (bits n port : ℕ) → bit_at (bit_or bits (1 * 2 ^ (n % 64) % 18446744073709551616)) (bit_of port) ≡ 0
+pub with_output : (bits n port : ℕ) → bit_at (bit_or bits (1 * 2 ^ (n % 32) % 4294967296)) (bit_of port) ≡ 0
     → (bit_at bits (bit_of port) ≡ 0) × ((n == port) ≡ false)
 with_output bits n port absent =
-    let whole : 1 * 2 ^ (n % 64) % 18446744073709551616 ≡ 2 ^ (n % 64) = one_shl (n % 64) 64 (mod_below n 64 (omega arith)) in
-    let both : bit_at (bit_or bits (2 ^ (n % 64))) (bit_of port) ≡ 0 = rw whole at absent in
-    let parts = neither _ _ (sym (bit_at_or bits (2 ^ (n % 64)) (bit_of port)) ∙ both) in (
+    let whole : 1 * 2 ^ (n % 32) % 4294967296 ≡ 2 ^ (n % 32) = one_shl (n % 32) 32 (mod_below n 32 (omega arith)) in
+    let both : bit_at (bit_or bits (2 ^ (n % 32))) (bit_of port) ≡ 0 = rw whole at absent in
+    let parts = neither _ _ (sym (bit_at_or bits (2 ^ (n % 32)) (bit_of port)) ∙ both) in (
       parts.0,
       elim (cases_Bool (n == port)) [
         | inl same ↦
-            let there : bit_at (2 ^ (n % 64)) (bit_of port) ≡ 1 = rw (← eqb-true n port same) (bit_at-pow_same (n % 64)) in
+            let there : bit_at (2 ^ (n % 32)) (bit_of port) ≡ 1 = rw (← eqb-true n port same) (bit_at-pow_same (n % 32)) in
             absurd (omega (arith, there, parts.1))
         | inr other ↦ other
       ],

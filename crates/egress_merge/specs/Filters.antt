@@ -11,7 +11,7 @@ use Rattle.egress_merge.specs.Sending.{sends_to}
 
 -- the bit of a port, which it shares with others
 abbrev pub bit_of : ℕ → ℕ
-bit_of port = port % 64
+bit_of port = port % 32
 
 -- No action sends to a port whose bit is not in the filter.
 abbrev pub PassesAll : List DpAction → PortFilter → Type 0

@@ -18,7 +18,7 @@
 //! that its actions send to (`filters_of`). Each port's file is one walk along the filters, so that a frame costs a port
 //! that doesn't get it no more than the test of a bit. Where the port's bit is there, the board of the arrival's port is
 //! found by going through the ports, of which there are few, and lends the actions of the frame, whose bytes go from its
-//! trace to the shelf. Ports whose numbers leave the same remainder by 64 share a bit, and then the actions tell.
+//! trace to the shelf. Ports whose numbers leave the same remainder by 32 share a bit, and then the actions tell.
 //!
 //! What only sends is written from the trace. A frame that is rewritten on the way is copied into a buffer first
 //! (`action_exec`), one for each file, and only where it goes out at the port after it was rewritten.

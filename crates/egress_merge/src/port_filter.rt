@@ -14,12 +14,12 @@ use spec_actions::DpAction;
 use spec_case::Arrival;
 use std::alloc::{AllocError, Global};
 
-/// A bit for each port that a list of actions sends to: that of the port's number modulo 64.
+/// A bit for each port that a list of actions sends to: that of the port's number modulo 32.
 ///
 /// Ports share bits, so that a port whose bit is there may still get nothing. One whose bit isn't there gets nothing.
 #[derive(Clone, Copy, Debug)]
 pub struct PortFilter {
-    bits: u64,
+    bits: u32,
 }
 
 impl PortFilter {
@@ -30,7 +30,7 @@ impl PortFilter {
     {
         match action {
             DpAction::Output(port) => PortFilter {
-                bits: self.bits | 1 << (port % 64),
+                bits: self.bits | 1 << (port % 32),
             },
             _ => self,
         }
@@ -51,14 +51,14 @@ impl PortFilter {
     pub fn may_send_to(self, port: u16) -> bool
         ensures { result ≡ false → bit_at self.bits (bit_of port) ≡ 0 }
     {
-        self.bits >> (port % 64) & 1 == 1
+        self.bits >> (port % 32) & 1 == 1
     }
 }
 
 /// The filters of what was decided of each arrival, in the order of the arrivals. They are made once, for the files of
 /// all ports.
 ///
-/// It takes 8 bytes for each arrival; there may be no memory for them.
+/// It takes 4 bytes for each arrival; there may be no memory for them.
 pub fn filters_of<C: Case>(
     alloc: Global,
     run: &RunData<C>,
