@@ -8,7 +8,7 @@ use Rattle.spec_keys.specs.Fields.{width_of, place_of}
 use Rattle.spec_keys.specs.Keys.{value_of, joined, only_at}
 use Rattle.spec_keys.specs.Stages.{metadata_stage, ethernet_stage, network_stage}
 use Rattle.spec_tables.specs.Rules.{Rule}
-use Rattle.spec_xlate.specs.Lookup.{added, when, leading, stage_test, prefix_test, prefix_test_of, Prefix, prefix_length, prefixes, some_begins, deciding, probe}
+use Rattle.spec_xlate.specs.Lookup.{added, when, leading, stage_test, prefix_test, prefix_tests, prefix_test_of, Prefix, prefix_length, prefixes, some_begins, deciding, probe}
 
 through-test : (f : FieldId) (x n : ℕ) (ps : List Prefix) (further : List (List ℕ)) → (n == 0) ≡ false → some_begins (width_of f) x n ps ≡ true
     → prefix_test_of f x ps n further ≡ leading f n ∷ further
@@ -54,16 +54,14 @@ module _ (f g : FieldId) (rs : List Rule) (old key mask : List ℕ) (alive : Boo
 abbrev pub Step : List ℕ → Bool → (List (List ℕ) → List (List ℕ)) → List ℕ → Bool → Type 0
 Step old alive test new result = (further : List (List ℕ)) → added old (when alive (test further)) ≡ added new (when result further)
 
-pub probe_whole : (rs : List Rule) (key mask m0 m1 m2 m3 m4 m5 m6 m7 m8 : List ℕ) (a1 a2 a3 a4 a5 a6 a7 : Bool)
+pub probe_whole : (rs : List Rule) (key mask m0 m1 m2 m3 m4 m5 m6 : List ℕ) (a1 a2 a3 a4 a5 : Bool)
     → Step m0 true (stage_test rs key mask metadata_stage) m1 a1
     → Step m1 a1 (stage_test rs key mask ethernet_stage) m2 a2
-    → Step m2 a2 (prefix_test rs key mask NwSrc) m3 a3
-    → Step m3 a3 (prefix_test rs key mask NwDst) m4 a4
-    → Step m4 a4 (prefix_test rs key mask Ipv6Src) m5 a5
-    → Step m5 a5 (prefix_test rs key mask Ipv6Dst) m6 a6
-    → Step m6 a6 (stage_test rs key mask network_stage) m7 a7
-    → m8 ≡ added m7 (when a7 (mask ∷ []))
-    → m8 ≡ added m0 (probe rs key mask)
+    → Step m2 a2 (prefix_tests rs key mask (NwSrc ∷ NwDst ∷ [])) m3 a3
+    → Step m3 a3 (prefix_tests rs key mask (Ipv6Src ∷ Ipv6Dst ∷ [])) m4 a4
+    → Step m4 a4 (stage_test rs key mask network_stage) m5 a5
+    → m6 ≡ added m5 (when a5 (mask ∷ []))
+    → m6 ≡ added m0 (probe rs key mask)
 unfolding probe
-probe_whole rs key mask m0 m1 m2 m3 m4 m5 m6 m7 m8 a1 a2 a3 a4 a5 a6 a7 e1 e2 e3 e4 e5 e6 e7 e8 =
-    e8 ∙ sym (e1 _ ∙ e2 _ ∙ e3 _ ∙ e4 _ ∙ e5 _ ∙ e6 _ ∙ e7 (mask ∷ []))
+probe_whole rs key mask m0 m1 m2 m3 m4 m5 m6 a1 a2 a3 a4 a5 e1 e2 e3 e4 e5 e6 =
+    e6 ∙ sym (e1 _ ∙ e2 _ ∙ e3 _ ∙ e4 _ ∙ e5 (mask ∷ []))

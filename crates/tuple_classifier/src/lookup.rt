@@ -3,6 +3,7 @@
 ghost use Rattle.std.specs.Prelude.{◌≡◌, ◌<◌, ◌==◌, ◌&&◌, ℕ, List, true, [], ◌∷◌, length, slice_get, Some, Option};
 ghost use Rattle.std.specs.Option.{option_map};
 ghost use Rattle.std.specs.List.{list_any};
+ghost use Rattle.spec_keys.specs.declared.field_id.FieldId.TheVariants as field;
 ghost use Rattle.spec_keys.specs.Fields.{width_of};
 ghost use Rattle.spec_keys.specs.Keys.{agree, value_of};
 ghost use Rattle.spec_tables.specs.Rules.{Rule, winner};
@@ -11,6 +12,7 @@ ghost use Rattle.spec_xlate.specs.Lookup.{added, when, consults};
 ghost use Rattle.ovs_fields.specs.Packed.{numbers, bits};
 ghost use Rattle.tuple_classifier.specs.FieldLookups.{IsFieldLookup, IsKnown, AreKnown};
 ghost use Rattle.tuple_classifier.specs.FieldPrefixes.{IsOfField};
+ghost use Rattle.tuple_classifier.specs.Indexes.{AreIndexes};
 ghost use Rattle.tuple_classifier.specs.Numbered.{AreDistinct};
 ghost use Rattle.tuple_classifier.specs.Parts.{AreSubtablesOf, of_mask};
 ghost use Rattle.tuple_classifier.specs.Ranks.{rank_of, floor_of};
@@ -20,6 +22,7 @@ ghost use Rattle.tuple_classifier.specs.Tracked.{field_of};
 ghost use Rattle.tuple_classifier.specs.declared.subtable.Subtable.{Subtable};
 
 use crate::field_lookup::FieldLookup;
+use crate::indexes::Indexes;
 use crate::prefix::leading;
 use crate::prefixes::FieldPrefixes;
 use crate::rank::{Rank, best_of_two};
@@ -114,10 +117,29 @@ fn probe(
 {
     let subtable = &subtables[i];
     let indexes = &subtable.indexes;
-    let a1 = stage_test(true, &indexes.metadata, key, consulted);
-    let a2 = stage_test(a1, &indexes.ethernet, key, consulted);
-    let a3 = prefix_test(
-        a2,
+    let metadata = stage_test(true, &indexes.metadata, key, consulted);
+    let ethernet = stage_test(metadata, &indexes.ethernet, key, consulted);
+    let ipv4 = ipv4_tests(ethernet, subtables, indexes, key, known, consulted);
+    let ipv6 = ipv6_tests(ipv4, subtables, indexes, key, known, consulted);
+    let network = stage_test(ipv6, &indexes.network, key, consulted);
+    finish(network, &subtable.mask, consulted);
+}
+
+/// Consults the bits of the IPv4 addresses that decide whether a mask goes on, where it hasn't ended, and answers whether
+/// it does.
+fn ipv4_tests(
+    alive: bool,
+    subtables: &[Subtable],
+    indexes: &Indexes,
+    key: &Key,
+    known: &mut FieldLookups,
+    consulted: &mut Mask,
+) -> bool
+    ensures known { (rs : List Rule) → AreSubtablesOf subtables.now rs → AreKnown known.old (numbers key.now) rs → AreKnown known.new (numbers key.now) rs }
+    ensures consulted { (rs own : List Rule) (mask : List ℕ) → AreSubtablesOf subtables.now rs → AreKnown known.old (numbers key.now) rs → AreIndexes indexes.now mask own → (further : List (List ℕ)) → added (bits consulted.old) (when alive (xlate.prefix_tests rs (numbers key.now) mask (field.NwSrc ∷ field.NwDst ∷ []) further)) ≡ added (bits consulted.new) (when result further) }
+{
+    let source = prefix_test(
+        alive,
         subtables,
         &indexes.nw_src,
         TrackedField::NwSrc,
@@ -125,17 +147,32 @@ fn probe(
         &mut known.nw_src,
         consulted,
     );
-    let a4 = prefix_test(
-        a3,
+    prefix_test(
+        source,
         subtables,
         &indexes.nw_dst,
         TrackedField::NwDst,
         key,
         &mut known.nw_dst,
         consulted,
-    );
-    let a5 = prefix_test(
-        a4,
+    )
+}
+
+/// Consults the bits of the IPv6 addresses that decide whether a mask goes on, where it hasn't ended, and answers whether
+/// it does.
+fn ipv6_tests(
+    alive: bool,
+    subtables: &[Subtable],
+    indexes: &Indexes,
+    key: &Key,
+    known: &mut FieldLookups,
+    consulted: &mut Mask,
+) -> bool
+    ensures known { (rs : List Rule) → AreSubtablesOf subtables.now rs → AreKnown known.old (numbers key.now) rs → AreKnown known.new (numbers key.now) rs }
+    ensures consulted { (rs own : List Rule) (mask : List ℕ) → AreSubtablesOf subtables.now rs → AreKnown known.old (numbers key.now) rs → AreIndexes indexes.now mask own → (further : List (List ℕ)) → added (bits consulted.old) (when alive (xlate.prefix_tests rs (numbers key.now) mask (field.Ipv6Src ∷ field.Ipv6Dst ∷ []) further)) ≡ added (bits consulted.new) (when result further) }
+{
+    let source = prefix_test(
+        alive,
         subtables,
         &indexes.ipv6_src,
         TrackedField::Ipv6Src,
@@ -143,17 +180,15 @@ fn probe(
         &mut known.ipv6_src,
         consulted,
     );
-    let a6 = prefix_test(
-        a5,
+    prefix_test(
+        source,
         subtables,
         &indexes.ipv6_dst,
         TrackedField::Ipv6Dst,
         key,
         &mut known.ipv6_dst,
         consulted,
-    );
-    let a7 = stage_test(a6, &indexes.network, key, consulted);
-    finish(a7, &subtable.mask, consulted);
+    )
 }
 
 /// Consults the part of a mask that a stage reaches, where the mask hasn't ended, and answers whether it goes on.

@@ -10,28 +10,26 @@ use Rattle.tuple_classifier.proofs.PrefixTests.{probe_whole}
 use Rattle.tuple_classifier.proofs.lookup.probe.Goals as goal
 
 pub returns-clause-known : goal.returns-clause-known
-returns-clause-known c rs are known = record {
-  nw_src = c.prefix_test-a3.ensures.known rs are known.nw_src;
-  nw_dst = c.prefix_test-a4.ensures.known rs are known.nw_dst;
-  ipv6_src = c.prefix_test-a5.ensures.known rs are known.ipv6_src;
-  ipv6_dst = c.prefix_test-a6.ensures.known rs are known.ipv6_dst;
-}
+returns-clause-known c rs are known = c.ipv6_tests-ipv6.ensures.known rs are (c.ipv4_tests-ipv4.ensures.known rs are known)
 
 pub returns-clause-consulted : goal.returns-clause-consulted
 returns-clause-consulted c rs s are known at =
     let there = here c.args.subtables.now c.args.i c.index-subtables-i.result c.requires c.index-subtables-i.is in
     let is = are.each c.args.i c.index-subtables-i.result there in
-    probe_whole rs (numbers c.args.key.now) (bits c.index-subtables-i.result.mask) (bits c.args.consulted.now)
-    (bits c.stage_test-a1.new.consulted) (bits c.stage_test-a2.new.consulted) (bits c.prefix_test-a3.new.consulted) (bits c.prefix_test-a4.new.consulted)
-    (bits c.prefix_test-a5.new.consulted) (bits c.prefix_test-a6.new.consulted) (bits c.stage_test-a7.new.consulted) (bits c.finish.new.consulted)
-    c.stage_test-a1.result c.stage_test-a2.result c.prefix_test-a3.result c.prefix_test-a4.result c.prefix_test-a5.result c.prefix_test-a6.result c.stage_test-a7.result
-    (λ further. ap (λ t. added (bits c.args.consulted.now) (when true (staged metadata_stage (bits c.index-subtables-i.result.mask) ∷ when t further))) (some_agrees_part rs (numbers c.args.key.now) (bits c.index-subtables-i.result.mask) (staged metadata_stage (bits c.index-subtables-i.result.mask)))
-    ∙ c.stage_test-a1.ensures (staged metadata_stage (bits c.index-subtables-i.result.mask)) (of_mask (bits c.index-subtables-i.result.mask) rs) is.indexed.metadata further)
-    (λ further. ap (λ t. added (bits c.stage_test-a1.new.consulted) (when c.stage_test-a1.result (staged ethernet_stage (bits c.index-subtables-i.result.mask) ∷ when t further))) (some_agrees_part rs (numbers c.args.key.now) (bits c.index-subtables-i.result.mask) (staged ethernet_stage (bits c.index-subtables-i.result.mask)))
-    ∙ c.stage_test-a2.ensures (staged ethernet_stage (bits c.index-subtables-i.result.mask)) (of_mask (bits c.index-subtables-i.result.mask) rs) is.indexed.ethernet further)
-    (c.prefix_test-a3.ensures.consulted rs (of_mask (bits c.index-subtables-i.result.mask) rs) (bits c.index-subtables-i.result.mask) are known.nw_src is.indexed.nw_src) (c.prefix_test-a4.ensures.consulted rs (of_mask (bits c.index-subtables-i.result.mask) rs) (bits c.index-subtables-i.result.mask) are known.nw_dst is.indexed.nw_dst)
-    (c.prefix_test-a5.ensures.consulted rs (of_mask (bits c.index-subtables-i.result.mask) rs) (bits c.index-subtables-i.result.mask) are known.ipv6_src is.indexed.ipv6_src) (c.prefix_test-a6.ensures.consulted rs (of_mask (bits c.index-subtables-i.result.mask) rs) (bits c.index-subtables-i.result.mask) are known.ipv6_dst is.indexed.ipv6_dst)
-    (λ further. ap (λ t. added (bits c.prefix_test-a6.new.consulted) (when c.prefix_test-a6.result (staged network_stage (bits c.index-subtables-i.result.mask) ∷ when t further))) (some_agrees_part rs (numbers c.args.key.now) (bits c.index-subtables-i.result.mask) (staged network_stage (bits c.index-subtables-i.result.mask)))
-    ∙ c.stage_test-a7.ensures (staged network_stage (bits c.index-subtables-i.result.mask)) (of_mask (bits c.index-subtables-i.result.mask) rs) is.indexed.network further)
+    let mask = bits c.index-subtables-i.result.mask in
+    let own = of_mask mask rs in
+    let agrees = some_agrees_part rs (numbers c.args.key.now) mask in
+    probe_whole rs (numbers c.args.key.now) mask (bits c.args.consulted.now)
+    (bits c.stage_test-metadata.new.consulted) (bits c.stage_test-ethernet.new.consulted) (bits c.ipv4_tests-ipv4.new.consulted) (bits c.ipv6_tests-ipv6.new.consulted)
+    (bits c.stage_test-network.new.consulted) (bits c.finish.new.consulted)
+    c.stage_test-metadata.result c.stage_test-ethernet.result c.ipv4_tests-ipv4.result c.ipv6_tests-ipv6.result c.stage_test-network.result
+    (λ further. ap (λ t. added (bits c.args.consulted.now) (when true (staged metadata_stage mask ∷ when t further))) (agrees (staged metadata_stage mask))
+    ∙ c.stage_test-metadata.ensures (staged metadata_stage mask) own is.indexed.metadata further)
+    (λ further. ap (λ t. added (bits c.stage_test-metadata.new.consulted) (when c.stage_test-metadata.result (staged ethernet_stage mask ∷ when t further))) (agrees (staged ethernet_stage mask))
+    ∙ c.stage_test-ethernet.ensures (staged ethernet_stage mask) own is.indexed.ethernet further)
+    (c.ipv4_tests-ipv4.ensures.consulted rs own mask are known is.indexed)
+    (c.ipv6_tests-ipv6.ensures.consulted rs own mask are (c.ipv4_tests-ipv4.ensures.known rs are known) is.indexed)
+    (λ further. ap (λ t. added (bits c.ipv6_tests-ipv6.new.consulted) (when c.ipv6_tests-ipv6.result (staged network_stage mask ∷ when t further))) (agrees (staged network_stage mask))
+    ∙ c.stage_test-network.ensures (staged network_stage mask) own is.indexed.network further)
     c.finish.ensures
     ∙ ap (λ t. added (bits c.args.consulted.now) (xlate.probe rs (numbers c.args.key.now) (bits t.mask))) (same_Some c.index-subtables-i.result s (sym there ∙ at))
