@@ -44,9 +44,9 @@ shorter p (r ∷ rs) = at (p r) (shorter p rs)
     at true le = omega (arith, le)
     at false le = omega (arith, le)
 
-counts_fewer : (s : Stage) (part : List ℕ) (rs : List Rule) → IsStage s part rs → length rs < 2 ^ 63 → CountsFewer s
-counts_fewer s part rs is few key =
-    let c = is.counted key in
+counts_fewer : (s : Stage) (before part mask : List ℕ) (rs : List Rule) → IsStage s before part mask rs → length rs < 2 ^ 63 → CountsFewer s
+counts_fewer s before part mask rs is few tested key =
+    let c = is.counted tested key in
     let le = count_by-le-length (λ (r : Rule). same key (masked r.matching.key part)) rs in
     omega (arith, c, le, few)
 
@@ -57,9 +57,9 @@ counts_more rules ts is few table i s at =
     let b = shorter (λ (r : Rule). r.table == table) rules in
     let fewer : length (of_mask (bits s.mask) (rules_in table rules)) < 2 ^ 63 = omega (arith, a, b, few) in
     record {
-      metadata = counts_fewer s.indexes.metadata _ _ of.indexed.metadata fewer;
-      ethernet = counts_fewer s.indexes.ethernet _ _ of.indexed.ethernet fewer;
-      network = counts_fewer s.indexes.network _ _ of.indexed.network fewer;
+      metadata = counts_fewer s.indexes.metadata _ _ _ _ of.indexed.metadata fewer;
+      ethernet = counts_fewer s.indexes.ethernet _ _ _ _ of.indexed.ethernet fewer;
+      network = counts_fewer s.indexes.network _ _ _ _ of.indexed.network fewer;
     }
 
 pub few_rules : (version : ℕ) (live : List LiveRule) (lists : List (List OfAction)) (ts : List (Vec Subtable Global)) → AreSound version live lists ts → version + 1 < 2 ^ 32 → length (plain_rules live) < 2 ^ 63

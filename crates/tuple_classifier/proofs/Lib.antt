@@ -19,6 +19,7 @@ pub mod Removed
 pub mod Results
 pub mod Seen
 pub mod StageLaws
+pub mod StageTests
 pub mod SubtableLaws
 pub mod TableLaws
 pub mod TablesLaws

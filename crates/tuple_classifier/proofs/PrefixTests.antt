@@ -1,14 +1,12 @@
--- One test of a prefix, as the code goes, and the whole of what a mask consults.
+-- One test of a prefix, as the code goes.
 use Rattle.std.proofs.Common.{◌≡◌, ℕ, Bool, true, false, ◌==◌, ◌∷◌, [], if◌then◌else◌, List, min, sym, ap, ap₂, ◌∙◌}
 use Rattle.std.proofs.lemmas.Bool.{cond-true, cond-false}
 use Rattle.spec_base.specs.Bits.{leading_bits}
 use Rattle.spec_keys.specs.declared.field_id.FieldId.{FieldId}
-use Rattle.spec_keys.specs.declared.field_id.FieldId.TheVariants.{NwSrc, NwDst, Ipv6Src, Ipv6Dst}
 use Rattle.spec_keys.specs.Fields.{width_of, place_of}
 use Rattle.spec_keys.specs.Keys.{value_of, joined, only_at}
-use Rattle.spec_keys.specs.Stages.{metadata_stage, ethernet_stage, network_stage}
 use Rattle.spec_tables.specs.Rules.{Rule}
-use Rattle.spec_xlate.specs.Lookup.{added, when, leading, stage_test, prefix_test, prefix_tests, prefix_test_of, Prefix, prefix_length, prefixes, some_begins, deciding, probe}
+use Rattle.spec_xlate.specs.Lookup.{added, when, leading, prefix_test, prefix_test_of, Prefix, prefix_length, prefixes, some_begins, deciding}
 
 through-test : (f : FieldId) (x n : ℕ) (ps : List Prefix) (further : List (List ℕ)) → (n == 0) ≡ false → some_begins (width_of f) x n ps ≡ true
     → prefix_test_of f x ps n further ≡ leading f n ∷ further
@@ -53,15 +51,3 @@ module _ (f g : FieldId) (rs : List Rule) (old key mask : List ℕ) (alive : Boo
 -- one test after the other
 abbrev pub Step : List ℕ → Bool → (List (List ℕ) → List (List ℕ)) → List ℕ → Bool → Type 0
 Step old alive test new result = (further : List (List ℕ)) → added old (when alive (test further)) ≡ added new (when result further)
-
-pub probe_whole : (rs : List Rule) (key mask m0 m1 m2 m3 m4 m5 m6 : List ℕ) (a1 a2 a3 a4 a5 : Bool)
-    → Step m0 true (stage_test rs key mask metadata_stage) m1 a1
-    → Step m1 a1 (stage_test rs key mask ethernet_stage) m2 a2
-    → Step m2 a2 (prefix_tests rs key mask (NwSrc ∷ NwDst ∷ [])) m3 a3
-    → Step m3 a3 (prefix_tests rs key mask (Ipv6Src ∷ Ipv6Dst ∷ [])) m4 a4
-    → Step m4 a4 (stage_test rs key mask network_stage) m5 a5
-    → m6 ≡ added m5 (when a5 (mask ∷ []))
-    → m6 ≡ added m0 (probe rs key mask)
-unfolding probe
-probe_whole rs key mask m0 m1 m2 m3 m4 m5 m6 a1 a2 a3 a4 a5 e1 e2 e3 e4 e5 e6 =
-    e6 ∙ sym (e1 _ ∙ e2 _ ∙ e3 _ ∙ e4 _ ∙ e5 (mask ∷ []))

@@ -39,10 +39,12 @@ module _ (lists : List (List OfAction)) where
       at true ih = ap (λ (ks : List Rank). rank_of (plain_rule l) ∷ ks) ih
       at false ih = ih
 
-  stage_same : (s : Stage) (part : List ℕ) (ls : List LiveRule) → IsStage s part (plain_rules ls) → IsStage s part (live_rules lists ls)
-  stage_same s part ls is = record {
+  stage_same : (s : Stage) (before part mask : List ℕ) (ls : List LiveRule) → IsStage s before part mask (plain_rules ls) → IsStage s before part mask (live_rules lists ls)
+  stage_same s before part mask ls is = record {
     part_is = is.part_is;
-    counted = λ key. is.counted key ∙ count_same (λ (r : Rule). same key (masked r.matching.key part)) (λ l. refl) ls;
+    like = is.like;
+    whole = is.whole;
+    counted = λ tested key. is.counted tested key ∙ count_same (λ (r : Rule). same key (masked r.matching.key part)) (λ l. refl) ls;
   }
 
   field_same : (p : FieldPrefixes) (f : FieldId) (mask : List ℕ) (ls : List LiveRule) → IsOfField p f mask (plain_rules ls) → IsOfField p f mask (live_rules lists ls)
@@ -57,9 +59,9 @@ module _ (lists : List (List OfAction)) where
     of_mask = λ r m. of r (among_map (live_view lists) r ls m);
     ranked = λ key. is.ranked key ∙ ranks_same key ls;
     indexed = record {
-      metadata = stage_same s.indexes.metadata _ ls is.indexed.metadata;
-      ethernet = stage_same s.indexes.ethernet _ ls is.indexed.ethernet;
-      network = stage_same s.indexes.network _ ls is.indexed.network;
+      metadata = stage_same s.indexes.metadata _ _ _ ls is.indexed.metadata;
+      ethernet = stage_same s.indexes.ethernet _ _ _ ls is.indexed.ethernet;
+      network = stage_same s.indexes.network _ _ _ ls is.indexed.network;
       nw_src = field_same s.indexes.nw_src _ (bits s.mask) ls is.indexed.nw_src;
       nw_dst = field_same s.indexes.nw_dst _ (bits s.mask) ls is.indexed.nw_dst;
       ipv6_src = field_same s.indexes.ipv6_src _ (bits s.mask) ls is.indexed.ipv6_src;
@@ -71,7 +73,7 @@ module _ (lists : List (List OfAction)) where
       of : (r : Rule) → (l : LiveRule) × Among l ls × (r ≡ live_view lists l) → IsOfMask (bits s.mask) r
       of r h =
           let o : IsOfMask (bits s.mask) (plain_rule h.0) = is.of_mask (plain_rule h.0) (Among_in-map plain_rule h.0 ls h.1) in
-          let v : IsOfMask (bits s.mask) (live_view lists h.0) = record { mask_is = o.mask_is; normalised = o.normalised } in
+          let v : IsOfMask (bits s.mask) (live_view lists h.0) = record { mask_is = o.mask_is; normalised = o.normalised; fields = o.fields } in
           subst (IsOfMask (bits s.mask)) (sym h.2) v
 
   part_seen : (mask : List ℕ) (ls : List LiveRule) → live_rules lists (filter (λ l. same (bits l.rule.matching.mask) mask) ls) ≡ of_mask mask (live_rules lists ls)

@@ -7,49 +7,54 @@ use Rattle.ovs_fields.specs.Packed.{bits}
 use Rattle.ovs_fields.specs.Equality.{same_from_equal}
 use Rattle.translation_laws.proofs.MemberLaws.{Among}
 use Rattle.tuple_classifier.specs.declared.stage.Stage.{Stage}
+use Rattle.tuple_classifier.specs.declared.stage.StageKind.TheVariants.{LikeTheOneBefore, WholeMask, Tested}
 use Rattle.tuple_classifier.specs.Counts.{count_at}
 use Rattle.tuple_classifier.specs.Numbered.{AreDistinct, without}
-use Rattle.tuple_classifier.specs.Stages.{with_part, IsStage}
+use Rattle.tuple_classifier.specs.Stages.{with_part, IsStage, IsCounted}
 use Rattle.tuple_classifier.proofs.Members.{same_tests, any_among, any_from, counted_among, counted_from}
 use Rattle.tuple_classifier.proofs.Nearest.{nat_lt_true, true_nat_lt}
 use Rattle.tuple_classifier.proofs.Removed.{count-one_more, count-without}
 
-pub stage_empty : (s : Stage) (part : List ℕ) → bits s.part ≡ part → ((key : List ℕ) → count_at s.counts key ≡ 0) → IsStage s part []
-stage_empty s part is none = record { part_is = is; counted = λ key. none key }
+pub stage_empty : (s : Stage) (before part mask : List ℕ) → bits s.part ≡ part → (s.kind ≡ LikeTheOneBefore → part ≡ before) → (s.kind ≡ WholeMask → part ≡ mask) → ((key : List ℕ) → count_at s.counts key ≡ 0) → IsStage s before part mask []
+stage_empty s before part mask is like whole empty = record { part_is = is; like = like; whole = whole; counted = λ tested key. empty key }
 
-pub stage_more : (old new : Stage) (part key added : List ℕ) (rs : List Rule) (r : Rule) → IsStage old part rs → r.matching.key ≡ key → new.part ≡ old.part → added ≡ masked key (bits old.part)
-    → ((q : List ℕ) → count_at new.counts q ≡ count_at old.counts q + (if same q added then 1 else 0)) → IsStage new part (rs ++ r ∷ [])
-stage_more old new part key added rs r is of_key same_part is_added more = record {
+pub stage_more : (old new : Stage) (before part mask key added : List ℕ) (rs : List Rule) (r : Rule) → IsStage old before part mask rs → r.matching.key ≡ key → new.part ≡ old.part → new.kind ≡ old.kind → old.kind ≡ Tested
+    → added ≡ masked key (bits old.part) → ((q : List ℕ) → count_at new.counts q ≡ count_at old.counts q + (if same q added then 1 else 0)) → IsStage new before part mask (rs ++ r ∷ [])
+stage_more old new before part mask key added rs r is of_key same_part same_kind tested is_added more = record {
   part_is = ap bits same_part ∙ is.part_is;
-  counted = λ q. more q ∙ ap₂ (λ (m : ℕ) (l : List ℕ). m + (if same q l then 1 else 0)) (is.counted q) (is_added ∙ ap₂ masked (sym of_key) is.part_is)
+  like = λ k. is.like (sym same_kind ∙ k);
+  whole = λ k. is.whole (sym same_kind ∙ k);
+  counted = λ t q. more q ∙ ap₂ (λ (m : ℕ) (l : List ℕ). m + (if same q l then 1 else 0)) (is.counted tested q) (is_added ∙ ap₂ masked (sym of_key) is.part_is)
       ∙ sym (count-one_more (λ (x : Rule). same q (masked x.matching.key part)) rs r);
 }
 
-pub stage_less : (old new : Stage) (part key taken : List ℕ) (rs : List Rule) (r : Rule) → IsStage old part rs → AreDistinct rs → Among r rs → r.matching.key ≡ key → new.part ≡ old.part → taken ≡ masked key (bits old.part)
-    → ((q : List ℕ) → count_at new.counts q + (if same q taken then 1 else 0) ≡ count_at old.counts q) → IsStage new part (without r.number rs)
-stage_less old new part key taken rs r is distinct m of_key same_part is_taken less = record {
+pub stage_less : (old new : Stage) (before part mask key taken : List ℕ) (rs : List Rule) (r : Rule) → IsStage old before part mask rs → AreDistinct rs → Among r rs → r.matching.key ≡ key → new.part ≡ old.part → new.kind ≡ old.kind → old.kind ≡ Tested
+    → taken ≡ masked key (bits old.part) → ((q : List ℕ) → count_at new.counts q + (if same q taken then 1 else 0) ≡ count_at old.counts q) → IsStage new before part mask (without r.number rs)
+stage_less old new before part mask key taken rs r is distinct m of_key same_part same_kind tested is_taken less = record {
   part_is = ap bits same_part ∙ is.part_is;
-  counted = λ q.
+  like = λ k. is.like (sym same_kind ∙ k);
+  whole = λ k. is.whole (sym same_kind ∙ k);
+  counted = λ t q.
       let a = less q in
-      let b = is.counted q in
+      let b = is.counted tested q in
       let c = ap {B = ℕ} (λ (l : List ℕ). if same q l then 1 else 0) (is_taken ∙ ap₂ masked (sym of_key) is.part_is) in
       let d = count-without (λ (x : Rule). same q (masked x.matching.key part)) r rs m distinct in
       omega (arith, a, b, c, d);
 }
 
 -- each rule is counted
-pub stage_has : (s : Stage) (part key : List ℕ) (rs : List Rule) (r : Rule) → IsStage s part rs → Among r rs → r.matching.key ≡ key → 0 < count_at s.counts (masked key (bits s.part))
-stage_has s part key rs r is m of_key =
-    subst (λ (n : ℕ). 0 < n) (sym (is.counted (masked key (bits s.part))))
+pub stage_has : (s : Stage) (before part mask key : List ℕ) (rs : List Rule) (r : Rule) → IsStage s before part mask rs → Among r rs → r.matching.key ≡ key → IsCounted s key
+stage_has s before part mask key rs r is m of_key tested =
+    subst (λ (n : ℕ). 0 < n) (sym (is.counted tested (masked key (bits s.part))))
     (counted_from (λ (x : Rule). same (masked key (bits s.part)) (masked x.matching.key part)) r rs m
     (same_from_equal (masked key (bits s.part)) (masked r.matching.key part) (ap₂ masked (sym of_key) is.part_is)))
 
-pub stage_agrees : (s : Stage) (part key at_key : List ℕ) (rs : List Rule) (n : ℕ) → IsStage s part rs → at_key ≡ masked key (bits s.part) → n ≡ count_at s.counts at_key
+pub stage_agrees : (s : Stage) (before part mask key at_key : List ℕ) (rs : List Rule) (n : ℕ) → IsStage s before part mask rs → s.kind ≡ Tested → at_key ≡ masked key (bits s.part) → n ≡ count_at s.counts at_key
     → nat_lt 0 n ≡ list_any (λ r. agree key r.matching.key part) rs
-stage_agrees s part key at_key rs n is is_at found = same_tests (nat_lt 0 n) (list_any (λ r. agree key r.matching.key part) rs) to back
+stage_agrees s before part mask key at_key rs n is tested is_at found = same_tests (nat_lt 0 n) (list_any (λ r. agree key r.matching.key part) rs) to back
   where
     count : n ≡ with_part part (masked key part) rs
-    count = found ∙ ap (count_at s.counts) (is_at ∙ ap (masked key) is.part_is) ∙ is.counted (masked key part)
+    count = found ∙ ap (count_at s.counts) (is_at ∙ ap (masked key) is.part_is) ∙ is.counted tested (masked key part)
 
     to : nat_lt 0 n ≡ true → list_any (λ r. agree key r.matching.key part) rs ≡ true
     to h =

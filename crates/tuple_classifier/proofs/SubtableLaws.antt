@@ -101,9 +101,9 @@ ranks_less q key rank rs r distinct m of_key is =
 
 pub has_rule : (s : Subtable) (key : List ℕ) (rank : Rank) (rs : List Rule) (r : Rule) → IsSubtableOf s rs → Among r rs → r.matching.key ≡ key → rank_of r ≡ rank → HaveRule s.indexes key rank.priority
 has_rule s key rank rs r is m of_key of_rank = record {
-  metadata = stage_has s.indexes.metadata _ key rs r is.indexed.metadata m of_key;
-  ethernet = stage_has s.indexes.ethernet _ key rs r is.indexed.ethernet m of_key;
-  network = stage_has s.indexes.network _ key rs r is.indexed.network m of_key;
+  metadata = stage_has s.indexes.metadata _ _ _ key rs r is.indexed.metadata m of_key;
+  ethernet = stage_has s.indexes.ethernet _ _ _ key rs r is.indexed.ethernet m of_key;
+  network = stage_has s.indexes.network _ _ _ key rs r is.indexed.network m of_key;
   nw_src = field_has s.indexes.nw_src _ (bits s.mask) key rs r is.indexed.nw_src m of_key;
   nw_dst = field_has s.indexes.nw_dst _ (bits s.mask) key rs r is.indexed.nw_dst m of_key;
   ipv6_src = field_has s.indexes.ipv6_src _ (bits s.mask) key rs r is.indexed.ipv6_src m of_key;

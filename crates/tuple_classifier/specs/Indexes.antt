@@ -1,24 +1,20 @@
 -- What is kept of the rules of one mask for lookups.
 use Rattle.std.specs.Prelude.{◌≡◌, ℕ, ◌<◌, ◌==◌, List, count_by, vec_len, vec_capacity}
-use Rattle.indexmap.specs.IndexMap.{spare}
 use Rattle.spec_keys.specs.declared.field_id.FieldId.TheVariants.{NwSrc, NwDst, Ipv6Src, Ipv6Dst}
-use Rattle.spec_keys.specs.Keys.{masked, value_of}
+use Rattle.spec_keys.specs.Keys.{none, value_of}
 use Rattle.spec_keys.specs.Stages.{staged, metadata_stage, ethernet_stage, network_stage}
 use Rattle.spec_tables.specs.Rules.{Rule}
-use Rattle.ovs_fields.specs.Packed.{bits}
 use Rattle.tuple_classifier.specs.declared.indexes.Indexes.{Indexes}
 use Rattle.tuple_classifier.specs.declared.prefixes.FieldPrefixes.{FieldPrefixes}
-use Rattle.tuple_classifier.specs.declared.stage.Stage.{Stage}
-use Rattle.tuple_classifier.specs.Counts.{count_at}
 use Rattle.tuple_classifier.specs.FieldPrefixes.{IsOfField}
 use Rattle.tuple_classifier.specs.Numbers.{times}
-use Rattle.tuple_classifier.specs.Stages.{IsStage, CountsFewer}
+use Rattle.tuple_classifier.specs.Stages.{IsStage, CountsFewer, HasRoom, IsCounted}
 
 -- they are those of these rules of a mask
 pub record AreIndexes (x : Indexes) (mask : List ℕ) (rs : List Rule) : Type 0 where
-  pub metadata : IsStage x.metadata (staged metadata_stage mask) rs
-  pub ethernet : IsStage x.ethernet (staged ethernet_stage mask) rs
-  pub network : IsStage x.network (staged network_stage mask) rs
+  pub metadata : IsStage x.metadata none (staged metadata_stage mask) mask rs
+  pub ethernet : IsStage x.ethernet (staged metadata_stage mask) (staged ethernet_stage mask) mask rs
+  pub network : IsStage x.network (staged ethernet_stage mask) (staged network_stage mask) mask rs
   pub nw_src : IsOfField x.nw_src NwSrc mask rs
   pub nw_dst : IsOfField x.nw_dst NwDst mask rs
   pub ipv6_src : IsOfField x.ipv6_src Ipv6Src mask rs
@@ -33,17 +29,14 @@ pub record CountMore (x : Indexes) : Type 0 where
 
 -- and needs no memory
 pub record HaveRoom (x : Indexes) : Type 0 where
-  pub metadata : 0 < spare x.metadata.counts
-  pub ethernet : 0 < spare x.ethernet.counts
-  pub network : 0 < spare x.network.counts
+  pub metadata : HasRoom x.metadata
+  pub ethernet : HasRoom x.ethernet
+  pub network : HasRoom x.network
   pub nw_src : vec_len x.nw_src.values.items < vec_capacity x.nw_src.values.items
   pub nw_dst : vec_len x.nw_dst.values.items < vec_capacity x.nw_dst.values.items
   pub ipv6_src : vec_len x.ipv6_src.values.items < vec_capacity x.ipv6_src.values.items
   pub ipv6_dst : vec_len x.ipv6_dst.values.items < vec_capacity x.ipv6_dst.values.items
   pub priorities : vec_len x.priorities.items < vec_capacity x.priorities.items
-
-abbrev pub IsCounted : Stage → List ℕ → Type 0
-IsCounted s key = 0 < count_at s.counts (masked key (bits s.part))
 
 abbrev pub IsStated : FieldPrefixes → List ℕ → Type 0
 IsStated p key = 0 < p.length → 0 < times (value_of key p.field) p.values.items.items

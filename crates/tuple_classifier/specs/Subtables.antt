@@ -1,5 +1,6 @@
 -- A subtable, and the rules of its mask.
-use Rattle.std.specs.Prelude.{◌≡◌, ℕ, List, map, filter}
+use Rattle.std.specs.Prelude.{◌≡◌, ℕ, List, length, map, filter}
+use Rattle.spec_keys.specs.Fields.{field_count}
 use Rattle.spec_keys.specs.Keys.{masked, same}
 use Rattle.spec_tables.specs.Rules.{Rule}
 use Rattle.translation_laws.proofs.MemberLaws.{Among}
@@ -14,10 +15,11 @@ use Rattle.tuple_classifier.specs.Ranks.{rank_of}
 abbrev pub ranks_with : List ℕ → List Rule → List Rank
 ranks_with key rs = map rank_of (filter (λ r. same key r.matching.key) rs)
 
--- a rule of this mask: its key has no bits outside
+-- a rule of this mask: its key has no bits outside, and a number for each field
 pub record IsOfMask (mask : List ℕ) (r : Rule) : Type 0 where
   pub mask_is : r.matching.mask ≡ mask
   pub normalised : masked r.matching.key mask ≡ r.matching.key
+  pub fields : length r.matching.key ≡ field_count
 
 -- the subtable has these rules, which are all of its mask
 pub record IsSubtableOf (s : Subtable) (rs : List Rule) : Type 0 where

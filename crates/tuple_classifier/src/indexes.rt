@@ -34,10 +34,13 @@ impl Indexes {
     pub(crate) fn new(alloc: Global, mask: &Mask) -> Indexes
         ensures { AreIndexes result (bits mask.now) [] }
     {
+        let metadata = metadata_part(mask);
+        let ethernet = ethernet_part(mask);
+        let network = network_part(mask);
         Indexes {
-            metadata: Stage::new(alloc, metadata_part(mask)),
-            ethernet: Stage::new(alloc, ethernet_part(mask)),
-            network: Stage::new(alloc, network_part(mask)),
+            metadata: Stage::new(alloc, &Mask::none(), metadata, mask),
+            ethernet: Stage::new(alloc, &metadata, ethernet, mask),
+            network: Stage::new(alloc, &ethernet, network, mask),
             nw_src: FieldPrefixes::new(alloc, FieldId::NwSrc, mask),
             nw_dst: FieldPrefixes::new(alloc, FieldId::NwDst, mask),
             ipv6_src: FieldPrefixes::new(alloc, FieldId::Ipv6Src, mask),

@@ -35,7 +35,9 @@
 //! A mask whose rules can't match by a first part of it consults that part alone. What shows that is kept beside the
 //! ranks:
 //!
-//! - by *stage*: for each part of the mask that a stage reaches, how many rules have each key under it;
+//! - by *stage*: for each part of the mask that a stage reaches, how many rules have each key under it. A part that is
+//!   that of the stage before decides nothing more, and after one that is the whole mask nothing is left to decide. Their
+//!   rules are neither counted nor tested;
 //! - by *prefix*: the values of the four addresses where the mask has a prefix of them, sorted. No value has more leading
 //!   bits in common with a key than its neighbours in that order, so these tell whether a rule begins as the key does, and
 //!   how many leading bits decide it;
@@ -55,9 +57,10 @@
 //!
 //! - The winner takes one hash and one probe for each mask whose greatest priority isn't below the best one found so far,
 //!   however many rules have it.
-//! - The bits take up to three probes for each mask whose greatest priority isn't below the winner's, and for each field
-//!   of which such a mask has a prefix, one search in the sorted values of every mask that has one. So the time of a lookup
-//!   grows by the masks, and by the logarithm of the rules of each.
+//! - The bits take, for each mask whose greatest priority isn't below the winner's, one probe for each of three stages that
+//!   has bits of the mask of its own and leaves some to later ones, and for each field of which such a mask has a prefix,
+//!   one search in the sorted values of every mask that has one. So the time of a lookup grows by the masks, and by the
+//!   logarithm of the rules of each.
 //! - An add or a strict word takes a few probes. An add and a strict delete move what stands after their place in the
 //!   sorted lists and among the live rules.
 //! - A loose word passes once over the live rules.

@@ -16,17 +16,18 @@ ghost use Rattle.tuple_classifier.specs.Indexes.{AreIndexes};
 ghost use Rattle.tuple_classifier.specs.Numbered.{AreDistinct};
 ghost use Rattle.tuple_classifier.specs.Parts.{AreSubtablesOf, of_mask};
 ghost use Rattle.tuple_classifier.specs.Ranks.{rank_of, floor_of};
-ghost use Rattle.tuple_classifier.specs.Stages.{IsStage};
+ghost use Rattle.tuple_classifier.specs.Stages.{IsStage, stage_masks};
 ghost use Rattle.tuple_classifier.specs.Subtables.{IsSubtableOf};
 ghost use Rattle.tuple_classifier.specs.Tracked.{field_of};
 ghost use Rattle.tuple_classifier.specs.declared.subtable.Subtable.{Subtable};
+ghost use Rattle.translation_laws.proofs.MemberLaws.{Among};
 
 use crate::field_lookup::FieldLookup;
 use crate::indexes::Indexes;
 use crate::prefix::leading;
 use crate::prefixes::FieldPrefixes;
 use crate::rank::{Rank, best_of_two};
-use crate::stage::Stage;
+use crate::stage::{Stage, StageKind};
 use crate::subtable::Subtable;
 use crate::tracked::TrackedField;
 use ovs_fields::{Key, Mask, or, width};
@@ -103,7 +104,7 @@ fn number_of(best: Option<Rank>) -> Option<u32>
     best.map(|rank| rank.number)
 }
 
-/// Consults what one mask does.
+/// Consults what the mask of some rules does.
 fn probe(
     subtables: &[Subtable],
     i: usize,
@@ -113,7 +114,7 @@ fn probe(
 )
     requires { i < length subtables.now }
     ensures known { (rs : List Rule) → AreSubtablesOf subtables.now rs → AreKnown known.old (numbers key.now) rs → AreKnown known.new (numbers key.now) rs }
-    ensures consulted { (rs : List Rule) (s : Subtable) → AreSubtablesOf subtables.now rs → AreKnown known.old (numbers key.now) rs → slice_get subtables.now i ≡ Some s → bits consulted.new ≡ added (bits consulted.old) (xlate.probe rs (numbers key.now) (bits s.mask)) }
+    ensures consulted { (rs : List Rule) (s : Subtable) (r : Rule) → AreSubtablesOf subtables.now rs → AreKnown known.old (numbers key.now) rs → slice_get subtables.now i ≡ Some s → Among r (of_mask (bits s.mask) rs) → bits consulted.new ≡ added (bits consulted.old) (xlate.probe rs (numbers key.now) (bits s.mask)) }
 {
     let subtable = &subtables[i];
     let indexes = &subtable.indexes;
@@ -193,13 +194,22 @@ fn ipv6_tests(
 
 /// Consults the part of a mask that a stage reaches, where the mask hasn't ended, and answers whether it goes on.
 fn stage_test(alive: bool, stage: &Stage, key: &Key, consulted: &mut Mask) -> bool
-    ensures { (part : List ℕ) (rs : List Rule) → IsStage stage.now part rs → (further : List (List ℕ)) → added (bits consulted.old) (when alive (part ∷ when (list_any (λ r. agree (numbers key.now) r.matching.key part) rs) further)) ≡ added (bits consulted.new) (when result further) }
+    ensures { (before part mask : List ℕ) (rs : List Rule) → IsStage stage.now before part mask rs → (further : List (List ℕ)) → added (bits consulted.old) (when alive (stage_masks stage.now.kind (numbers key.now) part rs further)) ≡ added (bits consulted.new) (when result further) }
 {
     if !alive {
         return false;
     }
-    *consulted = or(consulted, &stage.part);
-    stage.some_agrees(key)
+    match stage.kind {
+        StageKind::LikeTheOneBefore => true,
+        StageKind::WholeMask => {
+            *consulted = or(consulted, &stage.part);
+            false
+        }
+        StageKind::Tested => {
+            *consulted = or(consulted, &stage.part);
+            stage.some_agrees(key)
+        }
+    }
 }
 
 /// Consults the whole mask, where it hasn't ended.

@@ -7,26 +7,56 @@ ghost use Rattle.ovs_fields.specs.Packed.{numbers, bits};
 ghost use Rattle.tuple_classifier.specs.Counts.{count_at};
 ghost use Rattle.tuple_classifier.specs.Numbered.{AreDistinct, without};
 ghost use Rattle.translation_laws.proofs.MemberLaws.{Among};
+ghost use Rattle.tuple_classifier.specs.declared.stage.StageKind.TheVariants as kinds;
 
 use crate::counts::{KeyCounts, add_count, count_of, reserve_count, take_count};
 use indexmap::IndexMap;
 use ovs_fields::{Key, Mask, masked};
 use std::alloc::{AllocError, Global};
 
-/// The part of a mask that a stage of a lookup reaches, and how many of the mask's rules have each key under it.
+/// What a stage of a lookup does for a mask, by the part of the mask that it reaches.
+#[derive(Clone, Copy, Debug)]
+pub(crate) enum StageKind {
+    /// The part is that of the stage before, whose answer stands.
+    LikeTheOneBefore,
+    /// The part is the whole mask, after which nothing is left to consult.
+    WholeMask,
+    /// The rules are tested under the part.
+    Tested,
+}
+
+/// What a stage does whose part is this one, where the stage before reaches another.
+fn kind_of(before: &Mask, part: &Mask, mask: &Mask) -> StageKind
+    ensures like { result ≡ kinds.LikeTheOneBefore → bits part.now ≡ bits before.now }
+    ensures whole { result ≡ kinds.WholeMask → bits part.now ≡ bits mask.now }
+{
+    if *part == *before {
+        StageKind::LikeTheOneBefore
+    } else if *part == *mask {
+        StageKind::WholeMask
+    } else {
+        StageKind::Tested
+    }
+}
+
+/// The part of a mask that a stage of a lookup reaches, and how many of the mask's rules have each key under it, where the
+/// stage tests them.
 #[derive(Drop)]
 pub(crate) struct Stage {
+    pub(crate) kind: StageKind,
     pub(crate) part: Mask,
     pub(crate) counts: KeyCounts,
 }
 
 impl Stage {
-    ghost use Rattle.tuple_classifier.specs.Stages.{IsStage, CountsFewer};
+    ghost use Rattle.tuple_classifier.specs.Stages.{IsStage, CountsFewer, HasRoom, IsCounted};
 
-    pub(crate) fn new(alloc: Global, part: Mask) -> Stage
-        ensures { IsStage result (bits part) [] }
+    /// A stage without rules, that reaches a part of a mask after another part.
+    pub(crate) fn new(alloc: Global, before: &Mask, part: Mask, mask: &Mask) -> Stage
+        ensures { IsStage result (bits before.now) (bits part) (bits mask.now) [] }
     {
         Stage {
+            kind: kind_of(before, &part, mask),
             part,
             counts: IndexMap::new(alloc),
         }
@@ -34,33 +64,42 @@ impl Stage {
 
     /// Makes room for one more rule.
     pub(crate) fn reserve(&mut self) -> Result<(), AllocError>
-        ensures same { (part : List ℕ) (rs : List Rule) → IsStage self.old part rs → IsStage self.new part rs }
+        ensures same { (before part mask : List ℕ) (rs : List Rule) → IsStage self.old before part mask rs → IsStage self.new before part mask rs }
         ensures few { CountsFewer self.old → CountsFewer self.new }
-        ensures room { OnOk result (0 < spare self.new.counts) }
+        ensures room { OnOk result (HasRoom self.new) }
     {
-        reserve_count(&mut self.counts)
+        match self.kind {
+            StageKind::LikeTheOneBefore | StageKind::WholeMask => Ok(()),
+            StageKind::Tested => reserve_count(&mut self.counts),
+        }
     }
 
     /// Counts a rule with this key, for which there is room.
     pub(crate) fn add(&mut self, key: &Key)
-        requires room { 0 < spare self.old.counts }
+        requires room { HasRoom self.old }
         requires few { CountsFewer self.old }
-        ensures { (part : List ℕ) (rs : List Rule) (r : Rule) → IsStage self.old part rs → r.matching.key ≡ numbers key.now → IsStage self.new part (rs ++ r ∷ []) }
+        ensures { (before part mask : List ℕ) (rs : List Rule) (r : Rule) → IsStage self.old before part mask rs → r.matching.key ≡ numbers key.now → IsStage self.new before part mask (rs ++ r ∷ []) }
     {
-        add_count(&mut self.counts, masked(key, &self.part));
+        match self.kind {
+            StageKind::LikeTheOneBefore | StageKind::WholeMask => {}
+            StageKind::Tested => add_count(&mut self.counts, masked(key, &self.part)),
+        }
     }
 
     /// Counts a rule with this key no longer.
     pub(crate) fn take(&mut self, key: &Key)
-        requires { 0 < count_at self.old.counts (masked (numbers key.now) (bits self.old.part)) }
-        ensures { (part : List ℕ) (rs : List Rule) (r : Rule) → IsStage self.old part rs → AreDistinct rs → Among r rs → r.matching.key ≡ numbers key.now → IsStage self.new part (without r.number rs) }
+        requires { IsCounted self.old (numbers key.now) }
+        ensures { (before part mask : List ℕ) (rs : List Rule) (r : Rule) → IsStage self.old before part mask rs → AreDistinct rs → Among r rs → r.matching.key ≡ numbers key.now → IsStage self.new before part mask (without r.number rs) }
     {
-        take_count(&mut self.counts, &masked(key, &self.part));
+        match self.kind {
+            StageKind::LikeTheOneBefore | StageKind::WholeMask => {}
+            StageKind::Tested => take_count(&mut self.counts, &masked(key, &self.part)),
+        }
     }
 
-    /// Whether one of the rules agrees with a key on the part.
+    /// Whether one of the rules agrees with a key on the part, where the stage tests them.
     pub(crate) fn some_agrees(&self, key: &Key) -> bool
-        ensures { (part : List ℕ) (rs : List Rule) → IsStage self.now part rs → result ≡ list_any (λ r. agree (numbers key.now) r.matching.key part) rs }
+        ensures { (before part mask : List ℕ) (rs : List Rule) → IsStage self.now before part mask rs → self.now.kind ≡ kinds.Tested → result ≡ list_any (λ r. agree (numbers key.now) r.matching.key part) rs }
     {
         count_of(&self.counts, &masked(key, &self.part)) > 0
     }

@@ -1,4 +1,4 @@
-use Rattle.std.proofs.Common.{◌≡◌, ◌∷◌, ◌++◌, [], Some, slice_get, true, refl, sym, ap, ap₂, subst, ◌∙◌}
+use Rattle.std.proofs.Common.{length, ◌≡◌, ◌∷◌, ◌++◌, [], Some, slice_get, true, refl, sym, ap, ap₂, subst, ◌∙◌}
 use Rattle.spec_keys.specs.Keys.{masked, same}
 use Rattle.ovs_fields.specs.Equality.{equal_from_same}
 use Rattle.ovs_fields.specs.Packed.{bits}
@@ -21,6 +21,7 @@ returns-in-Some-clause-ok c =
     (record {
       mask_is = ap (λ m. m.mask) is ∙ sym same_bits;
       normalised = ap₂ masked (ap (λ m. m.key) is) same_bits ∙ c.args.matching.now.normalised ∙ sym (ap (λ m. m.key) is);
+      fields = ap (λ m. length m.key) is ∙ c.args.matching.now.key.is_key.fields;
     })
     (ap (λ m. m.key) is) of_rank)) c.insert.ensures.ok
 

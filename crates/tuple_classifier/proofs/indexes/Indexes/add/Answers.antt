@@ -5,9 +5,9 @@ use Rattle.tuple_classifier.proofs.indexes.Indexes.add.Goals as goal
 
 pub returns : goal.returns
 returns c mask rs r is of_key of_priority = record {
-  metadata = c.add.ensures _ rs r is.metadata of_key;
-  ethernet = c.add-2.ensures _ rs r is.ethernet of_key;
-  network = c.add-3.ensures _ rs r is.network of_key;
+  metadata = c.add.ensures _ _ mask rs r is.metadata of_key;
+  ethernet = c.add-2.ensures _ _ mask rs r is.ethernet of_key;
+  network = c.add-3.ensures _ _ mask rs r is.network of_key;
   nw_src = c.add-4.ensures _ mask rs r is.nw_src of_key;
   nw_dst = c.add-5.ensures _ mask rs r is.nw_dst of_key;
   ipv6_src = c.add-6.ensures _ mask rs r is.ipv6_src of_key;

@@ -6,9 +6,9 @@ use Rattle.tuple_classifier.proofs.indexes.Indexes.take.Goals as goal
 
 pub returns : goal.returns
 returns c mask rs r is distinct m of_key of_priority = record {
-  metadata = c.take.ensures _ rs r is.metadata distinct m of_key;
-  ethernet = c.take-2.ensures _ rs r is.ethernet distinct m of_key;
-  network = c.take-3.ensures _ rs r is.network distinct m of_key;
+  metadata = c.take.ensures _ _ mask rs r is.metadata distinct m of_key;
+  ethernet = c.take-2.ensures _ _ mask rs r is.ethernet distinct m of_key;
+  network = c.take-3.ensures _ _ mask rs r is.network distinct m of_key;
   nw_src = c.take-4.ensures _ mask rs r is.nw_src distinct m of_key;
   nw_dst = c.take-5.ensures _ mask rs r is.nw_dst distinct m of_key;
   ipv6_src = c.take-6.ensures _ mask rs r is.ipv6_src distinct m of_key;

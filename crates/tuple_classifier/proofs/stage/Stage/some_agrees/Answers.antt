@@ -3,4 +3,4 @@ use Rattle.tuple_classifier.proofs.StageLaws.{stage_agrees}
 use Rattle.tuple_classifier.proofs.stage.Stage.some_agrees.Goals as goal
 
 pub returns : goal.returns
-returns c part rs is = stage_agrees c.args.self.now part (numbers c.args.key.now) (numbers c.masked.result) rs c.count_of.result is c.masked.ensures c.count_of.ensures
+returns c before part mask rs is tested = stage_agrees c.args.self.now before part mask (numbers c.args.key.now) (numbers c.masked.result) rs c.count_of.result is tested c.masked.ensures c.count_of.ensures
