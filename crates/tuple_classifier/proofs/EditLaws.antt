@@ -210,7 +210,7 @@ given_keeps e k l = at (picks e l.rule)
     at true = refl
     at false = refl
 
-all_keep : (e : Edit) (k : ℕ) (live : List LiveRule) → plain_rules (map (given_by e k) live) ≡ plain_rules live
+pub all_keep : (e : Edit) (k : ℕ) (live : List LiveRule) → plain_rules (map (given_by e k) live) ≡ plain_rules live
 all_keep e k [] = refl
 all_keep e k (l ∷ live) = ap₂ (λ (r : Rule) (rs : List Rule). r ∷ rs) (given_keeps e k l) (all_keep e k live)
 

@@ -12,6 +12,7 @@ pub mod Mapped
 pub mod Members
 pub mod Nearest
 pub mod PartLaws
+pub mod PlaceLaws
 pub mod Places
 pub mod PrefixTests
 pub mod PriorityLaws

@@ -1,5 +1,5 @@
 -- The live rules, as they are kept.
-use Rattle.std.specs.Prelude.{◌≡◌, ℕ, ◌<◌, ◌≤◌, ◌==◌, true, not, Bool, if◌then◌else◌, List, [], ◌∷◌, map, get_or, unwrap_or}
+use Rattle.std.specs.Prelude.{◌≡◌, ℕ, ◌-◌, ◌<◌, ◌≤◌, ◌==◌, length, true, not, Bool, if◌then◌else◌, List, [], ◌∷◌, map, get_or, unwrap_or}
 use Rattle.spec_actions.specs.declared.action.OfAction.{OfAction}
 use Rattle.spec_tables.specs.Rules.{Rule, is_same_match}
 use Rattle.spec_tables.specs.Edits.{Edit}
@@ -52,3 +52,16 @@ pub record AreOfVersion (rs : List Rule) (version : ℕ) : Type 0 where
   pub rising : IsRising rs
   pub numbered : (r : Rule) → Among r rs → r.number ≤ version
   pub identified : AreIdentified rs
+
+-- there is a place for the actions of a live rule by its number
+pub record IsWithinPlaces (l : LiveRule) (places : List ℕ) : Type 0 where
+  pub positive : 0 < l.rule.number
+  pub short : l.rule.number ≤ length places
+
+-- and the actions of each live rule are there
+pub record IsPlaced (l : LiveRule) (places : List ℕ) : Type 0 where
+  pub within : IsWithinPlaces l places
+  pub given : get_or places (l.rule.number - 1) 0 ≡ l.given
+
+abbrev pub ArePlaced : List LiveRule → List ℕ → Type 0
+ArePlaced live places = (l : LiveRule) → Among l live → IsPlaced l places

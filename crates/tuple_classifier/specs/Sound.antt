@@ -8,7 +8,7 @@ use Rattle.tuple_classifier.specs.declared.live.LiveRule.{LiveRule}
 use Rattle.tuple_classifier.specs.declared.subtable.Subtable.{Subtable}
 use Rattle.tuple_classifier.specs.declared.tables.Tables.TheInside.{Inside}
 use Rattle.tuple_classifier.specs.ByTable.{AreClassified}
-use Rattle.tuple_classifier.specs.Live.{live_rules, plain_rules, AreOfVersion}
+use Rattle.tuple_classifier.specs.Live.{live_rules, plain_rules, AreOfVersion, ArePlaced}
 use Rattle.tuple_classifier.specs.Versions.{Version}
 
 abbrev pub rules_at : Inside → List Rule
@@ -24,5 +24,7 @@ pub record AreSound (version : ℕ) (live : List LiveRule) (lists : List (List O
   pub few_lists : length lists ≤ version
   pub classified : AreClassified tables (plain_rules live)
 
-abbrev pub IsSound : Inside → Type 0
-IsSound a = AreSound a.version a.live.items a.lists.items a.tables.items
+pub record IsSound (a : Inside) : Type 0 where
+  pub sound : AreSound a.version a.live.items a.lists.items a.tables.items
+  pub placed : ArePlaced a.live.items a.places.items
+  pub few_places : length a.places.items ≤ a.version

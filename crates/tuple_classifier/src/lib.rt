@@ -50,7 +50,8 @@
 //! masks. The first mask that asks it has it answered for those after it, until the lookup ends (`FieldLookup`).
 //!
 //! The live rules stand beside the subtables in the order of their numbers, and each has the place of its actions among
-//! the lists of actions that edits gave. Looking up which rule an edit names is a probe as well. An add takes all memory
+//! the lists of actions that edits gave. The same places stand by number too, so that the actions of a winner are read
+//! without a search for its rule. Looking up which rule an edit names is a probe as well. An add takes all memory
 //! first, puts its rule in, and only then takes out the rule that it replaces, so that a refusal leaves what was there.
 //!
 //! # What it costs
@@ -64,7 +65,8 @@
 //! - An add or a strict word takes a few probes. An add and a strict delete move what stands after their place in the
 //!   sorted lists and among the live rules.
 //! - A loose word passes once over the live rules.
-//! - The actions of an edit stay until the tables are dropped, even where no live rule has them any more.
+//! - The actions of an edit stay until the tables are dropped, even where no live rule has them any more, and so do the
+//!   four bytes that say where those of a number are. The actions of a rule take two reads.
 //!
 //! # What is left to others
 //!

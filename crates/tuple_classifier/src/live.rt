@@ -1,4 +1,4 @@
-ghost use Rattle.std.specs.Prelude.{◌≡◌, ℕ, ◌<◌, ◌≤◌, ◌+◌, ◌++◌, ◌∷◌, [], List, OnOk, OnErr, vec_len, vec_capacity, filter, map, length, slice_get, Some, IfSome, IsNone};
+ghost use Rattle.std.specs.Prelude.{◌≡◌, ℕ, ◌<◌, ◌≤◌, ◌+◌, ◌-◌, ◌++◌, ◌∷◌, [], get_or, List, OnOk, OnErr, vec_len, vec_capacity, filter, map, length, slice_get, Some, IfSome, IsNone};
 ghost use Rattle.std.specs.List.Sorted.{IsNonDecreasingBy};
 ghost use Rattle.translation_laws.proofs.MemberLaws.{Among};
 ghost use Rattle.std.specs.Option.{option_map_or};
@@ -6,7 +6,7 @@ ghost use Rattle.spec_actions.specs.declared.action.OfAction.{OfAction};
 ghost use Rattle.spec_tables.specs.declared.edit_word.EditWord.TheVariants.{ModifyStrict};
 ghost use Rattle.spec_tables.specs.Rules as seen;
 ghost use Rattle.tuple_classifier.specs.ByTable.{AreClassified, CountMoreRules};
-ghost use Rattle.tuple_classifier.specs.Live.{live_rules, plain_rule, plain_rules, given_by, given_to, is_kept, is_unlike, IsRising, AreOfVersion};
+ghost use Rattle.tuple_classifier.specs.Live.{live_rules, plain_rule, plain_rules, given_by, given_to, is_kept, is_unlike, IsRising, AreOfVersion, IsWithinPlaces, ArePlaced};
 ghost use Rattle.tuple_classifier.specs.declared.live.LiveRule.{LiveRule};
 
 use crate::by_table::{Table, find_named, insert_in, take_from};
@@ -93,35 +93,74 @@ fn give_all(live: &mut [LiveRule], edit: &Edit, given: u32)
     }
 }
 
+/// Writes where the actions of all live rules are.
+fn place_all(live: &[LiveRule], places: &mut Vec<u32>)
+    requires rising { IsRising (plain_rules live.now) }
+    requires within { (l : LiveRule) → Among l live.now → IsWithinPlaces l places.old.items }
+    ensures placed { ArePlaced live.now places.new.items }
+    ensures length { length places.new.items ≡ length places.old.items }
+{
+    'live: for i in 0..live.len() {
+        let l = &live[i];
+        places[l.rule.number as usize - 1] = l.given;
+    }
+}
+
 /// Gives the rule of a number what an edit gives, if the edit picks it.
-fn give_numbered(live: &mut [LiveRule], number: u32, edit: &Edit, given: u32)
-    requires { IsRising (plain_rules live.old) }
-    ensures { live.new ≡ map (given_to number edit.now given) live.old }
+fn give_numbered(live: &mut [LiveRule], places: &mut Vec<u32>, number: u32, edit: &Edit, given: u32)
+    requires rising { IsRising (plain_rules live.old) }
+    requires placed { ArePlaced live.old places.old.items }
+    ensures live { live.new ≡ map (given_to number edit.now given) live.old }
+    ensures placed { ArePlaced live.new places.new.items }
+    ensures length { length places.new.items ≡ length places.old.items }
 {
     if let Some(place) = place_of(live, number) {
-        live[place].give(edit, given);
+        let l = &mut live[place];
+        l.give(edit, given);
+        places[number as usize - 1] = l.given;
     }
 }
 
 /// Gives the rule that a strict modify names what the edit gives. It is the only one that the edit picks.
-fn give_named(tables: &[Table], live: &mut [LiveRule], edit: &Edit, given: u32)
+fn give_named(
+    tables: &[Table],
+    live: &mut [LiveRule],
+    places: &mut Vec<u32>,
+    edit: &Edit,
+    given: u32,
+)
     requires rising { IsRising (plain_rules live.old) }
+    requires placed { ArePlaced live.old places.old.items }
     requires word { edit.now.word ≡ ModifyStrict }
-    ensures { (lists : List (List OfAction)) (version : ℕ) → AreOfVersion (live_rules lists live.old) version → AreClassified tables.now (plain_rules live.old) → live.new ≡ map (given_by edit.now given) live.old }
+    ensures live { (lists : List (List OfAction)) (version : ℕ) → AreOfVersion (live_rules lists live.old) version → AreClassified tables.now (plain_rules live.old) → live.new ≡ map (given_by edit.now given) live.old }
+    ensures placed { ArePlaced live.new places.new.items }
+    ensures length { length places.new.items ≡ length places.old.items }
 {
     if let Some(number) = find_named(tables, edit) {
-        give_numbered(live, number, edit, given);
+        give_numbered(live, places, number, edit, given);
     }
 }
 
 /// Gives the rules that a modify picks its cookie, if it has one, and the actions at a place.
-pub(crate) fn give(tables: &[Table], live: &mut [LiveRule], edit: &Edit, given: u32)
-    requires { IsRising (plain_rules live.old) }
-    ensures { (lists : List (List OfAction)) (version : ℕ) → AreOfVersion (live_rules lists live.old) version → AreClassified tables.now (plain_rules live.old) → live.new ≡ map (given_by edit.now given) live.old }
+pub(crate) fn give(
+    tables: &[Table],
+    live: &mut [LiveRule],
+    places: &mut Vec<u32>,
+    edit: &Edit,
+    given: u32,
+)
+    requires rising { IsRising (plain_rules live.old) }
+    requires placed { ArePlaced live.old places.old.items }
+    ensures live { (lists : List (List OfAction)) (version : ℕ) → AreOfVersion (live_rules lists live.old) version → AreClassified tables.now (plain_rules live.old) → live.new ≡ map (given_by edit.now given) live.old }
+    ensures placed { ArePlaced live.new places.new.items }
+    ensures length { length places.new.items ≡ length places.old.items }
 {
     match edit.word {
-        EditWord::ModifyStrict => give_named(tables, live, edit, given),
-        _ => give_all(live, edit, given),
+        EditWord::ModifyStrict => give_named(tables, live, places, edit, given),
+        _ => {
+            give_all(live, edit, given);
+            place_all(live, places);
+        }
     }
 }
 
@@ -199,4 +238,18 @@ pub(crate) fn keep_others(live: &mut Vec<LiveRule>, edit: &Edit)
             ensures { result ≡ is_kept edit.entry.now l.now }
         { !edit.picks(&l.rule) },
     );
+}
+
+/// Writes where the actions of the rule of a number are, for which there is room. Numbers before it that no rule has get
+/// the same place.
+pub(crate) fn push_place(places: &mut Vec<u32>, number: u32, place: u32)
+    requires short { length places.old.items < number }
+    requires room { number ≤ vec_capacity places.old }
+    ensures length { length places.new.items ≡ number }
+    ensures place { get_or places.new.items (number - 1) 0 ≡ place }
+    ensures others { (i : ℕ) → i < length places.old.items → get_or places.new.items i 0 ≡ get_or places.old.items i 0 }
+{
+    let Ok(()) = places.resize(number as usize, place) else {
+        unreachable!()
+    };
 }

@@ -10,7 +10,7 @@ ghost use Rattle.tuple_classifier.specs.Versions.{no_rules, after};
 
 use crate::by_table::{Table, find_named};
 use crate::live::{
-    LiveRule, give, insert_live, keep_others, place_of, push_rule, take_picked, take_replaced,
+    LiveRule, give, insert_live, keep_others, push_place, push_rule, take_picked, take_replaced,
 };
 use crate::lookup::look;
 use ovs_fields::{Key, Mask};
@@ -27,6 +27,9 @@ pub struct Tables {
     live: Vec<LiveRule>,
     /// The lists of actions that edits gave, in the order of the edits.
     lists: Vec<Actions>,
+    /// By the numbers of the rules, from 1 on, where the actions of each are among the lists. What stands at a number that
+    /// no live rule has means nothing.
+    places: Vec<u32>,
     /// The subtables of each table.
     tables: Vec<Table>,
 }
@@ -53,6 +56,7 @@ impl Tables {
             version: 0,
             live: Vec::new(alloc),
             lists: Vec::new(alloc),
+            places: Vec::new(alloc),
             tables: Vec::new(alloc),
         }
     }
@@ -81,10 +85,8 @@ impl Tables {
         requires { IsTrue (is_live number self.now.rules) }
         ensures { option_map (λ r. r.actions) (rule_numbered number self.now.rules) ≡ Some result.now }
     {
-        match place_of(&self.live, number) {
-            Some(place) => self.lists[self.live[place].given as usize].as_slice(),
-            None => unreachable!(),
-        }
+        let place = self.places[number as usize - 1];
+        self.lists[place as usize].as_slice()
     }
 
     /// Makes the tables of the next version, and answers its number.
@@ -136,12 +138,14 @@ impl Tables {
         let actions = Vec::from_slice(self.alloc, edit.actions.as_slice())?;
         self.lists.reserve(1)?;
         self.live.reserve(1)?;
+        self.places.reserve(number as usize - self.places.len())?;
         let given = self.lists.len() as u32;
         let replaced = find_named(&self.tables, edit);
         let rule = LiveRule::new(number, edit, given);
         insert_live(self.alloc, &mut self.tables, &rule)?;
         push_list(&mut self.lists, Actions::new(actions));
         push_rule(&mut self.live, rule);
+        push_place(&mut self.places, number, given);
         take_replaced(&mut self.tables, &mut self.live, replaced);
         self.version = number;
         Ok(())
@@ -159,7 +163,7 @@ impl Tables {
         self.lists.reserve(1)?;
         let given = self.lists.len() as u32;
         push_list(&mut self.lists, Actions::new(actions));
-        give(&self.tables, &mut self.live, edit, given);
+        give(&self.tables, &mut self.live, &mut self.places, edit, given);
         self.version = version;
         Ok(())
     }
