@@ -9,6 +9,7 @@ pub mod Lengths
 pub mod LiveLaws
 pub mod LookupLaws
 pub mod Mapped
+pub mod MatchLaws
 pub mod Members
 pub mod Nearest
 pub mod PartLaws

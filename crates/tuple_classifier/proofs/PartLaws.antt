@@ -79,7 +79,7 @@ stated f rs p m =
     un_not true h = let e : false ≡ true = h in absurd (cc)
     un_not false h = refl
 
-states : (f : FieldId) (rs : List Rule) (r : Rule) → Among r rs → (prefix_length (width_of f) (value_of r.matching.mask f) == 0) ≡ false → Among (prefix_of f r) (prefixes f rs)
+pub states : (f : FieldId) (rs : List Rule) (r : Rule) → Among r rs → (prefix_length (width_of f) (value_of r.matching.mask f) == 0) ≡ false → Among (prefix_of f r) (prefixes f rs)
 states f rs r m some = Among_in-filter (λ (q : Prefix). not (q.length == 0)) (prefix_of f r) (map (prefix_of f) rs) (Among_in-map (prefix_of f) r rs m) (ap not some)
 
 pub begins_by_masks : (f : FieldId) (x n : ℕ) (ss : List Subtable) (rs : List Rule) → AreSubtablesOf ss rs → (n == 0) ≡ false

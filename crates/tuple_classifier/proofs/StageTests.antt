@@ -1,7 +1,6 @@
 -- What a mask consults where its stages are tested by their kinds, which comes to what it consults by all tests.
 use Rattle.std.proofs.Common.{◌≡◌, ℕ, zero, suc, ◌+◌, ◌-◌, ◌*◌, ◌^◌, ◌<◌, ◌≤◌, Bool, true, false, ◌==◌, nat_le, if◌then◌else◌, min, List, [], ◌∷◌, length, replicate, bit_and, bit_or, inl, inr, refl, sym, ap, ap₂, ◌∙◌, subst, arith}
-use Rattle.std.specs.List.{list_any}
-use Rattle.std.specs.Int.Bits.{or_self, or_zero_l, or_zero_r, and_self, or_add_and}
+use Rattle.std.specs.Int.Bits.{or_self, or_zero_l, and_self, or_add_and}
 use Rattle.std.proofs.lemmas.Nat.{and_le_l, pow_pos, pow-add}
 use Rattle.std.proofs.lemmas.Nat.Bits.{and_high_mask_twice}
 use Rattle.std.proofs.Math.Pow.{pow_mono}

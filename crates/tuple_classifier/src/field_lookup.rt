@@ -18,11 +18,20 @@ use ovs_fields::Key;
 const LENGTHS: usize = 129;
 
 /// What the prefixes of a field that the rules of a table state tell of a key.
-#[derive(Clone, Copy)]
+#[derive(Drop)]
 pub(crate) struct FieldLookup {
     /// By each length, whether the key begins with one of the prefixes that have it.
     pub(crate) matched: [bool; LENGTHS],
     /// How many leading bits of the key decide that for all of the prefixes.
+    pub(crate) deciding: u32,
+}
+
+/// What the prefixes of a field tell of a key, as far as it takes for those of one length.
+#[derive(Clone, Copy)]
+pub(crate) struct Told {
+    /// Whether the key begins with one of those that have the length.
+    pub(crate) is_matched: bool,
+    /// How many leading bits of the key decide that for the prefixes of all lengths.
     pub(crate) deciding: u32,
 }
 
@@ -69,11 +78,15 @@ impl FieldLookup {
         lookup
     }
 
-    /// Whether the key begins with one of the prefixes that have this length.
-    pub(crate) fn matches(&self, length: u32) -> bool
+    /// What is told of the prefixes of a length.
+    pub(crate) fn told(&self, length: u32) -> Told
         requires { length ≤ 128 }
-        ensures { result ≡ get_or self.now.matched length false }
+        ensures matched { result.is_matched ≡ get_or self.now.matched length false }
+        ensures deciding { result.deciding ≡ self.now.deciding }
     {
-        self.matched[length as usize]
+        Told {
+            is_matched: self.matched[length as usize],
+            deciding: self.deciding,
+        }
     }
 }

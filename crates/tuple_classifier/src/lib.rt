@@ -47,7 +47,8 @@
 //! on the winner. The order of the masks plays no part.
 //!
 //! Which lengths of prefixes match, and how many leading bits decide it, is a question to the prefixes of a field in all
-//! masks. The first mask that asks it has it answered for those after it, until the lookup ends (`FieldLookup`).
+//! masks. The first mask that asks it has it answered for those after it, until the lookup ends (`FieldLookup`). The search
+//! for the winner asks it too: no rule of a mask matches a key that begins with none of the prefixes of its length.
 //!
 //! The live rules stand beside the subtables in the order of their numbers, and each has the place of its actions among
 //! the lists of actions that edits gave. The same places stand by number too, so that the actions of a winner are read
@@ -57,7 +58,7 @@
 //! # What it costs
 //!
 //! - The winner takes one hash and one probe for each mask whose greatest priority isn't below the best one found so far,
-//!   however many rules have it.
+//!   however many rules have it, but for masks with a prefix of a length with which the key doesn't begin.
 //! - The bits take, for each mask whose greatest priority isn't below the winner's, one probe for each of three stages that
 //!   has bits of the mask of its own and leaves some to later ones, and for each field of which such a mask has a prefix,
 //!   one search in the sorted values of every mask that has one. So the time of a lookup grows by the masks, and by the

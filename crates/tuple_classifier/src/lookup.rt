@@ -1,6 +1,6 @@
 //! What a lookup in one table answers, and the bits that it consults.
 
-ghost use Rattle.std.specs.Prelude.{◌≡◌, ◌<◌, ◌==◌, ◌&&◌, ℕ, List, true, [], ◌∷◌, length, slice_get, Some, Option};
+ghost use Rattle.std.specs.Prelude.{◌≡◌, ◌<◌, ◌≤◌, ◌==◌, ◌&&◌, ℕ, List, true, [], ◌∷◌, length, slice_get, false, Some, None, Option};
 ghost use Rattle.std.specs.Option.{option_map};
 ghost use Rattle.std.specs.List.{list_any};
 ghost use Rattle.spec_keys.specs.declared.field_id.FieldId.TheVariants as field;
@@ -10,19 +10,19 @@ ghost use Rattle.spec_tables.specs.Rules.{Rule, winner};
 ghost use Rattle.spec_xlate.specs.Lookup as xlate;
 ghost use Rattle.spec_xlate.specs.Lookup.{added, when, consults};
 ghost use Rattle.ovs_fields.specs.Packed.{numbers, bits};
-ghost use Rattle.tuple_classifier.specs.FieldLookups.{IsFieldLookup, IsKnown, AreKnown};
+ghost use Rattle.tuple_classifier.specs.FieldLookups.{IsTold, IsKnown, AreKnown};
 ghost use Rattle.tuple_classifier.specs.FieldPrefixes.{IsOfField};
 ghost use Rattle.tuple_classifier.specs.Indexes.{AreIndexes};
 ghost use Rattle.tuple_classifier.specs.Numbered.{AreDistinct};
 ghost use Rattle.tuple_classifier.specs.Parts.{AreSubtablesOf, of_mask};
-ghost use Rattle.tuple_classifier.specs.Ranks.{rank_of, floor_of};
+ghost use Rattle.tuple_classifier.specs.Ranks.{rank_of, floor_of, best_of_pair};
 ghost use Rattle.tuple_classifier.specs.Stages.{IsStage, stage_masks};
 ghost use Rattle.tuple_classifier.specs.Subtables.{IsSubtableOf};
 ghost use Rattle.tuple_classifier.specs.Tracked.{field_of};
 ghost use Rattle.tuple_classifier.specs.declared.subtable.Subtable.{Subtable};
 ghost use Rattle.translation_laws.proofs.MemberLaws.{Among};
 
-use crate::field_lookup::FieldLookup;
+use crate::field_lookup::{FieldLookup, Told};
 use crate::indexes::Indexes;
 use crate::prefix::leading;
 use crate::prefixes::FieldPrefixes;
@@ -61,9 +61,9 @@ pub(crate) fn look(subtables: &[Subtable], key: &Key, consulted: &mut Mask) -> O
     ensures winner { (rs : List Rule) → AreSubtablesOf subtables.now rs → AreDistinct rs → result ≡ option_map (λ r. r.number) (winner rs (numbers key.now)) }
     ensures consulted { (rs : List Rule) → AreSubtablesOf subtables.now rs → AreDistinct rs → bits consulted.new ≡ added (bits consulted.old) (consults rs (numbers key.now)) }
 {
-    let best = winner_of(subtables, key);
-    let floor = priority_to_beat(best);
     let mut known = FieldLookups::none();
+    let best = winner_of(subtables, key, &mut known);
+    let floor = priority_to_beat(best);
     'subtables: for i in 0..subtables.len() {
         let subtable = &subtables[i];
         if subtable.indexes.reaches(floor) {
@@ -73,19 +73,94 @@ pub(crate) fn look(subtables: &[Subtable], key: &Key, consulted: &mut Mask) -> O
     number_of(best)
 }
 
-/// The best rank of the rules that a key matches. A mask whose rules are all of less priority than the best one found
-/// isn't probed.
-fn winner_of(subtables: &[Subtable], key: &Key) -> Option<Rank>
-    ensures { (rs : List Rule) → AreSubtablesOf subtables.now rs → AreDistinct rs → result ≡ option_map rank_of (winner rs (numbers key.now)) }
+/// The best rank of the rules that a key matches.
+fn winner_of(subtables: &[Subtable], key: &Key, known: &mut FieldLookups) -> Option<Rank>
+    ensures known { (rs : List Rule) → AreSubtablesOf subtables.now rs → AreKnown known.old (numbers key.now) rs → AreKnown known.new (numbers key.now) rs }
+    ensures winner { (rs : List Rule) → AreSubtablesOf subtables.now rs → AreDistinct rs → AreKnown known.old (numbers key.now) rs → result ≡ option_map rank_of (winner rs (numbers key.now)) }
 {
     let mut best = None;
     'subtables: for i in (0..subtables.len()).rev() {
         let subtable = &subtables[i];
-        if subtable.indexes.reaches(priority_to_beat(best)) {
-            best = best_of_two(subtable.best(key), best);
-        }
+        best = better_of_mask(subtables, subtable, key, known, best);
     }
     best
+}
+
+/// The better of a rank and the best one of the rules of a mask that a key matches. A mask isn't probed whose rules are all
+/// of less priority, or begin otherwise than the key does.
+fn better_of_mask(
+    subtables: &[Subtable],
+    subtable: &Subtable,
+    key: &Key,
+    known: &mut FieldLookups,
+    best: Option<Rank>,
+) -> Option<Rank>
+    ensures known { (rs : List Rule) → AreSubtablesOf subtables.now rs → AreKnown known.old (numbers key.now) rs → AreKnown known.new (numbers key.now) rs }
+    ensures better { (rs : List Rule) → AreSubtablesOf subtables.now rs → AreKnown known.old (numbers key.now) rs → IsSubtableOf subtable.now (of_mask (bits subtable.now.mask) rs) → result ≡ best_of_pair (option_map rank_of (winner (of_mask (bits subtable.now.mask) rs) (numbers key.now))) best }
+{
+    if !subtable.indexes.reaches(priority_to_beat(best)) {
+        return best;
+    }
+    if !may_match(subtables, &subtable.indexes, key, known) {
+        return best;
+    }
+    best_of_two(subtable.best(key), best)
+}
+
+/// Whether some rules of a mask begin as a key does, in each field of which the mask has a prefix.
+fn may_match(subtables: &[Subtable], indexes: &Indexes, key: &Key, known: &mut FieldLookups) -> bool
+    ensures known { (rs : List Rule) → AreSubtablesOf subtables.now rs → AreKnown known.old (numbers key.now) rs → AreKnown known.new (numbers key.now) rs }
+    ensures result { (rs : List Rule) (mask : List ℕ) → AreSubtablesOf subtables.now rs → AreKnown known.old (numbers key.now) rs → AreIndexes indexes.now mask (of_mask mask rs) → result ≡ false → winner (of_mask mask rs) (numbers key.now) ≡ None }
+{
+    if !begins(
+        subtables,
+        &indexes.nw_src,
+        TrackedField::NwSrc,
+        key,
+        &mut known.nw_src,
+    ) {
+        return false;
+    }
+    if !begins(
+        subtables,
+        &indexes.nw_dst,
+        TrackedField::NwDst,
+        key,
+        &mut known.nw_dst,
+    ) {
+        return false;
+    }
+    if !begins(
+        subtables,
+        &indexes.ipv6_src,
+        TrackedField::Ipv6Src,
+        key,
+        &mut known.ipv6_src,
+    ) {
+        return false;
+    }
+    begins(
+        subtables,
+        &indexes.ipv6_dst,
+        TrackedField::Ipv6Dst,
+        key,
+        &mut known.ipv6_dst,
+    )
+}
+
+/// Whether some rules begin as a key does in a field, with a prefix as long as that of a mask, if the mask has one.
+#[tactic(auto, using(crate::proofs::Widths::width_within))]
+fn begins(
+    subtables: &[Subtable],
+    prefixes: &FieldPrefixes,
+    tracked: TrackedField,
+    key: &Key,
+    known: &mut Option<FieldLookup>,
+) -> bool
+    ensures known { (rs : List Rule) → AreSubtablesOf subtables.now rs → IsKnown known.old (field_of tracked) (numbers key.now) rs → IsKnown known.new (field_of tracked) (numbers key.now) rs }
+    ensures result { (rs : List Rule) (mask : List ℕ) → AreSubtablesOf subtables.now rs → IsKnown known.old (field_of tracked) (numbers key.now) rs → IsOfField prefixes.now (field_of tracked) mask (of_mask mask rs) → result ≡ false → winner (of_mask mask rs) (numbers key.now) ≡ None }
+{
+    prefixes.length == 0 || told_of(subtables, tracked, key, known, prefixes.length).is_matched
 }
 
 /// The priority below which no rule can win.
@@ -241,33 +316,34 @@ fn prefix_test(
     if prefixes.length == 0 {
         return true;
     }
-    let lookup = field_lookup(subtables, tracked, key, known);
+    let told = told_of(subtables, tracked, key, known, prefixes.length);
     let width = width(prefixes.field);
-    if lookup.matches(prefixes.length) {
+    if told.is_matched {
         consulted.add(prefixes.field, leading(width, prefixes.length));
         return true;
     }
-    let decided = lookup.deciding.min(prefixes.length);
+    let decided = told.deciding.min(prefixes.length);
     consulted.add(prefixes.field, leading(width, decided));
     false
 }
 
-/// What the prefixes of a field tell of a key, which is found where it isn't known yet.
-fn field_lookup(
+/// What the prefixes of a field tell of a key for those of a length, which is found where it isn't known yet.
+fn told_of(
     subtables: &[Subtable],
     tracked: TrackedField,
     key: &Key,
     known: &mut Option<FieldLookup>,
-) -> FieldLookup
+    length: u32,
+) -> Told
+    requires { length ≤ 128 }
     ensures known { (rs : List Rule) → AreSubtablesOf subtables.now rs → IsKnown known.old (field_of tracked) (numbers key.now) rs → IsKnown known.new (field_of tracked) (numbers key.now) rs }
-    ensures result { (rs : List Rule) → AreSubtablesOf subtables.now rs → IsKnown known.old (field_of tracked) (numbers key.now) rs → IsFieldLookup result (field_of tracked) (numbers key.now) rs }
+    ensures result { (rs : List Rule) → AreSubtablesOf subtables.now rs → IsKnown known.old (field_of tracked) (numbers key.now) rs → IsTold result length (field_of tracked) (numbers key.now) rs }
 {
-    match *known {
-        Some(lookup) => lookup,
-        None => {
-            let lookup = FieldLookup::new(subtables, tracked, key);
-            *known = Some(lookup);
-            lookup
-        }
+    if let Some(lookup) = &*known {
+        return lookup.told(length);
     }
+    let lookup = FieldLookup::new(subtables, tracked, key);
+    let told = lookup.told(length);
+    *known = Some(lookup);
+    told
 }

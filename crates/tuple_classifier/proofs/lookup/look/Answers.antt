@@ -1,4 +1,4 @@
-use Rattle.std.proofs.Common.{◌≡◌, ◌+◌, nat_le, length, drop, subst, sym, ap, ◌∙◌, arith}
+use Rattle.std.proofs.Common.{refl, ◌≡◌, ◌+◌, nat_le, length, drop, subst, sym, ap, ◌∙◌, arith}
 use Rattle.spec_tables.specs.Rules.{winner}
 use Rattle.spec_xlate.specs.Lookup.{added}
 use Rattle.ovs_fields.specs.Packed.{numbers, bits}
@@ -9,6 +9,9 @@ use Rattle.tuple_classifier.proofs.PartLaws.{here, gathers, passes, gathered_end
 use Rattle.tuple_classifier.proofs.WinnerLaws.{floor_beats, number_of_best}
 use Rattle.tuple_classifier.proofs.lookup.look.Goals.{then-reaches, else-reaches}
 use Rattle.tuple_classifier.proofs.lookup.look.Goals as goal
+
+pub subtables-init : goal.subtables-init
+subtables-init c rs are = (c.winner_of-best.ensures.known rs are (c.none-known.ensures (numbers c.args.key.now) rs), refl)
 
 pub subtables-preserved : goal.subtables-preserved
 subtables-preserved c rs are =
@@ -34,12 +37,12 @@ subtables-preserved c rs are =
 
 pub returns-clause-winner : goal.returns-clause-winner
 returns-clause-winner c rs are distinct =
-    c.number_of.ensures ∙ number_of_best c.winner_of-best.result (winner rs (numbers c.args.key.now)) (c.winner_of-best.ensures rs are distinct)
+    c.number_of.ensures ∙ number_of_best c.winner_of-best.result (winner rs (numbers c.args.key.now)) (c.winner_of-best.ensures.winner rs are distinct (c.none-known.ensures (numbers c.args.key.now) rs))
 
 pub returns-clause-consulted : goal.returns-clause-consulted
 returns-clause-consulted c rs are distinct =
     let at_end : c.subtables.i ≡ length c.args.subtables.now = omega arith in
-    let floor = c.priority_to_beat-floor.ensures ∙ floor_beats c.winner_of-best.result (winner rs (numbers c.args.key.now)) (c.winner_of-best.ensures rs are distinct) in
+    let floor = c.priority_to_beat-floor.ensures ∙ floor_beats c.winner_of-best.result (winner rs (numbers c.args.key.now)) (c.winner_of-best.ensures.winner rs are distinct (c.none-known.ensures (numbers c.args.key.now) rs)) in
     gathered_end (numbers c.args.key.now) c.priority_to_beat-floor.result rs c.args.subtables.now (bits c.subtables.consulted) _
     (ap (λ j. added (bits c.subtables.consulted) (gathered (numbers c.args.key.now) c.priority_to_beat-floor.result rs (drop j c.args.subtables.now))) (sym at_end)
     ∙ (c.subtables.invariant rs are).1)
