@@ -12,6 +12,7 @@ pub mod Mapped
 pub mod MatchLaws
 pub mod Members
 pub mod Nearest
+pub mod OnlyCount
 pub mod PartLaws
 pub mod PlaceLaws
 pub mod Places

@@ -1,7 +1,7 @@
 //! How many rules have each key.
 
 ghost use Rattle.std.specs.Prelude.{◌≡◌, ◌<◌, ◌+◌, ◌-◌, ◌^◌, ℕ, List, IsTrue, OnOk, if◌then◌else◌, nat_lt, ◌↔◌};
-ghost use Rattle.indexmap.specs.IndexMap.{spare};
+ghost use Rattle.indexmap.specs.IndexMap.{spare, index_map_len};
 ghost use Rattle.spec_keys.specs.Keys.{same};
 ghost use Rattle.ovs_fields.specs.Packed.{numbers};
 ghost use Rattle.tuple_classifier.specs.Counts.{count_at};
@@ -47,7 +47,21 @@ pub(crate) fn take_count(counts: &mut KeyCounts, key: &Key)
 pub(crate) fn count_of(counts: &KeyCounts, key: &Key) -> usize
     ensures { result ≡ count_at counts.now (numbers key.now) }
 {
+    if counts.len() == 1 {
+        return count_of_only(counts, key);
+    }
     counts.get(key).copied().unwrap_or(0)
+}
+
+/// How often a key was counted, where all that were counted are equal. It takes no hash.
+fn count_of_only(counts: &KeyCounts, key: &Key) -> usize
+    requires { index_map_len counts.now ≡ 1 }
+    ensures { result ≡ count_at counts.now (numbers key.now) }
+{
+    match counts.get_index(0) {
+        Some((only, count)) => { if *key == *only { *count } else { 0 } }
+        None => unreachable!(),
+    }
 }
 
 /// Counts a key once less, and tells whether none is left.
