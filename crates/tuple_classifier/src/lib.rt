@@ -60,10 +60,10 @@
 //! - The winner takes one hash and one probe for each mask whose greatest priority isn't below the best one found so far,
 //!   however many rules have it, but for masks with a prefix of a length with which the key doesn't begin.
 //! - The bits take, for each mask whose greatest priority isn't below the winner's, one probe for each of three stages that
-//!   has bits of the mask of its own and leaves some to later ones (it takes no hash where the rules are alike under them, as
-//!   routes are in the Ethernet type), and for each field of which such a mask has a prefix,
-//!   one search in the sorted values of every mask that has one. So the time of a lookup grows by the masks, and by the
-//!   logarithm of the rules of each.
+//!   has bits of the mask of its own and leaves some to later ones, and a search by prefix where the winner's took none. A
+//!   probe takes no hash where all rules of the mask are alike under the stage, as routes are in the Ethernet type.
+//! - A search by prefix is one in the sorted values of every mask that has a prefix of the field, once in a lookup. So the
+//!   time of a lookup grows by the masks, and by the logarithm of the rules of each.
 //! - An add or a strict word takes a few probes. An add and a strict delete move what stands after their place in the
 //!   sorted lists and among the live rules.
 //! - A loose word passes once over the live rules.
