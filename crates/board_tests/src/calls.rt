@@ -1,0 +1,232 @@
+//! Calls of a board, and what they are to answer.
+ghost use Rattle.std.specs.Prelude.{◌≡◌, ◌≤◌, IsTrue, IfOk};
+ghost use Rattle.std.specs.List.{list_all};
+ghost use Rattle.ovs_fields.specs.Packed.{numbers};
+ghost use Rattle.pipe_model.specs.Runnable.{has_sound_actions};
+ghost use Rattle.pmd_board.specs.BoardView.{state_of};
+ghost use Rattle.run_blocks.specs.Places.{HasPort, HasPlace};
+ghost use Rattle.spec_board.specs.Effects.{is_among, key_of_entry};
+ghost use Rattle.spec_board.specs.Results.{entry_of};
+ghost use Rattle.spec_case.specs.Run.{last_version};
+
+use crate::rows::PORT;
+use flow_stats::Counts;
+use ovs_fields::Key;
+use pipe_model::Plain;
+use pmd_board::{
+    BeginFault, Board, EndFault, LookFault, Looked, OpenFault, PutDone, PutFault, SettleFault,
+    Settled, Xlated,
+};
+use run_case::{Case, RunData};
+use run_edits::RunEdits;
+use run_tables::Tables;
+use std::alloc::{AllocError, Global};
+
+/// A call of a board, with what it is to answer.
+#[derive(Clone, Copy)]
+pub enum Call {
+    /// The block is opened.
+    Open(u32, Result<(), OpenFault>),
+    /// The frame of the place is looked up.
+    Look(u32, Result<Looked, LookFault>),
+    /// The frame of the place is settled, by its translation under the version.
+    Settle(u32, u32, Result<Done, SettleFault>),
+    /// A sweep begins at the version.
+    Begin(u32, Result<(), BeginFault>),
+    /// The entry is put with the translation of its key under the version. Where no entry is live, the key is all zeros.
+    Put(u32, u32, Result<PutDone, PutFault>),
+    /// The sweep ends.
+    End(Result<(), EndFault>),
+    /// The entry decided so much, and owes so much of it.
+    Entry(u32, Counts, Counts),
+    /// No entry has the number.
+    NoEntry(u32),
+    /// The rule was credited with so much.
+    Total(u32, Counts),
+}
+
+/// What a settle did, beside deciding a frame.
+#[derive(Clone, Copy)]
+pub enum Done {
+    Present(u32),
+    Full,
+    /// The number of the new entry, and those of the entries that were dropped.
+    Installed(u32, &'static [u32]),
+}
+
+/// The translation of a packet of a key under a version.
+fn translation<C: Case>(
+    alloc: Global,
+    run: &RunData<C>,
+    edits: &RunEdits<C>,
+    version: u32,
+    key: &Key,
+) -> Result<Xlated<C>, AllocError>
+    requires sound { IsTrue (list_all has_sound_actions C.run.edits) }
+    requires made { version ≤ last_version C.run }
+    ensures { IfOk result (λ x. x.key ≡ numbers key.now) }
+{
+    let mut tables = Tables::new(alloc);
+    tables.follow(edits, version)?;
+    tables.translate(run, key, Plain::empty(alloc))
+}
+
+fn has_frame<C: Case>(run: &RunData<C>, port: u16, place: u32) -> bool
+    requires { HasPort C.run.ports port }
+    ensures { IsTrue result → HasPlace C.run port place }
+{
+    place >= 1 && place <= run.frames(port)
+}
+
+fn looks<C: Case>(
+    run: &RunData<C>,
+    board: &mut Board<C>,
+    place: u32,
+    answer: Result<Looked, LookFault>,
+) -> bool {
+    let port = board.port();
+    if !has_frame(run, port, place) {
+        return false;
+    }
+    board.look(&run.keyed(port, place)) == answer
+}
+
+/// Whether the last step of a board is a settle that did this.
+fn did<C: Case>(board: &Board<C>, done: Done) -> bool {
+    match (board.last_settled(), done) {
+        (Some(Settled::Present(entry)), Done::Present(number)) => *entry == number,
+        (Some(Settled::Full), Done::Full) => true,
+        (Some(Settled::Installed { no, dropped }), Done::Installed(number, numbers)) => {
+            *no == number && dropped.as_slice() == numbers
+        }
+        _ => false,
+    }
+}
+
+fn settles<C: Case>(
+    alloc: Global,
+    run: &RunData<C>,
+    edits: &RunEdits<C>,
+    board: &mut Board<C>,
+    place: u32,
+    version: u32,
+    answer: Result<Done, SettleFault>,
+) -> Result<bool, AllocError>
+    requires { IsTrue (list_all has_sound_actions C.run.edits) }
+{
+    let port = board.port();
+    if !has_frame(run, port, place) || version > run.last_version() {
+        return Ok(false);
+    }
+    let at = run.keyed(port, place);
+    let made = translation(alloc, run, edits, version, &at.key)?;
+    Ok(match (board.settle(&at, made), answer) {
+        (Ok(()), Ok(done)) => did(board, done),
+        (Err(fault), Err(expected)) => fault == expected,
+        _ => false,
+    })
+}
+
+/// The key of a live entry; all zeros where no entry is live.
+fn key_of<C: Case>(board: &Board<C>, number: u32) -> Key
+    ensures { IsTrue (is_among (state_of C.run board.now).listed number) → numbers result ≡ key_of_entry (entry_of number (state_of C.run board.now).entries) }
+{
+    match board.entries().get(number) {
+        Some(entry) => entry.key,
+        None => Key::zero(),
+    }
+}
+
+fn puts<C: Case>(
+    alloc: Global,
+    run: &RunData<C>,
+    edits: &RunEdits<C>,
+    board: &mut Board<C>,
+    number: u32,
+    version: u32,
+    answer: Result<PutDone, PutFault>,
+) -> Result<bool, AllocError>
+    requires { IsTrue (list_all has_sound_actions C.run.edits) }
+{
+    if version > run.last_version() {
+        return Ok(false);
+    }
+    let key = key_of(board, number);
+    let made = translation(alloc, run, edits, version, &key)?;
+    Ok(match board.put(number, made) {
+        Ok(revalidated) => answer == Ok(revalidated.done),
+        Err(fault) => answer == Err(fault),
+    })
+}
+
+/// Whether an entry decided so much and owes so much.
+fn has_entry<C: Case>(board: &Board<C>, number: u32, decided: Counts, owed: Counts) -> bool {
+    let Some(entry) = board.entries().get(number) else {
+        return false;
+    };
+    let all = Counts {
+        packets: entry.packets,
+        bytes: entry.bytes,
+    };
+    let unpaid = Counts {
+        packets: entry.owed_packets,
+        bytes: entry.owed_bytes,
+    };
+    all == decided && unpaid == owed
+}
+
+/// Whether a rule was credited with so much.
+fn has_total<C: Case>(board: &Board<C>, rule: u32, counts: Counts) -> bool {
+    let totals = board.totals();
+    if rule == 0 || rule > totals.rules() {
+        return false;
+    }
+    totals.of(rule) == counts
+}
+
+/// Whether a call answers as it says.
+fn answers<C: Case>(
+    alloc: Global,
+    run: &RunData<C>,
+    edits: &RunEdits<C>,
+    board: &mut Board<C>,
+    call: Call,
+) -> Result<bool, AllocError>
+    requires { IsTrue (list_all has_sound_actions C.run.edits) }
+{
+    match call {
+        Call::Open(block, answer) => Ok(board.open_block(block) == answer),
+        Call::Look(place, answer) => Ok(looks(run, board, place, answer)),
+        Call::Settle(place, version, answer) => {
+            settles(alloc, run, edits, board, place, version, answer)
+        }
+        Call::Begin(version, answer) => Ok(board.begin(version) == answer),
+        Call::Put(entry, version, answer) => {
+            puts(alloc, run, edits, board, entry, version, answer)
+        }
+        Call::End(answer) => Ok(board.end() == answer),
+        Call::Entry(number, decided, owed) => Ok(has_entry(board, number, decided, owed)),
+        Call::NoEntry(number) => Ok(board.entries().get(number).is_none()),
+        Call::Total(rule, counts) => Ok(has_total(board, rule, counts)),
+    }
+}
+
+/// The place of the first call, from 0, that doesn't answer as it says. The calls are those of a new board.
+pub fn first_wrong<C: Case>(
+    alloc: Global,
+    run: &RunData<C>,
+    edits: &RunEdits<C>,
+    flow_limit: u32,
+    calls: &[Call],
+) -> Result<Option<usize>, AllocError>
+    requires port { HasPort C.run.ports PORT }
+    requires sound { IsTrue (list_all has_sound_actions C.run.edits) }
+{
+    let mut board = Board::new(alloc, run, PORT, flow_limit)?;
+    for (place, call) in calls.iter().enumerate() {
+        if !answers(alloc, run, edits, &mut board, *call)? {
+            return Ok(Some(place));
+        }
+    }
+    Ok(None)
+}
