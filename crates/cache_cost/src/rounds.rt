@@ -36,7 +36,6 @@ fn counts_in_rounds<C: Case>(
         command,
         script,
         traces,
-        ..
     } = inputs;
     let ports = ports_of(alloc, &command.ports)?;
     let edits = RunEdits::<C>::new(script.edits);

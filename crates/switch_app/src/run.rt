@@ -69,7 +69,6 @@ fn decide_and_write<C: Case, S: Shelf>(
         command,
         script,
         traces,
-        ..
     } = inputs;
     let ports = ports_of(alloc, &command.ports)?;
     let edits = RunEdits::<C>::new(script.edits);

@@ -6,7 +6,6 @@ use Rattle.spec_case.specs.Blocks.{AreInOrder}
 use Rattle.spec_script.specs.Script.{most_edits, most_syncs}
 use Rattle.spec_run.specs.Limits.{most_frames}
 use Rattle.spec_run.specs.Verdict as verdicts
-use Rattle.rule_tables.specs.History.{history_of}
 use Rattle.edit_script.specs.Plain.{has_sound_actions}
 use Rattle.edit_script.specs.ScriptViews.{script_view}
 use Rattle.switch_input.specs.declared.inputs.Inputs.{Inputs}
@@ -29,7 +28,6 @@ pub record IsBuilt (i : Inputs) : Type 0 where
   pub distinct_ports : IsDistinct nat_eq (ports_said (ports_view i.command.ports.items))
   pub trace_each : length i.traces.items ≡ length i.command.ports.items
   pub few_frames : All (λ (t : Capture). length t.frames ≤ most_frames) i.traces.items
-  pub rules : i.rules ≡ history_of i.script.edits.items
   pub sound : IsTrue (list_all has_sound_actions i.script.edits.items)
   pub few_edits : length i.script.edits.items ≤ most_edits
   pub few_syncs : length i.script.syncs.items ≤ most_syncs

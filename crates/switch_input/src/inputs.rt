@@ -12,7 +12,6 @@ use crate::words::{Command, read_command};
 use edge_io::Shelf;
 use edit_script::Script;
 use pcap_reader::Trace;
-use rule_tables::VersionedRules;
 use std::alloc::Global;
 use switch_refusals::InputRefusal;
 
@@ -21,8 +20,6 @@ use switch_refusals::InputRefusal;
 pub struct Inputs<'a> {
     pub command: Command<'a>,
     pub script: Script,
-    /// The rules of every version that the edits make.
-    pub rules: VersionedRules,
     pub traces: Vec<Trace>,
 }
 
@@ -55,12 +52,11 @@ pub fn read_inputs<'a, S: Shelf>(
     ensures only_read { IsTrue S.tells → OnlyRead (S.told shelf.old) (S.told shelf.new) }
 {
     let command = read_command(alloc, words)?;
-    let edits = read_edits(alloc, shelf, command.edits)?;
+    let script = read_edits(alloc, shelf, command.edits)?;
     let traces = read_traces(alloc, shelf, &command.ports)?;
     Ok(Inputs {
         command,
-        script: edits.script,
-        rules: edits.rules,
+        script,
         traces,
     })
 }

@@ -11,8 +11,7 @@
 //! Where the shelf tells its bytes, `read_inputs` answers just that.
 //!
 //! - What was read is what the verdict accepts: the command, the edits and the sync points, and a trace for each port. All
-//!   of it has the form that is built, and is within the limits. The actions of the edits are sound. The rules are those of
-//!   every version that the edits make, by the history that `rule_tables` gives to them.
+//!   of it has the form that is built, and is within the limits. The actions of the edits are sound.
 //! - An input is refused only as the verdict refuses it: the words as a form that isn't built, the edits or a
 //!   trace by the name and the first fault, or a quantity as above its limit.
 //! - A read fault is told only where calls of reading failed, and of the file that was last asked for. Before that file none
@@ -28,7 +27,7 @@
 //! read into the memory where they stay.
 //!
 //! How many rules the edits change is limited, so they are applied here, one after the other, before a trace is read. The
-//! store that they make answers for every version, and is handed on.
+//! store that they make is given up then: whoever decides frames makes the tables of each version anew as it comes to it.
 //!
 //! # What is left to others
 //!

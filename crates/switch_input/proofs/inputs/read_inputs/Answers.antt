@@ -15,32 +15,32 @@ returns-in_err-command-clause-read_fault_at g c = λ _.
     let p = err_from_is_err_and c.from_residual.result c.from_residual.ensures.1 in
     rw (p.1, p.2) (none_opened (texts c.args.words.now) (g.S.Shelf.told c.args.shelf.now).holds _ c.in_err-command.field-0.0 c.in_err-command.ensures.no_fault)
 
-pub returns-in_err-edits-clause-refused : goal.returns-in_err-edits-clause-refused
-returns-in_err-edits-clause-refused g c = λ t.
-    let p = err_from_is_err_and c.from_residual-in_err-edits.result c.from_residual-in_err-edits.ensures.1 in
-    rw (p.1, p.2) (script_explains (texts c.args.words.now) (g.S.Shelf.told c.args.shelf.now).holds (command_view c.in_ok-command.command) c.in_ok-command.ensures.ok c.in_err-edits.field-0.0 (c.in_err-edits.ensures.err t))
+pub returns-in_err-script-clause-refused : goal.returns-in_err-script-clause-refused
+returns-in_err-script-clause-refused g c = λ t.
+    let p = err_from_is_err_and c.from_residual-in_err-script.result c.from_residual-in_err-script.ensures.1 in
+    rw (p.1, p.2) (script_explains (texts c.args.words.now) (g.S.Shelf.told c.args.shelf.now).holds (command_view c.in_ok-command.command) c.in_ok-command.ensures.ok c.in_err-script.field-0.0 (c.in_err-script.ensures.err t))
 
-pub returns-in_err-edits-clause-read_fault_at : goal.returns-in_err-edits-clause-read_fault_at
-returns-in_err-edits-clause-read_fault_at g c = λ t.
-    let p = err_from_is_err_and c.from_residual-in_err-edits.result c.from_residual-in_err-edits.ensures.1 in
-    rw (p.1, p.2) (edits_opened (texts c.args.words.now) (g.S.Shelf.told c.args.shelf.now).holds (command_view c.in_ok-command.command) c.in_ok-command.ensures.ok c.in_err-edits.field-0.0 c.in_err-edits.ensures.fault)
+pub returns-in_err-script-clause-read_fault_at : goal.returns-in_err-script-clause-read_fault_at
+returns-in_err-script-clause-read_fault_at g c = λ t.
+    let p = err_from_is_err_and c.from_residual-in_err-script.result c.from_residual-in_err-script.ensures.1 in
+    rw (p.1, p.2) (edits_opened (texts c.args.words.now) (g.S.Shelf.told c.args.shelf.now).holds (command_view c.in_ok-command.command) c.in_ok-command.ensures.ok c.in_err-script.field-0.0 c.in_err-script.ensures.fault)
 
 pub returns-in_err-traces-clause-refused : goal.returns-in_err-traces-clause-refused
 returns-in_err-traces-clause-refused g c = λ t.
     let p = err_from_is_err_and c.from_residual-in_err-traces.result c.from_residual-in_err-traces.ensures.1 in
-    let same = holds_kept (g.S.Shelf.told c.args.shelf.now) (g.S.Shelf.told c.read_edits.new.shelf) (c.in_ok-edits.ensures.told t) in
+    let same = holds_kept (g.S.Shelf.told c.args.shelf.now) (g.S.Shelf.told c.read_edits.new.shelf) (c.in_ok-script.ensures.told t) in
     rw (p.1, p.2) (traces_explain (texts c.args.words.now) (g.S.Shelf.told c.args.shelf.now).holds (command_view c.in_ok-command.command) c.in_ok-command.ensures.ok
-    (script_view c.in_ok-edits.edits.script) (c.in_ok-edits.ensures.ok t) c.in_err-traces.field-0.0 (rw (c.deref.ensures.value, same) at c.in_err-traces.ensures.err t))
+    (script_view c.in_ok-script.script) (c.in_ok-script.ensures.ok t) c.in_err-traces.field-0.0 (rw (c.deref.ensures.value, same) at c.in_err-traces.ensures.err t))
 
 pub returns-in_err-traces-clause-read_fault_at : goal.returns-in_err-traces-clause-read_fault_at
 returns-in_err-traces-clause-read_fault_at g c = λ t.
     let p = err_from_is_err_and c.from_residual-in_err-traces.result c.from_residual-in_err-traces.ensures.1 in
-    let same = holds_kept (g.S.Shelf.told c.args.shelf.now) (g.S.Shelf.told c.read_edits.new.shelf) (c.in_ok-edits.ensures.told t) in
+    let same = holds_kept (g.S.Shelf.told c.args.shelf.now) (g.S.Shelf.told c.read_edits.new.shelf) (c.in_ok-script.ensures.told t) in
     rw (p.1, p.2) (trace_opened (texts c.args.words.now) (g.S.Shelf.told c.args.shelf.now).holds (command_view c.in_ok-command.command) c.in_ok-command.ensures.ok
-    (script_view c.in_ok-edits.edits.script) (c.in_ok-edits.ensures.ok t) c.in_err-traces.field-0.0 (rw (c.deref.ensures.value, same) at c.in_err-traces.ensures.opened t))
+    (script_view c.in_ok-script.script) (c.in_ok-script.ensures.ok t) c.in_err-traces.field-0.0 (rw (c.deref.ensures.value, same) at c.in_err-traces.ensures.opened t))
 
 pub returns-clause-accepted : goal.returns-clause-accepted
 returns-clause-accepted g c = λ t.
-    let same = holds_kept (g.S.Shelf.told c.args.shelf.now) (g.S.Shelf.told c.read_edits.new.shelf) (c.in_ok-edits.ensures.told t) in
+    let same = holds_kept (g.S.Shelf.told c.args.shelf.now) (g.S.Shelf.told c.read_edits.new.shelf) (c.in_ok-script.ensures.told t) in
     accepts (texts c.args.words.now) (g.S.Shelf.told c.args.shelf.now).holds (command_view c.in_ok-command.command) c.in_ok-command.ensures.ok
-    (script_view c.in_ok-edits.edits.script) (c.in_ok-edits.ensures.ok t) c.in_ok-traces.traces.items (rw (c.deref.ensures.value, same) at c.in_ok-traces.ensures.ok t)
+    (script_view c.in_ok-script.script) (c.in_ok-script.ensures.ok t) c.in_ok-traces.traces.items (rw (c.deref.ensures.value, same) at c.in_ok-traces.ensures.ok t)
