@@ -43,9 +43,9 @@ impl ExactCache {
         ensures { result ≡ cached self.now (numbers key.now) }
     {
         let hash = key_hash(key);
-        match entry_for(self.slots.get(&first_slot(hash)), key) {
+        match entry_for(self.slots.get(&first_slot(hash)), key, hash) {
             Some(entry) => Some(entry),
-            None => entry_for(self.slots.get(&second_slot(hash)), key),
+            None => entry_for(self.slots.get(&second_slot(hash)), key, hash),
         }
     }
 
@@ -54,7 +54,13 @@ impl ExactCache {
     pub fn put(&mut self, key: &Key, entry: u32)
         ensures { AreSameSlots self.new (with_cached (numbers key.now) entry self.old) }
     {
-        let number = slot_for(&self.slots, key);
-        write(&mut self.slots, number, Kept { key: *key, entry });
+        let hash = key_hash(key);
+        let number = slot_for(&self.slots, key, hash);
+        let kept = Kept {
+            key: *key,
+            entry,
+            hash,
+        };
+        write(&mut self.slots, number, kept);
     }
 }

@@ -1,3 +1,8 @@
+ghost use Rattle.std.specs.Prelude.{◌≡◌};
+ghost use Rattle.spec_keys.specs.Keys.{same};
+ghost use Rattle.spec_keys.specs.Hash.{key_hash};
+ghost use Rattle.ovs_fields.specs.Packed.{numbers};
+
 use ovs_fields::Key;
 
 /// What a slot keeps: a key, and the number of the entry that decided it last.
@@ -5,4 +10,17 @@ use ovs_fields::Key;
 pub(crate) struct Kept {
     pub(crate) key: Key,
     pub(crate) entry: u32,
+    /// The hash of the key. It stands beside the entry, so that most keys of other frames needn't be read.
+    pub(crate) hash: u64,
+    pub(crate) ghost hashed: { hash ≡ key_hash (numbers key) },
+}
+
+impl Kept {
+    /// Whether it keeps this key, which has this hash.
+    pub(crate) fn is_of(&self, key: &Key, hash: u64) -> bool
+        requires { hash ≡ key_hash (numbers key.now) }
+        ensures { result ≡ same (numbers self.now.key) (numbers key.now) }
+    {
+        self.hash == hash && self.key == *key
+    }
 }

@@ -37,7 +37,8 @@
 //! The map is made with room for 8192 slots. Each number is below that and stands in it at most once, so there is always
 //! room for a slot that was never written (`IsCache` in `specs/Kept`), and one that was is written in its place.
 //!
-//! `look` and `put` hash the key once each.
+//! A slot keeps the hash of its key as well. Only keys of equal hashes are compared, so that a slot of another key costs a
+//! read of that number alone. `look` and `put` hash the key once each.
 //!
 //! # What is left to others
 //!

@@ -4,12 +4,13 @@ ghost use Rattle.std.specs.Prelude.{◌≡◌, ◌==◌, ◌<◌, ◌/◌, ◌%�
 ghost use Rattle.std.specs.Option.{option_copied};
 ghost use Rattle.indexmap.specs.IndexMap.{get};
 ghost use Rattle.spec_board.specs.Cache.{slot_count, slot_for};
+ghost use Rattle.spec_keys.specs.Hash.{key_hash};
 ghost use Rattle.ovs_fields.specs.Packed.{numbers};
 ghost use Rattle.exact_cache.specs.Kept.{slots_view, keeps, entry_in, slot_of_two, IsCache};
 
 use crate::kept::Kept;
 use indexmap::IndexMap;
-use ovs_fields::{Key, key_hash};
+use ovs_fields::Key;
 
 /// How many slots a cache has.
 pub(crate) const SLOT_COUNT: u64 = 8192;
@@ -31,47 +32,56 @@ pub(crate) fn second_slot(hash: u64) -> u32
     ((hash >> 32) % SLOT_COUNT) as u32
 }
 
-/// Whether a slot keeps a key.
-fn keeps(slot: Option<&Kept>, key: &Key) -> bool
+/// Whether a slot keeps a key, which has this hash.
+fn keeps(slot: Option<&Kept>, key: &Key, hash: u64) -> bool
+    requires { hash ≡ key_hash (numbers key.now) }
     ensures { result ≡ keeps (numbers key.now) (option_copied slot.entry) }
 {
-    slot.is_some_and(|kept| kept.key == *key)
+    match slot {
+        Some(kept) => kept.is_of(key, hash),
+        None => false,
+    }
 }
 
-/// The entry that a slot names for a key.
-pub(crate) fn entry_for(slot: Option<&Kept>, key: &Key) -> Option<u32>
+/// The entry that a slot names for a key, which has this hash.
+pub(crate) fn entry_for(slot: Option<&Kept>, key: &Key, hash: u64) -> Option<u32>
+    requires { hash ≡ key_hash (numbers key.now) }
     ensures { result ≡ entry_in (numbers key.now) (option_copied slot.entry) }
 {
     match slot {
-        Some(kept) if kept.key == *key => Some(kept.entry),
+        Some(kept) if kept.is_of(key, hash) => Some(kept.entry),
         _ => None,
     }
 }
 
-/// The slot where a key is put.
-pub(crate) fn slot_for(slots: &KeptSlots, key: &Key) -> u32
+/// The slot where a key is put, which has this hash.
+pub(crate) fn slot_for(slots: &KeptSlots, key: &Key, hash: u64) -> u32
+    requires { hash ≡ key_hash (numbers key.now) }
     ensures slot { result ≡ slot_for (slots_view slots.now) (numbers key.now) }
     ensures within { result < slot_count }
 {
-    let hash = key_hash(key);
     let first = first_slot(hash);
     let second = second_slot(hash);
-    slot_of_two(key, first, slots.get(&first), second, slots.get(&second))
+    let in_first = slots.get(&first);
+    let in_second = slots.get(&second);
+    slot_of_two(key, hash, first, in_first, second, in_second)
 }
 
-/// Of two slots the one that keeps a key; else one that was never written; else the first.
+/// Of two slots the one that keeps a key, which has this hash; else one that was never written; else the first.
 fn slot_of_two(
     key: &Key,
+    hash: u64,
     first: u32,
     in_first: Option<&Kept>,
     second: u32,
     in_second: Option<&Kept>,
 ) -> u32
+    requires { hash ≡ key_hash (numbers key.now) }
     ensures { result ≡ slot_of_two (numbers key.now) first (option_copied in_first.entry) second (option_copied in_second.entry) }
 {
-    if keeps(in_first, key) {
+    if keeps(in_first, key, hash) {
         first
-    } else if keeps(in_second, key) {
+    } else if keeps(in_second, key, hash) {
         second
     } else if in_first.is_none() {
         first

@@ -11,9 +11,9 @@ pub returns-clause-slot : goal.returns-clause-slot
 returns-clause-slot c =
     let slots = c.args.slots.now in
     let key = numbers c.args.key.now in
-    let first : c.first_slot-first.result ≡ first_slot key = c.first_slot-first.ensures ∙ ap (λ (h : ℕ). h % slot_count) c.key_hash-hash.ensures in
-    let second : c.second_slot-second.result ≡ second_slot key = c.second_slot-second.ensures ∙ ap (λ (h : ℕ). h / 2 ^ 32 % slot_count) c.key_hash-hash.ensures in
+    let first : c.first_slot-first.result ≡ first_slot key = c.first_slot-first.ensures ∙ ap (λ (h : ℕ). h % slot_count) c.requires in
+    let second : c.second_slot-second.result ≡ second_slot key = c.second_slot-second.ensures ∙ ap (λ (h : ℕ). h / 2 ^ 32 % slot_count) c.requires in
     c.slot_of_two.ensures
-    ∙ ap₂ (λ (a b : Option Kept). slot_of_two key c.first_slot-first.result a c.second_slot-second.result b) c.get.ensures.value c.get-2.ensures.value
+    ∙ ap₂ (λ (a b : Option Kept). slot_of_two key c.first_slot-first.result a c.second_slot-second.result b) c.get-in_first.ensures.value c.get-in_second.ensures.value
     ∙ ap₂ (λ (f s : ℕ). slot_of_two key f (get nat_eq slots f) s (get nat_eq slots s)) first second
     ∙ sym (slot_for-slots_view slots key)
