@@ -9,9 +9,13 @@ use Rattle.spec_run.specs.Journals.{actions_for}
 use Rattle.egress_merge.specs.declared.port_filter.PortFilter.{PortFilter}
 use Rattle.egress_merge.specs.Sending.{sends_to}
 
+-- how many bits a filter has
+abbrev pub filter_bits : ℕ
+filter_bits = 32
+
 -- the bit of a port, which it shares with others
 abbrev pub bit_of : ℕ → ℕ
-bit_of port = port % 32
+bit_of port = port % filter_bits
 
 -- No action sends to a port whose bit is not in the filter.
 abbrev pub PassesAll : List DpAction → PortFilter → Type 0

@@ -14,7 +14,10 @@ use spec_actions::DpAction;
 use spec_case::Arrival;
 use std::alloc::{AllocError, Global};
 
-/// A bit for each port that a list of actions sends to: that of the port's number modulo 32.
+/// How many bits a filter has.
+const BITS: u16 = 32;
+
+/// A bit for each port that a list of actions sends to: that of the port's number modulo `BITS`.
 ///
 /// Ports share bits, so that a port whose bit is there may still get nothing. One whose bit isn't there gets nothing.
 #[derive(Clone, Copy, Debug)]
@@ -30,7 +33,7 @@ impl PortFilter {
     {
         match action {
             DpAction::Output(port) => PortFilter {
-                bits: self.bits | 1 << (port % 32),
+                bits: self.bits | 1 << (port % BITS),
             },
             _ => self,
         }
@@ -51,7 +54,7 @@ impl PortFilter {
     pub fn may_send_to(self, port: u16) -> bool
         ensures { result ≡ false → bit_at self.bits (bit_of port) ≡ 0 }
     {
-        self.bits >> (port % 32) & 1 == 1
+        self.bits >> (port % BITS) & 1 == 1
     }
 }
 
