@@ -169,18 +169,26 @@ reached floor xs n greatest rising all some is = same_tests (nat_le floor greate
         let up = rising p.0 (n - 1) greatest (omega (arith, here, all)) (omega (arith, some, all)) in
         true_nat_le floor greatest (omega (arith, high, up, is))
 
--- the number whose place it is stands there, if it stands anywhere
-pub stands_there : (x : ℕ) (xs : List ℕ) (place : ℕ) → IsPlace x xs place → IsNonDecreasing xs → 0 < times x xs → (place < length xs) × (get_or xs place 0 ≡ x)
-stands_there x xs place is rising some =
+-- where the numbers that are more than a number begin
+pub record IsBeyond (x : ℕ) (xs : List ℕ) (place : ℕ) : Type 0 where
+  pub within : place ≤ length xs
+  pub up_to : (k : ℕ) → k < place → get_or xs k 0 ≤ x
+  pub beyond : (k : ℕ) → place ≤ k → k < length xs → x < get_or xs k 0
+
+-- in front of that the number stands, if it stands anywhere
+pub stands_before : (x : ℕ) (xs : List ℕ) (place : ℕ) → IsBeyond x xs place → IsNonDecreasing xs → 0 < times x xs → (0 < place) × (place - 1 < length xs) × (get_or xs (place - 1) 0 ≡ x)
+stands_before x xs place is rising some =
     let m = counted_among (λ n. n == x) xs some in
     let p = place_of_among m.0 xs m.1 in
     let here : get_or xs p.0 0 ≡ x = sym (p.2 0) ∙ eqb-true m.0 x m.2 in
     let in_xs = p.1 in
-    let up : place ≤ p.0 = ⊎_elim (λ (low : p.0 < place). let b = is.below p.0 low in absurd (omega (arith, b, here))) (λ (h : place ≤ p.0). h) (cases_lt p.0 place) in
-    let within : place < length xs = omega (arith, up, in_xs) in
-    let least = is.from place (le_refl place) within in
-    let most = rising place p.0 0 up in_xs in
-    (within, omega (arith, least, most, here))
+    let all = is.within in
+    let down : p.0 < place = ⊎_elim (λ (h : p.0 < place). h) (λ (high : place ≤ p.0). let b = is.beyond p.0 high in_xs in absurd (omega (arith, b, here))) (cases_lt p.0 place) in
+    let some_before : 0 < place = omega (arith, down) in
+    let last : place - 1 < length xs = omega (arith, some_before, all) in
+    let most = is.up_to (place - 1) (omega (arith, some_before)) in
+    let least = rising p.0 (place - 1) 0 (omega (arith, down)) last in
+    (some_before, last, omega (arith, least, most, here))
 
 pub rising_removed : (xs ys : List ℕ) (i : ℕ) → length ys + 1 ≡ length xs → ((k : ℕ) (d : ℕ) → k < i → get_or ys k d ≡ get_or xs k d)
     → ((k : ℕ) (d : ℕ) → i ≤ k → k + 1 < length xs → get_or ys k d ≡ get_or xs (k + 1) d) → IsNonDecreasing xs → IsNonDecreasing ys

@@ -65,7 +65,8 @@
 //! - A search by prefix is one in the sorted values of every mask that has a prefix of the field, once in a lookup. So the
 //!   time of a lookup grows by the masks, and by the logarithm of the rules of each.
 //! - An add or a strict word takes a few probes. An add and a strict delete move what stands after their place in the
-//!   sorted lists and among the live rules.
+//!   sorted lists, where equal numbers are put in and taken out behind one another, so that rules of one priority move
+//!   nothing there. A strict delete moves the live rules of greater numbers too.
 //! - A loose word passes once over the live rules.
 //! - The actions of an edit stay until the tables are dropped, even where no live rule has them any more, and so do the
 //!   four bytes that say where those of a number are. The actions of a rule take two reads.

@@ -31,24 +31,24 @@ impl SortedNumbers {
         self.items.reserve(1)
     }
 
-    /// Puts a number in, for which there is room.
+    /// Puts a number in, for which there is room, behind those that equal it, which stay in place.
     pub(crate) fn insert(&mut self, number: u128)
         requires { vec_len self.old.items < vec_capacity self.old.items }
         ensures { (n : ℕ) → times n self.new.items.items ≡ times n self.old.items.items + (if number == n then 1 else 0) }
     {
-        let place = first_from(&self.items, number);
+        let place = first_beyond(&self.items, number);
         let Ok(()) = self.items.insert(place, number) else {
             unreachable!()
         };
     }
 
-    /// Takes a number out once, which is there.
+    /// Takes a number out once, which is there: the last of those that equal it, so that these stay in place.
     pub(crate) fn remove(&mut self, number: u128)
         requires { 0 < times number self.old.items.items }
         ensures { (n : ℕ) → times n self.new.items.items + (if number == n then 1 else 0) ≡ times n self.old.items.items }
     {
-        let place = first_from(&self.items, number);
-        self.items.remove(place);
+        let beyond = first_beyond(&self.items, number);
+        self.items.remove(beyond - 1);
     }
 
     pub(crate) fn is_empty(&self) -> bool
@@ -90,6 +90,16 @@ fn first_from(items: &[u128], number: u128) -> usize
     ensures from { (k : ℕ) → result ≤ k → k < length items.now → number ≤ slice_index items.now k }
 {
     items.partition_point(|item| *item < number)
+}
+
+/// The place of the first number that is more than this one, or how many numbers there are.
+fn first_beyond(items: &[u128], number: u128) -> usize
+    requires { IsNonDecreasing items.now }
+    ensures within { result ≤ length items.now }
+    ensures up_to { (k : ℕ) → k < result → slice_index items.now k ≤ number }
+    ensures beyond { (k : ℕ) → result ≤ k → k < length items.now → number < slice_index items.now k }
+{
+    items.partition_point(|item| *item <= number)
 }
 
 /// How many leading bits tell x from the number at a place, and 0 if there is none.
