@@ -309,7 +309,7 @@ sound_modified e version live live' lists lists' x ts is_lists is_live is =
             omega (arith, q, v, n, g)
 
 -- a slice as long as its vector put into it
-pub whole_again : (n : ℕ) (new old : List LiveRule) → length new ≡ length old → n ≡ length old → take n (new ++ drop (length new) old) ≡ new
-whole_again n new old same_length is =
-    ap (λ (ls : List LiveRule). take n (new ++ ls)) (drop_all (length new) old (omega (arith, same_length)))
+pub whole_again : {X : Type 0} (n : ℕ) (new old : List X) → length new ≡ length old → n ≡ length old → take n (new ++ drop (length new) old) ≡ new
+whole_again {X} n new old same_length is =
+    ap (λ (ls : List X). take n (new ++ ls)) (drop_all (length new) old (omega (arith, same_length)))
     ∙ ap (take n) (append-nil new) ∙ take_all n new (omega (arith, same_length, is))

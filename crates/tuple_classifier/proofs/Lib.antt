@@ -1,5 +1,6 @@
 pub mod AddLaws
 pub mod Apart
+pub mod Boxes
 pub mod Deciding
 pub mod EditLaws
 pub mod FieldLaws

@@ -1,5 +1,6 @@
 -- The live rules, as they are kept.
-use Rattle.std.specs.Prelude.{◌≡◌, ℕ, ◌-◌, ◌<◌, ◌≤◌, ◌==◌, length, true, not, Bool, if◌then◌else◌, List, [], ◌∷◌, map, get_or, unwrap_or}
+use Rattle.std.specs.Prelude.{◌≡◌, ℕ, ◌-◌, ◌<◌, ◌≤◌, ◌==◌, length, true, not, Bool, if◌then◌else◌, List, [], ◌∷◌, map, get_or, unwrap_or, Box}
+use Rattle.std.specs.declared.alloc.Global.{Global}
 use Rattle.spec_actions.specs.declared.action.OfAction.{OfAction}
 use Rattle.spec_tables.specs.Rules.{Rule, is_same_match}
 use Rattle.spec_tables.specs.Edits.{Edit}
@@ -7,6 +8,10 @@ use Rattle.translation_laws.proofs.MemberLaws.{Among}
 use Rattle.rule_tables.specs.Views.{match_view, rule_view}
 use Rattle.rule_tables.specs.Stored.{picks}
 use Rattle.tuple_classifier.specs.declared.live.LiveRule.{LiveRule}
+
+-- the live rules, each of which has a box of its own
+abbrev pub unboxed : List (Box LiveRule Global) → List LiveRule
+unboxed boxes = map (λ (b : Box LiveRule Global). b.value) boxes
 
 -- a live rule with its actions, which stand at a place among lists of actions
 abbrev pub live_view : List (List OfAction) → LiveRule → Rule

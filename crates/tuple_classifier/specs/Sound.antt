@@ -8,11 +8,11 @@ use Rattle.tuple_classifier.specs.declared.live.LiveRule.{LiveRule}
 use Rattle.tuple_classifier.specs.declared.subtable.Subtable.{Subtable}
 use Rattle.tuple_classifier.specs.declared.tables.Tables.TheInside.{Inside}
 use Rattle.tuple_classifier.specs.ByTable.{AreClassified}
-use Rattle.tuple_classifier.specs.Live.{live_rules, plain_rules, AreOfVersion, ArePlaced}
+use Rattle.tuple_classifier.specs.Live.{unboxed, live_rules, plain_rules, AreOfVersion, ArePlaced}
 use Rattle.tuple_classifier.specs.Versions.{Version}
 
 abbrev pub rules_at : Inside → List Rule
-rules_at a = live_rules a.lists.items a.live.items
+rules_at a = live_rules a.lists.items (unboxed a.live.items)
 
 abbrev pub version_at : Inside → Version
 version_at a = record { number = a.version; rules = rules_at a }
@@ -25,6 +25,6 @@ pub record AreSound (version : ℕ) (live : List LiveRule) (lists : List (List O
   pub classified : AreClassified tables (plain_rules live)
 
 pub record IsSound (a : Inside) : Type 0 where
-  pub sound : AreSound a.version a.live.items a.lists.items a.tables.items
-  pub placed : ArePlaced a.live.items a.places.items
+  pub sound : AreSound a.version (unboxed a.live.items) a.lists.items a.tables.items
+  pub placed : ArePlaced (unboxed a.live.items) a.places.items
   pub few_places : length a.places.items ≤ a.version

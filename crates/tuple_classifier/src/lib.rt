@@ -50,10 +50,11 @@
 //! masks. The first mask that asks it has it answered for those after it, until the lookup ends (`FieldLookup`). The search
 //! for the winner asks it too: no rule of a mask matches a key that begins with none of the prefixes of its length.
 //!
-//! The live rules stand beside the subtables in the order of their numbers, and each has the place of its actions among
-//! the lists of actions that edits gave. The same places stand by number too, so that the actions of a winner are read
-//! without a search for its rule. Looking up which rule an edit names is a probe as well. An add takes all memory
-//! first, puts its rule in, and only then takes out the rule that it replaces, so that a refusal leaves what was there.
+//! The live rules stand beside the subtables in the order of their numbers, each in a box of its own, and each has the
+//! place of its actions among the lists of actions that edits gave. The same places stand by number too, so that the
+//! actions of a winner are read without a search for its rule. Looking up which rule an edit names is a probe as well. An
+//! add takes all memory first, puts its rule in, and only then takes out the rule that it replaces, so that a refusal
+//! leaves what was there.
 //!
 //! # What it costs
 //!
@@ -66,7 +67,7 @@
 //!   time of a lookup grows by the masks, and by the logarithm of the rules of each.
 //! - An add or a strict word takes a few probes. An add and a strict delete move what stands after their place in the
 //!   sorted lists, where equal numbers are put in and taken out behind one another, so that rules of one priority move
-//!   nothing there. A strict delete moves the live rules of greater numbers too.
+//!   nothing there. A strict delete also moves the addresses of the live rules of greater numbers, of 8 bytes each.
 //! - A loose word passes once over the live rules.
 //! - The actions of an edit stay until the tables are dropped, even where no live rule has them any more, and so do the
 //!   four bytes that say where those of a number are. The actions of a rule take two reads.

@@ -1,4 +1,4 @@
-ghost use Rattle.std.specs.Prelude.{◌≡◌, ℕ, ◌<◌, ◌≤◌, ◌+◌, ◌-◌, ◌++◌, ◌∷◌, [], get_or, List, OnOk, OnErr, vec_len, vec_capacity, filter, map, length, slice_get, Some, IfSome, IsNone};
+ghost use Rattle.std.specs.Prelude.{◌≡◌, ℕ, ◌<◌, ◌≤◌, ◌+◌, ◌-◌, ◌++◌, ◌∷◌, [], get_or, List, OnOk, OnErr, vec_len, vec_capacity, filter, map, length, slice_get, Some, IfSome, IfOk, IsNone};
 ghost use Rattle.std.specs.List.Sorted.{IsNonDecreasingBy};
 ghost use Rattle.translation_laws.proofs.MemberLaws.{Among};
 ghost use Rattle.std.specs.Option.{option_map_or};
@@ -6,7 +6,7 @@ ghost use Rattle.spec_actions.specs.declared.action.OfAction.{OfAction};
 ghost use Rattle.spec_tables.specs.declared.edit_word.EditWord.TheVariants.{ModifyStrict};
 ghost use Rattle.spec_tables.specs.Rules as seen;
 ghost use Rattle.tuple_classifier.specs.ByTable.{AreClassified, CountMoreRules};
-ghost use Rattle.tuple_classifier.specs.Live.{live_rules, plain_rule, plain_rules, given_by, given_to, is_kept, is_unlike, IsRising, AreOfVersion, IsWithinPlaces, ArePlaced};
+ghost use Rattle.tuple_classifier.specs.Live.{unboxed, live_rules, plain_rule, plain_rules, given_by, given_to, is_kept, is_unlike, IsRising, AreOfVersion, IsWithinPlaces, ArePlaced};
 ghost use Rattle.tuple_classifier.specs.declared.live.LiveRule.{LiveRule};
 
 use crate::by_table::{Table, find_named, insert_in, take_from};
@@ -28,9 +28,10 @@ impl LiveRule {
     ghost use Rattle.spec_actions.specs.declared.action.OfAction.{OfAction};
     ghost use Rattle.spec_tables.specs.Edits.{rule_of};
     ghost use Rattle.rule_tables.specs.Views.{rule_view};
+    ghost use Rattle.std.specs.Prelude.{IfOk};
 
     /// The rule that an edit adds, with its actions at a place.
-    pub(crate) fn new(number: u32, edit: &Edit, given: u32) -> LiveRule
+    fn new(number: u32, edit: &Edit, given: u32) -> LiveRule
         ensures rule { (actions : List OfAction) → rule_view result.rule actions ≡ record (rule_of number edit.now) { actions = actions } }
         ensures given { result.given ≡ given }
     {
@@ -44,6 +45,19 @@ impl LiveRule {
             },
             given,
         }
+    }
+
+    /// The same in a box of its own, so that the rules before it can be taken out without moving it.
+    pub(crate) fn boxed(
+        alloc: Global,
+        number: u32,
+        edit: &Edit,
+        given: u32,
+    ) -> Result<Box<LiveRule>, AllocError>
+        ensures rule { IfOk result (λ b. (actions : List OfAction) → rule_view b.value.rule actions ≡ record (rule_of number edit.now) { actions = actions }) }
+        ensures given { IfOk result (λ b. b.value.given ≡ given) }
+    {
+        Ok(Box::new(alloc, LiveRule::new(number, edit, given))?)
     }
 
     /// What decides between the rule and others that match.
@@ -68,25 +82,33 @@ impl LiveRule {
 }
 
 /// The place of the live rule of a number, which rise along the rules.
-pub(crate) fn place_of(live: &[LiveRule], number: u32) -> Option<usize>
-    requires { IsNonDecreasingBy (λ l. l.rule.number) live.now }
-    ensures some { IfSome result (λ i. (i < length live.now) × ((l : LiveRule) → slice_get live.now i ≡ Some l → l.rule.number ≡ number)) }
-    ensures none { IsNone result → (l : LiveRule) → Among l live.now → l.rule.number ≡ number → ⊥ }
+pub(crate) fn place_of(live: &[Box<LiveRule>], number: u32) -> Option<usize>
+    requires { IsNonDecreasingBy (λ l. l.rule.number) (unboxed live.now) }
+    ensures some { IfSome result (λ i. (i < length live.now) × ((l : LiveRule) → slice_get (unboxed live.now) i ≡ Some l → l.rule.number ≡ number)) }
+    ensures none { IsNone result → (l : LiveRule) → Among l (unboxed live.now) → l.rule.number ≡ number → ⊥ }
 {
     let place = live.partition_point(|l| l.rule.number < number);
     if place >= live.len() {
         return None;
     }
-    if live[place].rule.number == number {
+    if rule_at(live, place).rule.number == number {
         Some(place)
     } else {
         None
     }
 }
 
+/// The live rule at a place.
+fn rule_at(live: &[Box<LiveRule>], place: usize) -> &LiveRule
+    requires { place < length live.now }
+    ensures { slice_get (unboxed live.now) place ≡ Some result.now }
+{
+    &live[place]
+}
+
 /// Gives the rules that an edit picks its cookie, if it has one, and the actions at a place, passing over all.
-fn give_all(live: &mut [LiveRule], edit: &Edit, given: u32)
-    ensures { live.new ≡ map (given_by edit.now given) live.old }
+fn give_all(live: &mut [Box<LiveRule>], edit: &Edit, given: u32)
+    ensures { unboxed live.new ≡ map (given_by edit.now given) (unboxed live.old) }
 {
     'live: for l in live.iter_mut() {
         l.give(edit, given);
@@ -94,24 +116,30 @@ fn give_all(live: &mut [LiveRule], edit: &Edit, given: u32)
 }
 
 /// Writes where the actions of all live rules are.
-fn place_all(live: &[LiveRule], places: &mut Vec<u32>)
-    requires rising { IsRising (plain_rules live.now) }
-    requires within { (l : LiveRule) → Among l live.now → IsWithinPlaces l places.old.items }
-    ensures placed { ArePlaced live.now places.new.items }
+fn place_all(live: &[Box<LiveRule>], places: &mut Vec<u32>)
+    requires rising { IsRising (plain_rules (unboxed live.now)) }
+    requires within { (l : LiveRule) → Among l (unboxed live.now) → IsWithinPlaces l places.old.items }
+    ensures placed { ArePlaced (unboxed live.now) places.new.items }
     ensures length { length places.new.items ≡ length places.old.items }
 {
     'live: for i in 0..live.len() {
-        let l = &live[i];
+        let l = rule_at(live, i);
         places[l.rule.number as usize - 1] = l.given;
     }
 }
 
 /// Gives the rule of a number what an edit gives, if the edit picks it.
-fn give_numbered(live: &mut [LiveRule], places: &mut Vec<u32>, number: u32, edit: &Edit, given: u32)
-    requires rising { IsRising (plain_rules live.old) }
-    requires placed { ArePlaced live.old places.old.items }
-    ensures live { live.new ≡ map (given_to number edit.now given) live.old }
-    ensures placed { ArePlaced live.new places.new.items }
+fn give_numbered(
+    live: &mut [Box<LiveRule>],
+    places: &mut Vec<u32>,
+    number: u32,
+    edit: &Edit,
+    given: u32,
+)
+    requires rising { IsRising (plain_rules (unboxed live.old)) }
+    requires placed { ArePlaced (unboxed live.old) places.old.items }
+    ensures live { unboxed live.new ≡ map (given_to number edit.now given) (unboxed live.old) }
+    ensures placed { ArePlaced (unboxed live.new) places.new.items }
     ensures length { length places.new.items ≡ length places.old.items }
 {
     if let Some(place) = place_of(live, number) {
@@ -124,16 +152,16 @@ fn give_numbered(live: &mut [LiveRule], places: &mut Vec<u32>, number: u32, edit
 /// Gives the rule that a strict modify names what the edit gives. It is the only one that the edit picks.
 fn give_named(
     tables: &[Table],
-    live: &mut [LiveRule],
+    live: &mut [Box<LiveRule>],
     places: &mut Vec<u32>,
     edit: &Edit,
     given: u32,
 )
-    requires rising { IsRising (plain_rules live.old) }
-    requires placed { ArePlaced live.old places.old.items }
+    requires rising { IsRising (plain_rules (unboxed live.old)) }
+    requires placed { ArePlaced (unboxed live.old) places.old.items }
     requires word { edit.now.word ≡ ModifyStrict }
-    ensures live { (lists : List (List OfAction)) (version : ℕ) → AreOfVersion (live_rules lists live.old) version → AreClassified tables.now (plain_rules live.old) → live.new ≡ map (given_by edit.now given) live.old }
-    ensures placed { ArePlaced live.new places.new.items }
+    ensures live { (lists : List (List OfAction)) (version : ℕ) → AreOfVersion (live_rules lists (unboxed live.old)) version → AreClassified tables.now (plain_rules (unboxed live.old)) → unboxed live.new ≡ map (given_by edit.now given) (unboxed live.old) }
+    ensures placed { ArePlaced (unboxed live.new) places.new.items }
     ensures length { length places.new.items ≡ length places.old.items }
 {
     if let Some(number) = find_named(tables, edit) {
@@ -144,15 +172,15 @@ fn give_named(
 /// Gives the rules that a modify picks its cookie, if it has one, and the actions at a place.
 pub(crate) fn give(
     tables: &[Table],
-    live: &mut [LiveRule],
+    live: &mut [Box<LiveRule>],
     places: &mut Vec<u32>,
     edit: &Edit,
     given: u32,
 )
-    requires rising { IsRising (plain_rules live.old) }
-    requires placed { ArePlaced live.old places.old.items }
-    ensures live { (lists : List (List OfAction)) (version : ℕ) → AreOfVersion (live_rules lists live.old) version → AreClassified tables.now (plain_rules live.old) → live.new ≡ map (given_by edit.now given) live.old }
-    ensures placed { ArePlaced live.new places.new.items }
+    requires rising { IsRising (plain_rules (unboxed live.old)) }
+    requires placed { ArePlaced (unboxed live.old) places.old.items }
+    ensures live { (lists : List (List OfAction)) (version : ℕ) → AreOfVersion (live_rules lists (unboxed live.old)) version → AreClassified tables.now (plain_rules (unboxed live.old)) → unboxed live.new ≡ map (given_by edit.now given) (unboxed live.old) }
+    ensures placed { ArePlaced (unboxed live.new) places.new.items }
     ensures length { length places.new.items ≡ length places.old.items }
 {
     match edit.word {
@@ -165,13 +193,13 @@ pub(crate) fn give(
 }
 
 /// Takes the rules that an edit picks out of the subtables.
-pub(crate) fn take_picked(tables: &mut Vec<Table>, live: &[LiveRule], edit: &Edit)
-    requires rising { IsRising (plain_rules live.now) }
-    requires classified { AreClassified tables.old.items (plain_rules live.now) }
-    ensures { AreClassified tables.new.items (plain_rules (filter (is_kept edit.now) live.now)) }
+pub(crate) fn take_picked(tables: &mut Vec<Table>, live: &[Box<LiveRule>], edit: &Edit)
+    requires rising { IsRising (plain_rules (unboxed live.now)) }
+    requires classified { AreClassified tables.old.items (plain_rules (unboxed live.now)) }
+    ensures { AreClassified tables.new.items (plain_rules (filter (is_kept edit.now) (unboxed live.now))) }
 {
     'live: for i in 0..live.len() {
-        let l = &live[i];
+        let l = rule_at(live, i);
         if edit.picks(&l.rule) {
             take_from(tables, l.rule.table, &l.rule.matching, l.rank());
         }
@@ -179,14 +207,14 @@ pub(crate) fn take_picked(tables: &mut Vec<Table>, live: &[LiveRule], edit: &Edi
 }
 
 /// Takes the live rule of a number out, and out of the subtables.
-pub(crate) fn take_numbered(tables: &mut Vec<Table>, live: &mut Vec<LiveRule>, number: u32)
-    requires rising { IsRising (plain_rules live.old.items) }
-    requires classified { AreClassified tables.old.items (plain_rules live.old.items) }
-    ensures live { live.new.items ≡ filter (is_unlike number) live.old.items }
-    ensures classified { AreClassified tables.new.items (plain_rules live.new.items) }
+pub(crate) fn take_numbered(tables: &mut Vec<Table>, live: &mut Vec<Box<LiveRule>>, number: u32)
+    requires rising { IsRising (plain_rules (unboxed live.old.items)) }
+    requires classified { AreClassified tables.old.items (plain_rules (unboxed live.old.items)) }
+    ensures live { unboxed live.new.items ≡ filter (is_unlike number) (unboxed live.old.items) }
+    ensures classified { AreClassified tables.new.items (plain_rules (unboxed live.new.items)) }
 {
     if let Some(place) = place_of(live, number) {
-        let l = live[place];
+        let l = rule_at(live, place);
         take_from(tables, l.rule.table, &l.rule.matching, l.rank());
         live.remove(place);
     }
@@ -195,13 +223,13 @@ pub(crate) fn take_numbered(tables: &mut Vec<Table>, live: &mut Vec<LiveRule>, n
 /// Takes the live rule of a number out, if one is given, and out of the subtables.
 pub(crate) fn take_replaced(
     tables: &mut Vec<Table>,
-    live: &mut Vec<LiveRule>,
+    live: &mut Vec<Box<LiveRule>>,
     replaced: Option<u32>,
 )
-    requires rising { IsRising (plain_rules live.old.items) }
-    requires classified { AreClassified tables.old.items (plain_rules live.old.items) }
-    ensures live { live.new.items ≡ option_map_or (λ n. filter (is_unlike n) live.old.items) replaced live.old.items }
-    ensures classified { AreClassified tables.new.items (plain_rules live.new.items) }
+    requires rising { IsRising (plain_rules (unboxed live.old.items)) }
+    requires classified { AreClassified tables.old.items (plain_rules (unboxed live.old.items)) }
+    ensures live { unboxed live.new.items ≡ option_map_or (λ n. filter (is_unlike n) (unboxed live.old.items)) replaced (unboxed live.old.items) }
+    ensures classified { AreClassified tables.new.items (plain_rules (unboxed live.new.items)) }
 {
     if let Some(number) = replaced {
         take_numbered(tables, live, number);
@@ -222,20 +250,20 @@ pub(crate) fn insert_live(
 }
 
 /// Adds a live rule, for which there is room.
-pub(crate) fn push_rule(live: &mut Vec<LiveRule>, l: LiveRule)
+pub(crate) fn push_rule(live: &mut Vec<Box<LiveRule>>, l: Box<LiveRule>)
     requires { vec_len live.old + 1 ≤ vec_capacity live.old }
-    ensures { live.new.items ≡ live.old.items ++ l ∷ [] }
+    ensures { unboxed live.new.items ≡ unboxed live.old.items ++ l.value ∷ [] }
 {
     let Ok(()) = live.push(l) else { unreachable!() };
 }
 
 /// Takes the rules out that an edit picks.
-pub(crate) fn keep_others(live: &mut Vec<LiveRule>, edit: &Edit)
-    ensures { live.new.items ≡ filter (is_kept edit.now) live.old.items }
+pub(crate) fn keep_others(live: &mut Vec<Box<LiveRule>>, edit: &Edit)
+    ensures { unboxed live.new.items ≡ filter (is_kept edit.now) (unboxed live.old.items) }
 {
     live.retain(
-        |l: &LiveRule| -> bool
-            ensures { result ≡ is_kept edit.entry.now l.now }
+        |l: &Box<LiveRule>| -> bool
+            ensures { result ≡ is_kept edit.entry.now l.now.value }
         { !edit.picks(&l.rule) },
     );
 }

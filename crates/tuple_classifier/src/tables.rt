@@ -24,7 +24,7 @@ pub struct Tables {
     alloc: Global,
     version: u32,
     /// The live rules, in the order of their numbers.
-    live: Vec<LiveRule>,
+    live: Vec<Box<LiveRule>>,
     /// The lists of actions that edits gave, in the order of the edits.
     lists: Vec<Actions>,
     /// By the numbers of the rules, from 1 on, where the actions of each are among the lists. What stands at a number that
@@ -136,12 +136,12 @@ impl Tables {
     {
         let number = self.version + 1;
         let actions = Vec::from_slice(self.alloc, edit.actions.as_slice())?;
+        let given = self.lists.len() as u32;
+        let rule = LiveRule::boxed(self.alloc, number, edit, given)?;
         self.lists.reserve(1)?;
         self.live.reserve(1)?;
         self.places.reserve(number as usize - self.places.len())?;
-        let given = self.lists.len() as u32;
         let replaced = find_named(&self.tables, edit);
-        let rule = LiveRule::new(number, edit, given);
         insert_live(self.alloc, &mut self.tables, &rule)?;
         push_list(&mut self.lists, Actions::new(actions));
         push_rule(&mut self.live, rule);
