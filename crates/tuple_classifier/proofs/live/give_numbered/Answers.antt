@@ -1,4 +1,4 @@
-use Rattle.std.proofs.Common.{◌≡◌, ◌-◌, Box, refl, ap, ◌∙◌, map, set, [], Some, slice_get, sym, subst, arith}
+use Rattle.std.proofs.Common.{◌-◌, Box, refl, ap, ◌∙◌, map, set, [], sym, subst, arith}
 use Rattle.std.specs.Prelude.{slice_set}
 use Rattle.std.specs.declared.alloc.Global.{Global}
 use Rattle.std.proofs.lemmas.List.{map-set}
