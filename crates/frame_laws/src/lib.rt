@@ -19,9 +19,10 @@
 //!
 //! # How
 //!
-//! The forms of keys and layouts are those of `key_laws`, which has the two laws of keys themselves. What an IPv6 packet carries is reached by a chain of extension headers, of at most 8, and what is said of
-//! it is proved by induction on how many may still follow. Each of them is known to have 8 bytes before the packet's end
-//! before its size is read, so that nothing after that end is.
+//! The forms of keys and layouts are those of `key_laws`, which has the two laws of keys themselves. What an IPv6 packet
+//! carries is reached by a chain of extension headers, of at most 8, and what is said of it is proved by induction on how
+//! many may still follow. Each of them is known to have 8 bytes before the packet's end before its size is read, so that
+//! nothing after that end is.
 //!
 //! # What is left to others
 //!
