@@ -1,6 +1,7 @@
 pub mod AddLaws
 pub mod Apart
 pub mod Boxes
+pub mod CountedLaws
 pub mod Deciding
 pub mod EditLaws
 pub mod FieldLaws

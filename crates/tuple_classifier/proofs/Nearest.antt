@@ -1,12 +1,10 @@
 -- Among sorted numbers the nearest ones decide: none has more leading bits in common with a number than those beside it.
-use Rattle.std.proofs.Common.{◌≡◌, ℕ, ◌+◌, ◌-◌, ◌*◌, ◌/◌, ◌^◌, ◌<◌, ◌≤◌, Bool, true, false, ◌&&◌, ◌||◌, ◌==◌, nat_le, nat_lt, if◌then◌else◌, List, length, get_or, bit_and, max, All, inl, inr, ◌⊎◌, ⊎_elim, refl, sym, ap, ap₂, ◌∙◌, arith, le_refl, eqb-true, eq-eqb, mul-le-mul_right}
-use Rattle.std.specs.List.{list_any, remove}
+use Rattle.std.proofs.Common.{◌≡◌, ℕ, ◌-◌, ◌*◌, ◌/◌, ◌^◌, ◌<◌, ◌≤◌, Bool, true, false, ◌&&◌, ◌||◌, ◌==◌, nat_le, nat_lt, List, length, get_or, bit_and, max, All, inl, inr, ◌⊎◌, ⊎_elim, refl, sym, ap, ap₂, ◌∙◌, arith, le_refl, eqb-true, eq-eqb, mul-le-mul_right}
+use Rattle.std.specs.List.{list_any}
 use Rattle.std.specs.List.Sorted.{IsNonDecreasing}
 use Rattle.std.proofs.lemmas.Nat.Bits.{and_high_mask}
 use Rattle.std.proofs.Math.Pow.{shr_mono}
 use Rattle.std.proofs.lemmas.Bool.{cases_lt}
-use Rattle.std.proofs.lemmas.List.Sums.{sum_by-remove}
-use Rattle.std.proofs.lemmas.List.Edits.{length-remove}
 use Rattle.std.proofs.lemmas.Bool.Decides.{nat_tests}
 use Rattle.spec_base.specs.Bits.{leading_bits}
 use Rattle.spec_xlate.specs.Lookup.{starts_alike}
@@ -151,7 +149,7 @@ module _ (w x : ℕ) (xs : List ℕ) (place : ℕ) (fx : x < 2 ^ w) (fit : All (
       greater : (n a b : ℕ) → nat_lt n (max b a) ≡ (nat_lt n a || nat_lt n b)
       greater n a b = grind (arith, nat_tests)
 
--- ---- whether a number is reached, and taking one out
+-- ---- whether a number is reached, and where it stands
 
 -- the last number is the greatest
 pub reached : (floor : ℕ) (xs : List ℕ) (n greatest : ℕ) → IsNonDecreasing xs → n ≡ length xs → 0 < n → greatest ≡ get_or xs (n - 1) greatest → nat_le floor greatest ≡ list_any (λ v. nat_le floor v) xs
@@ -189,24 +187,3 @@ stands_before x xs place is rising some =
     let most = is.up_to (place - 1) (omega (arith, some_before)) in
     let least = rising p.0 (place - 1) 0 (omega (arith, down)) last in
     (some_before, last, omega (arith, least, most, here))
-
-pub rising_removed : (xs ys : List ℕ) (i : ℕ) → length ys + 1 ≡ length xs → ((k : ℕ) (d : ℕ) → k < i → get_or ys k d ≡ get_or xs k d)
-    → ((k : ℕ) (d : ℕ) → i ≤ k → k + 1 < length xs → get_or ys k d ≡ get_or xs (k + 1) d) → IsNonDecreasing xs → IsNonDecreasing ys
-rising_removed xs ys i shorter before after rising j k d le within = by (cases_lt j i) (cases_lt k i)
-  where
-    by : (j < i) ⊎ (i ≤ j) → (k < i) ⊎ (i ≤ k) → get_or ys j d ≤ get_or ys k d
-    by (inl a) (inl b) = rw (before j d a, before k d b) (rising j k d le (omega arith))
-    by (inl a) (inr b) = rw (before j d a, after k d b (omega arith)) (rising j (k + 1) d (omega arith) (omega arith))
-    by (inr a) (inr b) = rw (after j d a (omega arith), after k d b (omega arith)) (rising (j + 1) (k + 1) d (omega arith) (omega arith))
-    by (inr a) (inl b) = absurd (omega arith)
-
--- a list with a number taken out has it once less
-pub times_removed : (x : ℕ) (xs ys : List ℕ) (i n : ℕ) → i < length xs → get_or xs i 0 ≡ x → ys ≡ remove xs i → times n ys + (if x == n then 1 else 0) ≡ times n xs
-times_removed x xs ys i n within is made =
-    ap₂ (λ a b. a + b) (ap (times n) made) (ap (λ v. if v == n then 1 else 0) (sym is)) ∙ sum_by-remove (λ v. if v == n then 1 else 0) xs i 0 within
-
-pub shorter : (xs ys : List ℕ) (i : ℕ) → i < length xs → ys ≡ remove xs i → length ys + 1 ≡ length xs
-shorter xs ys i within made =
-    let l = length-remove xs i within in
-    let e = ap length made in
-    omega (arith, l, e)

@@ -15,7 +15,7 @@ use Rattle.tuple_classifier.specs.Indexes.{HaveRule}
 use Rattle.tuple_classifier.specs.Numbered.{AreDistinct, without}
 use Rattle.tuple_classifier.specs.Ranks.{rank_of, is_other, better_rank, best_rank}
 use Rattle.tuple_classifier.specs.Subtables.{ranks_with, IsOfMask, IsSubtableOf}
-use Rattle.tuple_classifier.specs.Numbers.{times}
+use Rattle.tuple_classifier.specs.Numbers.{times, numbers_in}
 use Rattle.tuple_classifier.proofs.Removed.{none_like_first, all_stay, distinct_tail, turned}
 use Rattle.tuple_classifier.proofs.StageLaws.{stage_has}
 use Rattle.tuple_classifier.proofs.FieldLaws.{field_has}
@@ -108,7 +108,7 @@ has_rule s key rank rs r is m of_key of_rank = record {
   nw_dst = field_has s.indexes.nw_dst _ (bits s.mask) key rs r is.indexed.nw_dst m of_key;
   ipv6_src = field_has s.indexes.ipv6_src _ (bits s.mask) key rs r is.indexed.ipv6_src m of_key;
   ipv6_dst = field_has s.indexes.ipv6_dst _ (bits s.mask) key rs r is.indexed.ipv6_dst m of_key;
-  priority_of = subst (λ (n : ℕ). 0 < times n s.indexes.priorities.items.items) (ap (λ (k : Rank). k.priority) of_rank) (priority_has rs s.indexes.priorities.items.items is.indexed.prioritised r m);
+  priority_of = subst (λ (n : ℕ). 0 < times n (numbers_in s.indexes.priorities.items.items)) (ap (λ (k : Rank). k.priority) of_rank) (priority_has rs (numbers_in s.indexes.priorities.items.items) is.indexed.prioritised r m);
 }
 
 -- ---- the winner, and a rule by its priority

@@ -7,7 +7,7 @@ use Rattle.spec_tables.specs.Rules.{Rule}
 use Rattle.tuple_classifier.specs.declared.indexes.Indexes.{Indexes}
 use Rattle.tuple_classifier.specs.declared.prefixes.FieldPrefixes.{FieldPrefixes}
 use Rattle.tuple_classifier.specs.FieldPrefixes.{IsOfField}
-use Rattle.tuple_classifier.specs.Numbers.{times}
+use Rattle.tuple_classifier.specs.Numbers.{times, numbers_in}
 use Rattle.tuple_classifier.specs.Stages.{IsStage, CountsFewer, HasRoom, IsCounted}
 
 -- they are those of these rules of a mask
@@ -19,7 +19,7 @@ pub record AreIndexes (x : Indexes) (mask : List ℕ) (rs : List Rule) : Type 0 
   pub nw_dst : IsOfField x.nw_dst NwDst mask rs
   pub ipv6_src : IsOfField x.ipv6_src Ipv6Src mask rs
   pub ipv6_dst : IsOfField x.ipv6_dst Ipv6Dst mask rs
-  pub prioritised : (n : ℕ) → times n x.priorities.items.items ≡ count_by (λ r. r.priority == n) rs
+  pub prioritised : (n : ℕ) → times n (numbers_in x.priorities.items.items) ≡ count_by (λ r. r.priority == n) rs
 
 -- one more rule can be counted
 pub record CountMore (x : Indexes) : Type 0 where
@@ -39,7 +39,7 @@ pub record HaveRoom (x : Indexes) : Type 0 where
   pub priorities : vec_len x.priorities.items < vec_capacity x.priorities.items
 
 abbrev pub IsStated : FieldPrefixes → List ℕ → Type 0
-IsStated p key = 0 < p.length → 0 < times (value_of key p.field) p.values.items.items
+IsStated p key = 0 < p.length → 0 < times (value_of key p.field) (numbers_in p.values.items.items)
 
 -- a rule with this key and priority is among them
 pub record HaveRule (x : Indexes) (key : List ℕ) (priority : ℕ) : Type 0 where
@@ -50,4 +50,4 @@ pub record HaveRule (x : Indexes) (key : List ℕ) (priority : ℕ) : Type 0 whe
   pub nw_dst : IsStated x.nw_dst key
   pub ipv6_src : IsStated x.ipv6_src key
   pub ipv6_dst : IsStated x.ipv6_dst key
-  pub priority_of : 0 < times priority x.priorities.items.items
+  pub priority_of : 0 < times priority (numbers_in x.priorities.items.items)

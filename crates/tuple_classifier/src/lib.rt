@@ -38,10 +38,11 @@
 //! - by *stage*: for each part of the mask that a stage reaches, how many rules have each key under it. A part that is
 //!   that of the stage before decides nothing more, and after one that is the whole mask nothing is left to decide. Their
 //!   rules are neither counted nor tested;
-//! - by *prefix*: the values of the four addresses where the mask has a prefix of them, sorted. No value has more leading
-//!   bits in common with a key than its neighbours in that order, so these tell whether a rule begins as the key does, and
-//!   how many leading bits decide it;
-//! - the priorities, sorted. A mask whose greatest is less than the winner's is not probed and consults nothing.
+//! - by *prefix*: the values of the four addresses where the mask has a prefix of them, sorted, each with how many rules
+//!   state it. No value has more leading bits in common with a key than its neighbours in that order, so these tell whether
+//!   a rule begins as the key does, and how many leading bits decide it;
+//! - the priorities, sorted and counted likewise. A mask whose greatest is less than the winner's is not probed and
+//!   consults nothing.
 //!
 //! `look` goes over the masks twice, first for the winner and then for the bits, since which masks are consulted depends
 //! on the winner. The order of the masks plays no part.
@@ -64,10 +65,11 @@
 //!   has bits of the mask of its own and leaves some to later ones, and a search by prefix where the winner's took none. A
 //!   probe takes no hash where all rules of the mask are alike under the stage, as routes are in the Ethernet type.
 //! - A search by prefix is one in the sorted values of every mask that has a prefix of the field, once in a lookup. So the
-//!   time of a lookup grows by the masks, and by the logarithm of the rules of each.
-//! - An add or a strict word takes a few probes. An add and a strict delete move what stands after their place in the
-//!   sorted lists, where equal numbers are put in and taken out behind one another, so that rules of one priority move
-//!   nothing there. A strict delete also moves the addresses of the live rules of greater numbers, of 8 bytes each.
+//!   time of a lookup grows by the masks, and by the logarithm of the different values of each.
+//! - An add or a strict word takes a few probes. The sorted lists are of different values, so an add moves what stands
+//!   after its place in one only where no rule of the mask has the value yet, and a strict delete only where no other rule
+//!   has it. Else they change a count. A strict delete also moves the addresses of the live rules of greater numbers, of
+//!   8 bytes each.
 //! - A loose word passes once over the live rules.
 //! - The actions of an edit stay until the tables are dropped, even where no live rule has them any more, and so do the
 //!   four bytes that say where those of a number are. The actions of a rule take two reads.

@@ -5,7 +5,7 @@ ghost use Rattle.spec_keys.specs.Fields.{width_of};
 ghost use Rattle.spec_keys.specs.Keys.{value_of};
 ghost use Rattle.spec_tables.specs.Rules.{Rule};
 ghost use Rattle.ovs_fields.specs.Packed.{numbers, bits};
-ghost use Rattle.tuple_classifier.specs.Numbers.{times};
+ghost use Rattle.tuple_classifier.specs.Numbers.{times, numbers_in};
 ghost use Rattle.tuple_classifier.specs.Numbered.{AreDistinct, without};
 ghost use Rattle.tuple_classifier.specs.Prefixes.{begins_at};
 ghost use Rattle.translation_laws.proofs.MemberLaws.{Among};
@@ -24,7 +24,7 @@ pub(crate) struct FieldPrefixes {
     /// The field's numbers in the keys of the rules, if the mask has a prefix.
     pub(crate) values: SortedNumbers,
     pub ghost within: { length ≤ width_of field },
-    pub ghost fit: { All (λ v. v < 2 ^ width_of field) values.items.items },
+    pub ghost fit: { All (λ v. v < 2 ^ width_of field) (numbers_in values.items.items) },
 }
 
 impl FieldPrefixes {
@@ -62,7 +62,7 @@ impl FieldPrefixes {
 
     /// Takes the prefix of a rule with this key out.
     pub(crate) fn take(&mut self, key: &Key)
-        requires { 0 < self.old.length → 0 < times (value_of (numbers key.now) self.old.field) self.old.values.items.items }
+        requires { 0 < self.old.length → 0 < times (value_of (numbers key.now) self.old.field) (numbers_in self.old.values.items.items) }
         ensures { (f : FieldId) (mask : List ℕ) (rs : List Rule) (r : Rule) → IsOfField self.old f mask rs → AreDistinct rs → Among r rs → r.matching.key ≡ numbers key.now → IsOfField self.new f mask (without r.number rs) }
     {
         if self.length > 0 {

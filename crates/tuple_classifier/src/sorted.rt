@@ -1,22 +1,31 @@
-ghost use Rattle.std.specs.Prelude.{◌≡◌, ◌&&◌, nat_lt, length, slice_index, ◌<◌, ◌≤◌, ◌+◌, ◌^◌, ◌==◌, ℕ, [], All, nat_le, if◌then◌else◌, vec_len, vec_capacity, OnOk, IsTrue};
-ghost use Rattle.std.specs.List.{list_any};
-ghost use Rattle.std.specs.List.Sorted.{IsNonDecreasing};
+ghost use Rattle.std.specs.Prelude.{◌≡◌, ◌&&◌, nat_lt, length, slice_index, ◌<◌, ◌-◌, IfSome, ◌≤◌, ◌+◌, ◌^◌, ◌==◌, ℕ, [], All, nat_le, if◌then◌else◌, vec_len, vec_capacity, OnOk, IsTrue};
+ghost use Rattle.std.specs.List.{list_any, insert};
+ghost use Rattle.std.specs.List.Sorted.{IsNonDecreasingBy};
 ghost use Rattle.spec_xlate.specs.Lookup as xlate;
-ghost use Rattle.tuple_classifier.specs.Numbers.{times};
+ghost use Rattle.tuple_classifier.specs.Numbers.{times, numbers_in, entry_numbers, entry_counts};
 
 use crate::prefix::common_leading;
 use std::alloc::{AllocError, Global};
 
-/// Numbers in rising order, each as often as it was put in.
+/// A number, and how often it was put in. Where that is more than a count can say, the number has several entries.
+#[derive(Clone, Copy, Debug)]
+pub(crate) struct Counted {
+    pub(crate) number: u128,
+    pub(crate) count: u32,
+}
+
+/// Numbers in rising order, each as often as it was put in. Equal numbers share an entry, so that one more or one less of
+/// a number that stays moves nothing.
 #[derive(Drop)]
 pub(crate) struct SortedNumbers {
-    pub(crate) items: Vec<u128>,
-    pub ghost rising: { IsNonDecreasing items.items },
+    pub(crate) items: Vec<Counted>,
+    pub ghost rising: { IsNonDecreasingBy (λ c. c.number) items.items },
+    pub ghost counted: { All (λ c. 0 < c.count) items.items },
 }
 
 impl SortedNumbers {
     pub(crate) fn new(alloc: Global) -> SortedNumbers
-        ensures { result.items.items ≡ [] }
+        ensures { numbers_in result.items.items ≡ [] }
     {
         SortedNumbers {
             items: Vec::new(alloc),
@@ -25,44 +34,50 @@ impl SortedNumbers {
 
     /// Makes room for one more.
     pub(crate) fn reserve(&mut self) -> Result<(), AllocError>
-        ensures items { self.new.items.items ≡ self.old.items.items }
+        ensures items { numbers_in self.new.items.items ≡ numbers_in self.old.items.items }
         ensures room { OnOk result (vec_len self.new.items < vec_capacity self.new.items) }
     {
         self.items.reserve(1)
     }
 
-    /// Puts a number in, for which there is room, behind those that equal it, which stay in place.
+    /// Puts a number in, for which there is room.
     pub(crate) fn insert(&mut self, number: u128)
         requires { vec_len self.old.items < vec_capacity self.old.items }
-        ensures { (n : ℕ) → times n self.new.items.items ≡ times n self.old.items.items + (if number == n then 1 else 0) }
-    {
-        let place = first_beyond(&self.items, number);
-        let Ok(()) = self.items.insert(place, number) else {
-            unreachable!()
-        };
-    }
-
-    /// Takes a number out once, which is there: the last of those that equal it, so that these stay in place.
-    pub(crate) fn remove(&mut self, number: u128)
-        requires { 0 < times number self.old.items.items }
-        ensures { (n : ℕ) → times n self.new.items.items + (if number == n then 1 else 0) ≡ times n self.old.items.items }
+        ensures { (n : ℕ) → times n (numbers_in self.new.items.items) ≡ times n (numbers_in self.old.items.items) + (if number == n then 1 else 0) }
     {
         let beyond = first_beyond(&self.items, number);
-        self.items.remove(beyond - 1);
+        match raised_count(&self.items, beyond, number) {
+            Some(count) => set_count(&mut self.items, beyond - 1, count),
+            None => insert_entry(&mut self.items, beyond, number),
+        }
+    }
+
+    /// Takes a number out once, which is there.
+    pub(crate) fn remove(&mut self, number: u128)
+        requires { 0 < times number (numbers_in self.old.items.items) }
+        ensures { (n : ℕ) → times n (numbers_in self.new.items.items) + (if number == n then 1 else 0) ≡ times n (numbers_in self.old.items.items) }
+    {
+        let place = place_of(&self.items, number);
+        let count = self.items[place].count;
+        if count > 1 {
+            set_count(&mut self.items, place, count - 1);
+        } else {
+            self.items.remove(place);
+        }
     }
 
     pub(crate) fn is_empty(&self) -> bool
-        ensures { IsTrue result → self.now.items.items ≡ [] }
+        ensures { IsTrue result → numbers_in self.now.items.items ≡ [] }
     {
         self.items.is_empty()
     }
 
     /// Whether one of the numbers is at least this one.
     pub(crate) fn reaches(&self, floor: u128) -> bool
-        ensures { result ≡ list_any (λ n. nat_le floor n) self.now.items.items }
+        ensures { result ≡ list_any (λ n. nat_le floor n) (numbers_in self.now.items.items) }
     {
         let count = self.items.len();
-        count > 0 && self.items[count - 1] >= floor
+        count > 0 && self.items[count - 1].number >= floor
     }
 
     /// How many leading bits tell x from all of the numbers: one more than the most that it has in common with one of
@@ -70,8 +85,8 @@ impl SortedNumbers {
     pub(crate) fn bits_apart(&self, width: u32, x: u128) -> u32
         requires wide { width ≤ 128 }
         requires fits { x < 2 ^ width }
-        requires fit { All (λ v. v < 2 ^ width) self.now.items.items }
-        ensures { (n : ℕ) → n ≤ width → list_any (λ v. xlate.starts_alike width x v n) self.now.items.items ≡ nat_lt n result }
+        requires fit { All (λ v. v < 2 ^ width) (numbers_in self.now.items.items) }
+        ensures { (n : ℕ) → n ≤ width → list_any (λ v. xlate.starts_alike width x v n) (numbers_in self.now.items.items) ≡ nat_lt n result }
     {
         let place = first_from(&self.items, x);
         let from = bits_apart_at(&self.items, place, width, x);
@@ -82,35 +97,85 @@ impl SortedNumbers {
     }
 }
 
-/// The place of the first number that is at least this one, or how many numbers there are.
-fn first_from(items: &[u128], number: u128) -> usize
-    requires { IsNonDecreasing items.now }
+/// The place of the first entry whose number is at least this one, or how many entries there are.
+fn first_from(items: &[Counted], number: u128) -> usize
+    requires { IsNonDecreasingBy (λ c. c.number) items.now }
     ensures within { result ≤ length items.now }
-    ensures below { (k : ℕ) → k < result → slice_index items.now k < number }
-    ensures from { (k : ℕ) → result ≤ k → k < length items.now → number ≤ slice_index items.now k }
+    ensures below { (k : ℕ) → k < result → slice_index (entry_numbers items.now) k < number }
+    ensures from { (k : ℕ) → result ≤ k → k < length items.now → number ≤ slice_index (entry_numbers items.now) k }
 {
-    items.partition_point(|item| *item < number)
+    items.partition_point(|item| item.number < number)
 }
 
-/// The place of the first number that is more than this one, or how many numbers there are.
-fn first_beyond(items: &[u128], number: u128) -> usize
-    requires { IsNonDecreasing items.now }
+/// The place of the first entry whose number is more than this one, or how many entries there are.
+fn first_beyond(items: &[Counted], number: u128) -> usize
+    requires { IsNonDecreasingBy (λ c. c.number) items.now }
     ensures within { result ≤ length items.now }
-    ensures up_to { (k : ℕ) → k < result → slice_index items.now k ≤ number }
-    ensures beyond { (k : ℕ) → result ≤ k → k < length items.now → number < slice_index items.now k }
+    ensures up_to { (k : ℕ) → k < result → slice_index (entry_numbers items.now) k ≤ number }
+    ensures beyond { (k : ℕ) → result ≤ k → k < length items.now → number < slice_index (entry_numbers items.now) k }
 {
-    items.partition_point(|item| *item <= number)
+    items.partition_point(|item| item.number <= number)
+}
+
+/// The place of the last entry of a number, which is there.
+fn place_of(items: &[Counted], number: u128) -> usize
+    requires rising { IsNonDecreasingBy (λ c. c.number) items.now }
+    requires counted { All (λ c. 0 < c.count) items.now }
+    requires there { 0 < times number (numbers_in items.now) }
+    ensures within { result < length items.now }
+    ensures number { slice_index (entry_numbers items.now) result ≡ number }
+{
+    first_beyond(items, number) - 1
+}
+
+/// The count with one more of the entry in front of a place, if that is of this number and its count can rise.
+fn raised_count(items: &[Counted], beyond: usize, number: u128) -> Option<u32>
+    requires { beyond ≤ length items.now }
+    ensures { IfSome result (λ count. (0 < beyond) × (slice_index (entry_numbers items.now) (beyond - 1) ≡ number) × (slice_index (entry_counts items.now) (beyond - 1) + 1 ≡ count)) }
+{
+    if beyond == 0 {
+        return None;
+    }
+    let before = &items[beyond - 1];
+    if before.number == number {
+        before.count.checked_add(1)
+    } else {
+        None
+    }
+}
+
+/// Inserts an entry for a number that was put in once, for which there is room.
+fn insert_entry(items: &mut Vec<Counted>, place: usize, number: u128)
+    requires within { place ≤ length items.old.items }
+    requires room { vec_len items.old < vec_capacity items.old }
+    ensures { items.new.items ≡ insert items.old.items place (record { number = number; count = 1 }) }
+{
+    let Ok(()) = items.insert(place, Counted { number, count: 1 }) else {
+        unreachable!()
+    };
+}
+
+/// Sets the count of the entry at a place.
+fn set_count(items: &mut [Counted], place: usize, count: u32)
+    requires within { place < length items.old }
+    requires some { 0 < count }
+    ensures length { length items.new ≡ length items.old }
+    ensures rising { IsNonDecreasingBy (λ c. c.number) items.old → IsNonDecreasingBy (λ c. c.number) items.new }
+    ensures counted { All (λ c. 0 < c.count) items.old → All (λ c. 0 < c.count) items.new }
+    ensures times { (n : ℕ) → times n (numbers_in items.new) + (if slice_index (entry_numbers items.old) place == n then slice_index (entry_counts items.old) place else 0) ≡ times n (numbers_in items.old) + (if slice_index (entry_numbers items.old) place == n then count else 0) }
+{
+    items[place].count = count;
 }
 
 /// How many leading bits tell x from the number at a place, and 0 if there is none.
-fn bits_apart_at(items: &[u128], place: usize, width: u32, x: u128) -> u32
+fn bits_apart_at(items: &[Counted], place: usize, width: u32, x: u128) -> u32
     requires wide { width ≤ 128 }
     requires fits { x < 2 ^ width }
-    requires fit { All (λ v. v < 2 ^ width) items.now }
-    ensures { (n : ℕ) → n ≤ width → (nat_lt place (length items.now) && xlate.starts_alike width x (slice_index items.now place) n) ≡ nat_lt n result }
+    requires fit { All (λ v. v < 2 ^ width) (entry_numbers items.now) }
+    ensures { (n : ℕ) → n ≤ width → (nat_lt place (length items.now) && xlate.starts_alike width x (slice_index (entry_numbers items.now) place) n) ≡ nat_lt n result }
 {
     if place < items.len() {
-        common_leading(width, x, items[place]) + 1
+        common_leading(width, x, items[place].number) + 1
     } else {
         0
     }
