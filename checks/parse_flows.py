@@ -6,7 +6,7 @@
 takes the lines of flow_lines.txt and those of the examples' files of edits, but for sync lines. Of each line it is
 compared whether it is accepted; where both accept it, what ovs-ofctl prints of it is read here and has to mean the
 same, and what is printed here of it, as a line of dumped rules, is read by ovs-ofctl and has to mean the same. It is the
-simulation in examples/ that prints here. Where the program FLOW_PRINT is given, which crates/flow_print is, it has to
+simulation in examples/ that prints here. Where the program FLOW_PRINT is given, which crates/tool_flow_print is, it has to
 print the match and the actions of each line that is accepted here alike.
 
 docs/OPEN_VSWITCH.md says where the two differ by intention. Each such difference is a kind below, with its reason. A

@@ -24,7 +24,7 @@
 //!
 //! # What is left to others
 //!
-//! What was decided of the frames, and what is sent of them (`egress_merge`).
+//! What was decided of the frames, and what is sent of them (`egress_capture`).
 #![tactic(auto)]
 
 mod arrivals;

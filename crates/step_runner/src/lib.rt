@@ -29,7 +29,7 @@
 //! # What is left to others
 //!
 //! Given schedules of steps, and tables that are published to threads: neither is built yet. What is written of the boards,
-//! `egress_merge` and `flow_dump` write; what datapath actions make of a frame is `action_exec`'s.
+//! `egress_capture` and `flow_dump` write; what datapath actions make of a frame is `action_exec`'s.
 #![tactic(auto)]
 
 mod finishing;

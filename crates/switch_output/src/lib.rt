@@ -14,7 +14,7 @@
 //!
 //! # How
 //!
-//! Each file has a name and a call of `egress_merge` or `flow_dump`. The filters that tell a port which frames may be for
+//! Each file has a name and a call of `egress_capture` or `flow_dump`. The filters that tell a port which frames may be for
 //! it are made once, before the first file: 4 bytes for each frame. Beside them nothing but names, the copy of a frame
 //! that is rewritten, and a line of the journal takes memory. What was written before is a list of whole files, to which
 //! each call adds one.

@@ -6,13 +6,13 @@ ghost use Rattle.edge_io.specs.declared.outside.InUse.TheVariants.{Nothing};
 ghost use Rattle.edge_io.specs.Shelf.{kept};
 ghost use Rattle.edge_io.specs.Written.{written};
 ghost use Rattle.pmd_board.specs.BoardView.{journals_view};
-ghost use Rattle.egress_merge.specs.Boards.{IsAllDecided};
-ghost use Rattle.egress_merge.specs.Filters.{AreFilters};
+ghost use Rattle.egress_capture.specs.Boards.{IsAllDecided};
+ghost use Rattle.egress_capture.specs.Filters.{AreFilters};
 ghost use Rattle.switch_output.specs.Refused.{IfWriteFault, HasCause, IsCutIn};
 
 use crate::refusal::WriteRefusal;
 use edge_io::{Failed, Shelf};
-use egress_merge::{PortFilter, filters_of, write_port};
+use egress_capture::{PortFilter, filters_of, write_port};
 use flow_dump::write_journals;
 use pmd_board::Board;
 use run_case::{Case, RunData};

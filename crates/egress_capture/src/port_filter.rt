@@ -1,0 +1,85 @@
+//! Which ports actions may send to, told in a number, so that a port passes over the frames of others quickly.
+ghost use Rattle.std.specs.Prelude.{◌≡◌, ◌%◌, ℕ, true, false, All, IfOk, map};
+ghost use Rattle.std.specs.Int.{bit_at};
+ghost use Rattle.spec_case.specs.Arrivals.{in_order, arrivals as came_in};
+ghost use Rattle.pmd_board.specs.BoardView.{journals_view};
+ghost use Rattle.egress_capture.specs.Boards.{IsAllDecided};
+ghost use Rattle.egress_capture.specs.Sending.{sends_to};
+ghost use Rattle.egress_capture.specs.Filters.{bit_of, PassesAll, AreFilters};
+
+use crate::port_file::actions_of;
+use pmd_board::Board;
+use run_case::{Case, RunData};
+use spec_actions::DpAction;
+use spec_case::Arrival;
+use std::alloc::{AllocError, Global};
+
+/// How many bits a filter has.
+const BITS: u16 = 32;
+
+/// A bit for each port that a list of actions sends to: that of the port's number modulo `BITS`.
+///
+/// Ports share bits, so that a port whose bit is there may still get nothing. One whose bit isn't there gets nothing.
+#[derive(Clone, Copy, Debug)]
+pub struct PortFilter {
+    bits: u32,
+}
+
+impl PortFilter {
+    // The filter with the port of one more action, if it is an output.
+    fn with(self, action: &DpAction) -> PortFilter
+        ensures { (port : ℕ) → bit_at result.bits (bit_of port) ≡ 0
+            → (bit_at self.bits (bit_of port) ≡ 0) × (sends_to port action.now ≡ false) }
+    {
+        match action {
+            DpAction::Output(port) => PortFilter {
+                bits: self.bits | 1 << (port % BITS),
+            },
+            _ => self,
+        }
+    }
+
+    // The filter of actions.
+    fn of(actions: &[DpAction]) -> PortFilter
+        ensures { PassesAll actions.now result }
+    {
+        let mut filter = PortFilter { bits: 0 };
+        'actions: for action in actions {
+            filter = filter.with(action);
+        }
+        filter
+    }
+
+    /// Whether the port's bit is there.
+    pub fn may_send_to(self, port: u16) -> bool
+        ensures { result ≡ false → bit_at self.bits (bit_of port) ≡ 0 }
+    {
+        self.bits >> (port % BITS) & 1 == 1
+    }
+}
+
+/// The filters of what was decided of each arrival, in the order of the arrivals. They are made once, for the files of
+/// all ports.
+///
+/// It takes 4 bytes for each arrival; there may be no memory for them.
+pub fn filters_of<C: Case>(
+    alloc: Global,
+    run: &RunData<C>,
+    boards: &[Board<C>],
+    arrivals: &[Arrival],
+) -> Result<Vec<PortFilter>, AllocError>
+    requires boards { map (λ b. b.port) boards.now ≡ C.run.ports }
+    requires arrivals { arrivals.now ≡ in_order (came_in C.run) }
+    requires decided { All (IsAllDecided C.run) boards.now }
+    ensures { IfOk result (λ v. AreFilters C.run (journals_view boards.now) arrivals.now v.items) }
+{
+    // The ports differ, so that each arrival is a frame of its port's own trace.
+    let ports = run.ports().len() as usize;
+    prove!(boards.len() == ports);
+    let mut filters = Vec::with_capacity(alloc, arrivals.len())?;
+    'arrivals: for arrival in arrivals {
+        let actions = actions_of(run, boards, *arrival);
+        filters.push(PortFilter::of(actions))?;
+    }
+    Ok(filters)
+}

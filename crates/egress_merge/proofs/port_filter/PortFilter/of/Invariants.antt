@@ -1,6 +1,0 @@
-use Rattle.std.proofs.Common.{take}
-use Rattle.egress_merge.specs.Filters.{PassesAll}
-use Rattle.egress_merge.proofs.port_filter.PortFilter.of.Given as goal
-
-abbrev pub invariant-actions : goal.invariant-actions
-invariant-actions l = PassesAll (take l.action-index l.actions) l.filter

@@ -1,8 +1,0 @@
-use Rattle.egress_merge.specs.Sending.{sends_to}
-use Rattle.egress_merge.proofs.Filters.{with_output}
-use Rattle.egress_merge.proofs.port_filter.PortFilter.with.Goals as goal
-
-pub returns-in-Output : goal.returns-in-Output
-returns-in-Output c = λ port absent.
-    let both = with_output c.args.self.bits c.in-Output.port port absent in
-    rw c.in-Output.is both

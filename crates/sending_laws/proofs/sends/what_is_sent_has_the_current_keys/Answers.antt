@@ -1,0 +1,17 @@
+use Rattle.sending_laws.proofs.Sent.{sent-ports, sent-made, sent-turned, sent-keys, sent-short}
+use Rattle.sending_laws.proofs.sends.what_is_sent_has_the_current_keys.Goals as goal
+
+pub returns-clause-ports : goal.returns-clause-ports
+returns-clause-ports c = sent-ports
+
+pub returns-clause-made : goal.returns-clause-made
+returns-clause-made c sw port frame came = sent-made port frame came sw
+
+pub returns-clause-field_by_field : goal.returns-clause-field_by_field
+returns-clause-field_by_field c sw port frame came none = sent-turned port frame came sw none
+
+pub returns-clause-as_a_whole : goal.returns-clause-as_a_whole
+returns-clause-as_a_whole c sw port frame came none headers = sent-keys port frame came sw none headers
+
+pub returns-clause-short : goal.returns-clause-short
+returns-clause-short c = sent-short

@@ -1,0 +1,42 @@
+//! The words of the command line, and the files that they name.
+ghost use Rattle.std.specs.Prelude.{IfOk};
+ghost use Rattle.switch_input.specs.InputViews.{IsBuilt};
+
+use anyhow::{Result, anyhow};
+use edge_real::RealShelf;
+use tool_input::{number_of, split_rounds};
+use switch_input::{Inputs, read_inputs};
+
+/// What the words of the command line say, and what their files have.
+#[derive(Drop)]
+pub struct Command<'a> {
+    pub inputs: Inputs<'a>,
+    /// The most megaflows of a port.
+    pub flow_limit: u32,
+    /// How many times the run is carried out.
+    pub rounds: u32,
+}
+
+/// What the words of the switch and their files have.
+fn inputs_of<'a>(rt: &HostRuntime, words: &'a [String]) -> Result<Inputs<'a>>
+    ensures { IfOk result IsBuilt }
+{
+    match read_inputs(rt.alloc(), words, &mut RealShelf::new(rt)) {
+        Ok(inputs) => Ok(inputs),
+        Err(refusal) => Err(anyhow!("{refusal:?}")),
+    }
+}
+
+/// Reads the words of the command line and the files that they name, as the switch does.
+pub fn read_command<'a>(rt: &HostRuntime, words: &'a [String]) -> Result<Command<'a>>
+    ensures { IfOk result (λ command. IsBuilt command.inputs) }
+{
+    let (words, rounds) = split_rounds(words)?;
+    let inputs = inputs_of(rt, words)?;
+    let flow_limit = number_of("megaflows", inputs.command.out)?;
+    Ok(Command {
+        inputs,
+        flow_limit,
+        rounds: rounds.unwrap_or(1),
+    })
+}

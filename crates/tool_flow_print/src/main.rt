@@ -1,0 +1,50 @@
+//! The command `tool_flow_print FILE`: the flows of a file of edits as they are printed.
+//!
+//! It prints a line for each edit, its match and its actions, in the one form of each (`match_text`, `action_text`). So
+//! `checks/parse_flows.py` holds what is printed against what ovs-ofctl reads. A file that has a fault is refused as a
+//! whole, with its first one.
+#![tactic(auto)]
+
+ghost use Rattle.std.specs.Prelude.{IsTrue};
+ghost use Rattle.std.specs.List.{list_all};
+ghost use Rattle.edit_script.specs.Plain.{has_sound_actions};
+
+use action_text::print_actions;
+use anyhow::{Result, bail};
+use edit_script::Edit;
+use match_text::print_match;
+use tool_input::read_edits;
+use std::alloc::AllocError;
+use std::env;
+
+/// Adds the line of an edit.
+fn print_edit(edit: &Edit, text: &mut String) -> Result<(), AllocError>
+    requires { IsTrue (has_sound_actions edit.now) }
+{
+    print_match(&edit.matching, text)?;
+    text.push_str(" actions=")?;
+    print_actions(edit.actions.as_slice(), text)?;
+    text.push('\n')
+}
+
+/// Adds the lines of edits.
+fn print_edits(edits: &[Edit], text: &mut String) -> Result<(), AllocError>
+    requires { IsTrue (list_all has_sound_actions edits.now) }
+{
+    for edit in edits {
+        print_edit(edit, text)?;
+    }
+    Ok(())
+}
+
+fn main(rt: HostRuntime) -> Result<()> {
+    let words: Vec<String> = env::args(&rt)?.skip(1).collect(rt.alloc())?;
+    let [name] = words.as_slice() else {
+        bail!("use: tool_flow_print FILE");
+    };
+    let script = read_edits(&rt, name)?;
+    let mut text = String::new(rt.alloc());
+    print_edits(&script.edits, &mut text)?;
+    print!(rt; "{text}")?;
+    Ok(())
+}

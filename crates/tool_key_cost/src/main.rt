@@ -1,0 +1,70 @@
+//! The command `tool_key_cost FILE ROUNDS`, by which `bench/keys` measures what the key of a frame costs.
+//!
+//! It reads a capture file, makes the key of every frame of it in each round, and prints a number that all keys go
+//! into, so that none is left out. It looks at no clock: two runs with different numbers of rounds differ only in
+//! keys, and whoever runs it takes the time of both.
+//!
+//! Nothing is promised of the number, which `bench/keys.c` makes too, and compares.
+#![tactic(auto)]
+
+ghost use Rattle.std.specs.Prelude.{◌^◌, ◌≤◌, length};
+
+use anyhow::{Result, bail};
+use frame_keys::key_of;
+use tool_input::{number_of, read_capture};
+use ovs_fields::{FieldId, Key, all_fields};
+use pcap_reader::Trace;
+use std::alloc::Global;
+use std::env;
+
+/// The port at which all frames come in.
+const PORT: u16 = 1;
+
+/// A call of its own, so that the whole key is made whichever field is looked at.
+#[inline(never)]
+fn key_at_port(frame: &[u8]) -> Key {
+    key_of(PORT, frame)
+}
+
+/// The number after the keys of all frames, of each of which one field goes in.
+fn round(number: u128, field: FieldId, frames: &[&[u8]]) -> u128 {
+    let mut number = number;
+    for frame in frames {
+        number = number.rotate_left(1) ^ key_at_port(frame).get(field);
+    }
+    number
+}
+
+/// A round looks at one field, and so none is left out.
+fn rounds(count: u32, frames: &[&[u8]]) -> u128 {
+    let fields = all_fields().iter().cycle();
+    fields
+        .take(count as usize)
+        .fold(0, |number, field| round(number, *field, frames))
+}
+
+fn frames_of(alloc: Global, trace: &Trace) -> Result<Vec<&[u8]>>
+    requires { length trace.now.frames ≤ 2 ^ 24 }
+{
+    let mut frames = Vec::with_capacity(alloc, trace.len())?;
+    for place in 1..=trace.len() as u32 {
+        frames.push(trace.frame(place))?;
+    }
+    Ok(frames)
+}
+
+fn main(rt: HostRuntime) -> Result<()> {
+    let words: Vec<String> = env::args(&rt)?.skip(1).collect(rt.alloc())?;
+    let [name, count] = words.as_slice() else {
+        bail!("use: tool_key_cost FILE ROUNDS");
+    };
+    let count = number_of("rounds", count)?;
+    let trace = read_capture(&rt, name)?;
+    let frames = frames_of(rt.alloc(), &trace)?;
+    println!(rt;
+        "{:032x} frames={} rounds={count}",
+        rounds(count, &frames),
+        frames.len()
+    )?;
+    Ok(())
+}

@@ -1,8 +1,0 @@
-use Rattle.translation_sends.proofs.MadeOutputs.{outputs-keys, outputs-ways}
-use Rattle.translation_sends.proofs.actions.outputs_are_made_of_the_packet.Goals as goal
-
-pub returns-clause-keys : goal.returns-clause-keys
-returns-clause-keys c = outputs-keys
-
-pub returns-clause-ports : goal.returns-clause-ports
-returns-clause-ports c = outputs-ways
