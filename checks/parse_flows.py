@@ -45,7 +45,7 @@ ACCEPTED_THERE = [
     Kind("^unsupported", "fields and actions that are left out here, or aren't written"),
     Kind("^actions 64", "no limit of 64 actions"),
     Kind("^bad value: .*in_port=(0|65280|LOCAL),", "ports that are none, and names of ports"),
-    Kind(r"^bad value: .*(reg0=010|/08|=010\.0|,01\)|=02$)", "leading zeros; of a number they mean octal there"),
+    Kind(r"^bad value: .*(reg0=010|=010\.0|,01\)|=02$)", "leading zeros; of a number they mean octal there"),
     Kind(r"^bad value: .*dl_dst=(\*|002)", "any number of digits in a group, and * for anything"),
     Kind(r"^bad value: .*(vlan_vid=8192|vlan_pcp=8|dl_vlan=4096|arp_op=256|\.256)", "cut to the field there"),
     Kind("^bad value: .*(nw_tos=3|ip_dscp=64|nw_ecn=4),", "cut to the field there"),

@@ -241,9 +241,10 @@ def prefix(width, length):
 
 
 def read_mask(field, text):
-    """A mask, which of an IP address may be a length."""
+    """A mask, which of an IP address may be a length: decimal digits, perhaps after zeros."""
     if field.form in (IPV4, IPV6) and re.fullmatch("[0-9]+", text):
-        return prefix(field.width, read_decimal(text, field.width))
+        require(int(text) <= field.width)
+        return prefix(field.width, int(text))
     return read_plain(field, text)
 
 

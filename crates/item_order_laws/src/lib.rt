@@ -4,12 +4,14 @@
 //! # What is promised
 //!
 //! - A line in which two items that stand side by side change places is read alike: the same match, table, priority and
-//!   cookie, and a list of actions from the same place on (`order_of_items_changes_nothing`). Any other order is one of
-//!   such changes after another.
+//!   cookie, and a list of actions from the same place on (`order_of_items_changes_nothing`). One separator stands
+//!   between them, and at least one in front of the first and behind the second; each stays where it is. Any other order
+//!   of such items is one of such changes after another.
 //! - So either order is a fault, or neither is. Which fault it is depends on the order: that of the first bad item, at its
 //!   column. `Rows` has a line that shows it.
 //!
-//! The list of actions itself is no such item (`PlainItems.is_item`): what stands after `actions=` belongs to the list.
+//! The list of actions itself is no such item (`PlainItems.is_item`): what stands after `actions=` belongs to the list. Nor
+//! is a text that is empty, or that has a separator or a number sign in it.
 //!
 //! # How
 //!

@@ -78,7 +78,8 @@ impl<C: Case> Xlated<C> {
         &self.made.visits
     }
 
-    /// The bits of the key that were consulted: every clean key that agrees with this one on them is translated alike.
+    /// The bits of the key that were consulted. Where this key is clean, every clean key that agrees with it on them is
+    /// translated alike.
     pub fn mask(&self) -> &Mask
         ensures mask { bits result.now ≡ mask_for C.run self.now.version self.now.key }
         ensures sound { IsSound C.run self.now }

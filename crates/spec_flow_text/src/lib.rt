@@ -6,7 +6,9 @@
 //!   the first fault.
 //! - `Matches`: which of the stated bits are kept, and the match that they make; what a line says before its actions.
 //! - `Actions`: the actions of a list, one after the other, and the first fault.
+//! - `Lines`: the edit of a line, whose word may stand in front.
 //! - `Printed`: the one text of a match and of an action list.
+//! - `Given`: what is said of a function that reads text, beside what is defined.
 #![tactic(auto)]
 
 mod fault;

@@ -8,8 +8,8 @@
 //! - `CutShort`: how far they are written where writing ends early.
 //! - `Statuses`: the exit statuses, the texts that go with them, and when a text is printed whole.
 //!
-//! Whoever reads these, the specification crates below them and the contract of `run_switch` knows what is claimed of
-//! the switch, and needs to read no body.
+//! Whoever reads these, the specification crates below them and the contract of `run_switch`, with the traits of
+//! `edge_io` that it speaks of, knows what is claimed of the switch, and needs to read no body.
 #![tactic(auto)]
 
 mod quantity;

@@ -6,6 +6,8 @@
 //! - `Rules`: matches, rules, and the *winner* of a table for a key: the matching rule of the greatest priority, of
 //!   equal ones that of the least number.
 //! - `Edits`: what each kind of edit does, and the versions.
+//! - `Live`: a rule by its number, as it was added and in a version.
+//! - `Changes`: how many rules edits change.
 //! - `SyncPoint`: a time that stands between two edits.
 #![tactic(auto)]
 

@@ -25,9 +25,9 @@
 //!
 //! # What is left to others
 //!
-//! That a printed match reads back is a law of `match_text_laws`; that what was read can be spelled, and so reads back from its
-//! print, are laws of `round_trip_laws`. That programs read and print by the grammar is the contract of `match_text`,
-//! `action_text` and `edit_script`. These laws stand apart, so that a new one proves no reader again.
+//! That a printed match reads back is a law of `match_text_laws`; that what was read can be spelled, and so reads back
+//! from its print, are laws of `round_trip_laws`. That programs read and print by the grammar is the contract of
+//! `match_text`, `action_text` and `edit_script`. These laws stand apart, so that a new one proves no reader again.
 #![tactic(auto)]
 
 mod comments;

@@ -15,9 +15,10 @@
 //! whose rules can be run (`pipe_model`'s `AreRunnable`), and every list of ports, under the same three limits as the
 //! plain interpreter.
 //!
-//! Of a `Translated` callers learn what a megaflow needs (`IsSound`, specs/Xlates.antt): every clean key that agrees with the
-//! packet's on the mask has the same translation, and consults the same bits. A key is clean where metadata and registers
-//! are 0, as they are in the key of each frame, and so none of their bits is in the mask.
+//! Of a `Translated` callers learn what a megaflow needs (`IsSound`, specs/Xlates.antt): where the packet's own key is
+//! clean, every clean key that agrees with it on the mask has the same translation, and consults the same bits. A key is
+//! clean where metadata and registers are 0, as they are in the key of each frame. Of other keys it need not hold: what a
+//! translation reads of registers that were set isn't in the mask, which has none of their bits.
 //!
 //! The only error is out of memory, and then nothing is left behind. Where what is made fits in the lists that were handed
 //! in, no memory is taken.
