@@ -1,5 +1,5 @@
 #!/usr/bin/env python3
-"""Worked rows of the caches, each named by what it shows, against the simulation in examples/.
+"""Worked rows of the caches, each named by what it shows, against the simulation.
 
     python3 cache_rows.py
 
@@ -12,14 +12,14 @@ from collections import namedtuple
 
 sys.dont_write_bytecode = True
 TOP = os.path.join(os.path.dirname(os.path.abspath(__file__)), "..")
-sys.path[:0] = [os.path.join(TOP, "examples"), os.path.join(TOP, "vectors")]
-from caches import FLOW_LIMIT, Board, ExactCache, hash_of
-from flow_fields import packed
-from flow_rules import versions
-from flow_text import read_script
-from frame_key import key_of
+sys.path.insert(0, os.path.join(TOP, "vectors"))
 from row_check import tell
-from simulate import SECOND, Frame, blocks_of, run_board, translator
+from simulation.caches import FLOW_LIMIT, Board, ExactCache, hash_of
+from simulation.flow_fields import packed
+from simulation.flow_rules import versions
+from simulation.flow_text import read_script
+from simulation.frame_key import key_of
+from simulation.switch import SECOND, Frame, blocks_of, run_board, translator
 
 PORT, PORTS = 1, [1, 2, 3]
 

@@ -1,5 +1,5 @@
 #!/usr/bin/env python3
-"""Compares the program with examples/simulate.py on the runs of made_runs.py.
+"""Compares the program with the simulation on the runs of made_runs.py.
 
     python3 compare.py PROGRAM ROUNDS
 

@@ -1,5 +1,5 @@
 #!/usr/bin/env python3
-"""Worked rows of the flow text, each named by what it shows, against the simulation in examples/.
+"""Worked rows of the flow text, each named by what it shows, against the simulation.
 
     python3 flow_text_rows.py
 
@@ -12,17 +12,17 @@ import sys
 
 sys.dont_write_bytecode = True
 HERE = os.path.dirname(os.path.abspath(__file__))
-sys.path[:0] = [os.path.join(HERE, "..", "examples"), os.path.join(HERE, "..", "vectors")]
+sys.path.insert(0, os.path.join(HERE, "..", "vectors"))
 import expected
 import make
-from flow_fields import TAG, full, packed
-from flow_rules import Rules
-from flow_text import TextFault, print_actions, print_match, read_script
-from frame_key import key_of
 from frames import ALL_FRAMES
 from mutations import good_lines
 from row_check import tell
-from simulate import Frame, simulate, write_trace
+from simulation.flow_fields import TAG, full, packed
+from simulation.flow_rules import Rules
+from simulation.flow_text import TextFault, print_actions, print_match, read_script
+from simulation.frame_key import key_of
+from simulation.switch import Frame, simulate, write_trace
 
 # What a row shows, a file of edits, and the line, column and reason of its first fault.
 FAULTS = """

@@ -8,16 +8,16 @@ import sys
 
 sys.dont_write_bytecode = True
 TOP = os.path.join(os.path.dirname(os.path.abspath(__file__)), "..")
-sys.path[:0] = [os.path.join(TOP, "examples"), os.path.join(TOP, "vectors")]
-from flow_fields import (
+sys.path.insert(0, os.path.join(TOP, "vectors"))
+from frames import ALL_FRAMES
+from rewritings import ROWS
+from simulation.flow_fields import (
     ETHERTYPE_ARP, ETHERTYPE_IPV4, ETHERTYPE_IPV6, KEY_FIELD, NAMED_FIELDS, PROTOCOL_ICMP, PROTOCOL_ICMPV6,
     PROTOCOL_TCP, PROTOCOL_UDP, TAG, full, print_value,
 )
-from flow_text import WRITTEN_WHOLE
-from frame_key import key_of
-from frames import ALL_FRAMES
-from rewritings import ROWS
-from translation import can_write
+from simulation.flow_text import WRITTEN_WHOLE
+from simulation.frame_key import key_of
+from simulation.translation import can_write
 
 # Frames of all protocols, most of them with right checksums in ROWS.
 FRAMES = [*(frame.bytes for frame in ALL_FRAMES), *(row.frame for row in ROWS)]

@@ -12,7 +12,7 @@ and `full`, since there are fewer frames than entries may be.
 
     python3 made_runs.py ROUNDS
 
-prints how often each result stands in the journals of the simulation in examples/.
+prints how often each result stands in the journals of the simulation.
 """
 import os
 import random
@@ -22,12 +22,12 @@ from collections import Counter, namedtuple
 
 sys.dont_write_bytecode = True
 TOP = os.path.join(os.path.dirname(os.path.abspath(__file__)), "..")
-sys.path[:0] = [os.path.join(TOP, "examples"), os.path.join(TOP, "vectors")]
-from flow_fields import KEY_FIELD, NAMED_FIELDS, full, packed
-from flow_text import Match, print_match
-from frame_key import key_of
+sys.path.insert(0, os.path.join(TOP, "vectors"))
 from made_actions import KINDS, REGISTERS, SMALL, TABLES, ActionMaker, Picker
-from simulate import simulate
+from simulation.flow_fields import KEY_FIELD, NAMED_FIELDS, full, packed
+from simulation.flow_text import Match, print_match
+from simulation.frame_key import key_of
+from simulation.switch import simulate
 
 PORTS = [1, 2, 3, 9, 40, 65279]
 ADDRESSES = ["0:0:0:0:0:0", "00:00:00:00:00:02", "02:00:00:00:00:0a", "2:0:0:0:0:A", "ff:ff:ff:ff:ff:ff"]

@@ -1,5 +1,5 @@
 #!/usr/bin/env python3
-"""Worked rows of masks, each named by what it shows, against the simulation in examples/.
+"""Worked rows of masks, each named by what it shows, against the simulation.
 
     python3 mask_rows.py
 
@@ -11,19 +11,19 @@ import sys
 
 sys.dont_write_bytecode = True
 TOP = os.path.join(os.path.dirname(os.path.abspath(__file__)), "..")
-sys.path[:0] = [os.path.join(TOP, "examples"), os.path.join(TOP, "vectors")]
-from classifier import Tables
-from dump_text import print_datapath_actions, print_entry_match
-from flow_fields import packed
-from flow_rules import versions
-from flow_text import read_script
-from frame_key import key_of
+sys.path.insert(0, os.path.join(TOP, "vectors"))
 from made_runs import CacheMaker
 from rewriting_rows import (
     FIRST, HOPS, LAST_HOP, LATER, REQUEST, TO_2, TO_WEB, UDP_FRAME, datagram, datagram_6, plain,
 )
 from row_check import tell
-from translation import translate
+from simulation.classifier import Tables
+from simulation.dump_text import print_datapath_actions, print_entry_match
+from simulation.flow_fields import packed
+from simulation.flow_rules import versions
+from simulation.flow_text import read_script
+from simulation.frame_key import key_of
+from simulation.translation import translate
 
 PORTS = [1, 2, 3]
 MADE_TABLES = 300

@@ -1,5 +1,5 @@
 #!/usr/bin/env python3
-"""Compares the masks of a program's translations with those of the simulation in examples/, on made-up tables.
+"""Compares the masks of a program's translations with those of the simulation, on made-up tables.
 
     python3 masks.py PROGRAM [TABLES]
 
@@ -21,17 +21,17 @@ from collections import namedtuple
 
 sys.dont_write_bytecode = True
 TOP = os.path.join(os.path.dirname(os.path.abspath(__file__)), "..")
-sys.path[:0] = [os.path.join(TOP, "examples"), os.path.join(TOP, "vectors")]
-from classifier import TRACKED, Tables
-from dump_text import print_datapath_actions
-from flow_fields import KEY_FIELD, KEY_FIELDS, packed, prefix, unpacked
-from flow_rules import versions
-from flow_text import Match, print_match, read_script
-from frame_key import key_of
+sys.path.insert(0, os.path.join(TOP, "vectors"))
 from made_runs import CacheMaker
 from mask_rows import PORTS, ROWS, rules_of
-from simulate import MICROSECOND, Frame, write_trace
-from translation import translate
+from simulation.classifier import TRACKED, Tables
+from simulation.dump_text import print_datapath_actions
+from simulation.flow_fields import KEY_FIELD, KEY_FIELDS, packed, prefix, unpacked
+from simulation.flow_rules import versions
+from simulation.flow_text import Match, print_match, read_script
+from simulation.frame_key import key_of
+from simulation.switch import MICROSECOND, Frame, write_trace
+from simulation.translation import translate
 
 TABLES = 300
 MOST_EDITS = 20

@@ -4,7 +4,7 @@
     python3 mutations.py PROGRAM COUNT [SEED]
 
 A line is one of flow_lines.txt that is accepted, with one to three mutations. The status and the text have to be those
-of examples/simulate.py, and so the line, the column and the reason of a fault, or the limit. The same seed, which is
+of the simulation, and so the line, the column and the reason of a fault, or the limit. The same seed, which is
 printed, gives the same lines. It prints each line that differs, as Python writes bytes, and then ends with 1.
 """
 import os
@@ -17,9 +17,8 @@ from collections import Counter
 
 sys.dont_write_bytecode = True
 HERE = os.path.dirname(os.path.abspath(__file__))
-sys.path.insert(0, os.path.join(HERE, "..", "examples"))
-from flow_text import OverLimit, TextFault, read_script
-from simulate import simulate
+from simulation.flow_text import OverLimit, TextFault, read_script
+from simulation.switch import simulate
 
 WORDS = ["edits", "out", "1=", "2="]
 # Bytes that mean something in flow text; any other byte is put in now and then.

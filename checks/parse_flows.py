@@ -6,8 +6,8 @@
 takes the lines of flow_lines.txt and those of the examples' files of edits, but for sync lines. Of each line it is
 compared whether it is accepted; where both accept it, what ovs-ofctl prints of it is read here and has to mean the
 same, and what is printed here of it, as a line of dumped rules, is read by ovs-ofctl and has to mean the same. It is the
-simulation in examples/ that prints here. Where the program FLOW_PRINT is given, which crates/tool_flow_print is, it has to
-print the match and the actions of each line that is accepted here alike.
+simulation that prints here. Where the program FLOW_PRINT is given, which crates/tool_flow_print is, it has to print the
+match and the actions of each line that is accepted here alike.
 
 docs/OPEN_VSWITCH.md says where the two differ by intention. Each such difference is a kind below, with its reason. A
 line that differs otherwise is printed, as is a kind that no line shows, and the status is then 1.
@@ -28,8 +28,7 @@ from itertools import zip_longest
 sys.dont_write_bytecode = True
 HERE = os.path.dirname(os.path.abspath(__file__))
 EXAMPLES = os.path.join(HERE, "..", "examples")
-sys.path.insert(0, EXAMPLES)
-from flow_text import DELETES, WORDS, OverLimit, Slice, TextFault, print_actions, print_match, read_script
+from simulation.flow_text import DELETES, WORDS, OverLimit, Slice, TextFault, print_actions, print_match, read_script
 
 # OpenFlow 1.0 has no masks of set_field, no tags to push and no goto_table.
 NEEDS_NEWER = re.compile("set_field|push_vlan|goto_table")

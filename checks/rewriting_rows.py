@@ -1,5 +1,5 @@
 #!/usr/bin/env python3
-"""Worked rows of translation and rewriting, each named by what it shows, against the simulation in examples/.
+"""Worked rows of translation and rewriting, each named by what it shows, against the simulation.
 
     python3 rewriting_rows.py
 
@@ -13,23 +13,23 @@ import sys
 
 sys.dont_write_bytecode = True
 TOP = os.path.join(os.path.dirname(os.path.abspath(__file__)), "..")
-sys.path[:0] = [os.path.join(TOP, "examples"), os.path.join(TOP, "vectors")]
+sys.path.insert(0, os.path.join(TOP, "vectors"))
 import expected
 import make
-from classifier import Tables
-from flow_fields import (
-    ETHERTYPE_ARP, ETHERTYPE_IPV4, ETHERTYPE_IPV6, PROTOCOL_ICMP, PROTOCOL_ICMPV6, PROTOCOL_TCP, PROTOCOL_UDP, packed,
-)
-from flow_rules import versions
-from flow_text import Action, read_script
-from frame_key import ETHERNET_HEADER, headers_of, key_of, transport_protocol
 from frames import ALL_FRAMES
 from made_actions import ActionMaker
-from rewriting import sent, transport_begin
 from rewritings import ROWS
 from row_check import tell
+from simulation.classifier import Tables
+from simulation.flow_fields import (
+    ETHERTYPE_ARP, ETHERTYPE_IPV4, ETHERTYPE_IPV6, PROTOCOL_ICMP, PROTOCOL_ICMPV6, PROTOCOL_TCP, PROTOCOL_UDP, packed,
+)
+from simulation.flow_rules import versions
+from simulation.flow_text import Action, read_script
+from simulation.frame_key import ETHERNET_HEADER, headers_of, key_of, transport_protocol
+from simulation.rewriting import sent, transport_begin
+from simulation.translation import translate
 from sums import wrong_sums
-from translation import translate
 
 PORTS = [1, 2, 3]
 MADE_LISTS = 2000

@@ -4,9 +4,11 @@
     python3 vectors/make.py                  writes frames.tsv, which needs tshark
     python3 vectors/make.py --rows           writes the rows in crates/frame_vectors/proofs from frames.tsv
     python3 vectors/make.py --check          tells whether these rows are those of frames.tsv: status 0, or else 1
+    python3 vectors/make.py --asked          tells whether tshark still prints frames.tsv, its version aside: so too
     python3 vectors/make.py --capture FILE   writes the frames as a capture file
 """
 import argparse
+import itertools
 import shutil
 import sys
 from pathlib import Path
@@ -24,10 +26,26 @@ class Fault(Exception):
     """What is wrong with the files, in a line."""
 
 
-def write_table():
+def asked_table():
+    """The table as tshark prints it now."""
     if shutil.which("tshark") is None:
         raise Fault("tshark is not installed")
-    TABLE.write_text(table.text_of(ALL_FRAMES), "utf-8")
+    return table.text_of(ALL_FRAMES)
+
+
+def write_table():
+    TABLE.write_text(asked_table(), "utf-8")
+
+
+def check_table():
+    """Whether tshark prints the lines of the table, below the first with its version."""
+    for asked, stored in itertools.zip_longest(*map(rows_below, (asked_table(), TABLE.read_text("utf-8")))):
+        if asked != stored:
+            raise Fault(f"tshark prints otherwise: {asked}, not {stored}")
+
+
+def rows_below(text):
+    return text.splitlines()[1:]
 
 
 def read_table():
@@ -67,6 +85,7 @@ def words():
     choice = parser.add_mutually_exclusive_group()
     choice.add_argument("--rows", action="store_true", help="write the rows from the table")
     choice.add_argument("--check", action="store_true", help="tell whether the rows are those of the table")
+    choice.add_argument("--asked", action="store_true", help="tell whether tshark prints the table again")
     choice.add_argument("--capture", metavar="FILE", help="write the frames as a capture file")
     return parser.parse_args()
 
@@ -78,6 +97,8 @@ def main():
             write_rows()
         elif asked.check:
             check_rows()
+        elif asked.asked:
+            check_table()
         elif asked.capture:
             table.write_capture(asked.capture, ALL_FRAMES)
         else:

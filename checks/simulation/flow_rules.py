@@ -1,7 +1,7 @@
 """The rules of a switch by version: what the edits of flow text do to them, after ovs-ofctl(8)."""
 from collections import namedtuple
 
-from flow_text import refuse_over
+from .flow_text import refuse_over
 
 # The table is a number. Rules are numbered by the edit that added them, from 1 on.
 Rule = namedtuple("Rule", "number table priority matching cookie actions")

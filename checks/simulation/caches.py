@@ -1,13 +1,12 @@
 """What a port keeps of its translations, and the journal of it: megaflows, and a cache of keys in front of them.
 
-After NSDI 2015, sections 4 and 6: a frame is looked up by its whole key first, and then by the masks of the entries. One
-that is covered by none is translated, and an entry is made of it. When the rules have changed, a sweep translates the
-keys of all entries anew.
+A frame is looked up by its whole key first, and then by the masks of the entries. One that is covered by none is
+translated, and an entry is made of it. When the rules have changed, a sweep translates the keys of all entries anew.
 """
 from collections import defaultdict
 
-from flow_fields import KEY_FIELDS, packed, unpacked
-from frame_key import key_of
+from .flow_fields import KEY_FIELDS, packed, unpacked
+from .frame_key import key_of
 
 FLOW_LIMIT = 8192
 

@@ -1,11 +1,11 @@
 """A version of the rules by tables and masks: which rule decides a key, and which of the key's bits tell that it does.
 
-After NSDI 2015, section 5: a table is searched mask by mask, a mask stage by stage, and addresses by prefixes first.
-What is consulted is what decides. It doesn't depend on the order in which masks are tried.
+A table is searched mask by mask, a mask stage by stage, and addresses by prefixes first. What is consulted is what
+decides. It doesn't depend on the order in which masks are tried.
 """
 from collections import defaultdict
 
-from flow_fields import KEY_FIELD, KEY_FIELDS, full, packed, prefix, prefix_length, unpacked
+from .flow_fields import KEY_FIELD, KEY_FIELDS, full, packed, prefix, prefix_length, unpacked
 
 # The fields that a lookup has compared at the end of each of its stages but the last one, by the last of them.
 LAST_OF_STAGES = ("reg15", "vlan_tci", "arp_tha")

@@ -5,8 +5,8 @@ fields and checksums stand and what these cover, and RFC 1624 for how a checksum
 """
 from collections import namedtuple
 
-from flow_fields import ETHERTYPE_ARP, ETHERTYPE_IPV4, ETHERTYPE_IPV6, PROTOCOL_ICMPV6, PROTOCOL_TCP, PROTOCOL_UDP, TAG
-from frame_key import ETHERNET_HEADER, PORT_HEADERS, headers_of, number, transport_protocol
+from .flow_fields import ETHERTYPE_ARP, ETHERTYPE_IPV4, ETHERTYPE_IPV6, PROTOCOL_ICMPV6, PROTOCOL_TCP, PROTOCOL_UDP, TAG
+from .frame_key import ETHERNET_HEADER, PORT_HEADERS, headers_of, number, transport_protocol
 
 # The bytes of a frame in which a field stands, and how many of their bits are below its own.
 Span = namedtuple("Span", "begin size shift", defaults=[0])

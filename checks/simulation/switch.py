@@ -1,27 +1,15 @@
-#!/usr/bin/env python3
-"""A second megaswitch after docs/FORMATS.md, to compare the proved one with.
-
-    python3 simulate.py EDITS OUT PORT=FILE PORT=..
-
-has the words, files, texts and statuses of `megaswitch`. It shares no code and no definition with it, and nothing
-about it is proved. examples/*/expected was written by it. The edits are read by flow_text.py, over the table of fields
-in flow_fields.py; flow_rules.py has what they do, classifier.py which rule decides, frame_key.py what a frame is
-matched by, translation.py what the tables make of a packet, caches.py what is kept of that, and rewriting.py what
-becomes of the bytes of a frame.
-"""
+"""The switch: words and files in, and the status, the text and the files that a run ends with."""
 import functools
 import re
 import struct
-import sys
 from collections import namedtuple
 
-sys.dont_write_bytecode = True
-from caches import FLOW_LIMIT, Board
-from classifier import Tables
-from flow_rules import versions
-from flow_text import LAST_PORT, OverLimit, TextFault, read_script
-from rewriting import sent
-from translation import translate
+from .caches import FLOW_LIMIT, Board
+from .classifier import Tables
+from .flow_rules import versions
+from .flow_text import LAST_PORT, OverLimit, TextFault, read_script
+from .rewriting import sent
+from .translation import translate
 
 DONE, BAD_TEXT, BAD_TRACE, READ_FAULT, WRITE_FAULT, LIMIT, NOT_BUILT = 0, 3, 4, 5, 6, 7, 9
 
@@ -219,25 +207,3 @@ def simulate(words, contents, flow_limit=FLOW_LIMIT):
     files = [(f"{out}.p{port}.pcap", write_trace(leaving[port], unit)) for port in traces]
     journal = "".join(line + "\n" for board in boards.values() for line in board.lines)
     return Result(DONE, "", [*files, (f"{out}.journal", journal.encode())])
-
-
-def contents_of(name):
-    with open(name, "rb") as file:
-        return file.read()
-
-
-def main(words):
-    status, text, files = simulate(words, contents_of)
-    for name, data in files:
-        try:
-            with open(name, "wb") as file:
-                file.write(data)
-        except OSError:
-            status, text = WRITE_FAULT, f"write fault: {name}\n"
-            break
-    sys.stdout.write(text)
-    return status
-
-
-if __name__ == "__main__":
-    sys.exit(main(sys.argv[1:]))

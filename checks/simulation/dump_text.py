@@ -1,6 +1,6 @@
 """The texts of what caches hold: the match of an entry, and datapath actions."""
-from flow_fields import KEY_FIELD, KEY_FIELDS, print_value, unpacked
-from translation import PRIORITY_SHIFT, VLAN_BITS
+from .flow_fields import KEY_FIELD, KEY_FIELDS, print_value, unpacked
+from .translation import PRIORITY_SHIFT, VLAN_BITS
 
 
 def print_entry_match(key, mask):

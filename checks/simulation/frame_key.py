@@ -5,7 +5,7 @@ profile of docs/FORMATS.md: one tag, no ports of fragments, and nothing of a hea
 """
 from collections import namedtuple
 
-from flow_fields import (
+from .flow_fields import (
     ETHERTYPE_ARP, ETHERTYPE_IPV4, ETHERTYPE_IPV6, PROTOCOL_ICMP, PROTOCOL_ICMPV6, PROTOCOL_TCP, PROTOCOL_UDP, TAG,
 )
 

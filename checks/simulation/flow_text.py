@@ -5,7 +5,7 @@ After ovs-ofctl(8), section "Flow Syntax", ovs-fields(7) and ovs-actions(7), in 
 import re
 from collections import namedtuple
 
-from flow_fields import (
+from .flow_fields import (
     BadValue, ETHERTYPE_ARP, ETHERTYPE_IPV4, ETHERTYPE_IPV6, KEY_FIELD, KEY_FIELDS, NAMED_FIELD, PROTOCOL_ICMP,
     PROTOCOL_ICMPV6, PROTOCOL_TCP, PROTOCOL_UDP, TAG, full, is_stated, packed, print_value, read_decimal, read_number,
     read_value, unpacked,

@@ -10,9 +10,9 @@ and has consulted the bits that it writes, as well as those that it reads.
 """
 from collections import namedtuple
 
-from classifier import WHOLE, bits_of
-from flow_fields import ETHERTYPE_IPV4, ETHERTYPE_IPV6, TAG, full, is_stated, packed, unpacked
-from flow_text import Action
+from .classifier import WHOLE, bits_of
+from .flow_fields import ETHERTYPE_IPV4, ETHERTYPE_IPV6, TAG, full, is_stated, packed, unpacked
+from .flow_text import Action
 
 # The first lookup is at depth 0.
 DEEPEST = 64
