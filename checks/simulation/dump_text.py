@@ -22,5 +22,5 @@ PRINT = {
     "Output": str,
     "PopVlan": lambda: "pop_vlan",
     "PushVlan": lambda tci: f"push_vlan(vid={tci & VLAN_BITS},pcp={tci >> PRIORITY_SHIFT})",
-    "Set": lambda name, value, mask: f"set({print_bits(name, value, mask)})",
+    "Set": lambda name, value, mask: f"set({print_bits(name, value & mask, mask)})",
 }

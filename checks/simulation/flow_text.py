@@ -550,7 +550,7 @@ def print_slice(slice_):
 
 
 def print_set(field, value, mask):
-    return f"set_field:{print_value(field.form, field.width, value, mask)}->{field.name}"
+    return f"set_field:{print_value(field.form, field.width, value & mask, mask)}->{field.name}"
 
 
 ACTION_PRINTERS = {

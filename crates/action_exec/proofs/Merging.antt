@@ -5,7 +5,7 @@ use Rattle.std.specs.Int.{bit_at}
 use Rattle.std.proofs.lemmas.Nat.{xor_lt}
 use Rattle.std.proofs.lemmas.Nat.Bits.{bit_at_and, bit_at_xor, bit_at-lt, bit_at_cat_low, bit_at_cat_high, bit_at-zero, same_from_bits}
 use Rattle.std.proofs.lemmas.Bool.{cases_lt}
-use Rattle.spec_exec.specs.Writing.{merged}
+use Rattle.spec_base.specs.Bits.{merged}
 use Rattle.action_exec.specs.declared.shape.Shape.{Shape}
 use Rattle.action_exec.specs.declared.shape.Shape.TheVariants.{Byte, TrafficClass, Port, Ipv4Address, EthernetAddress, Ipv6Address}
 use Rattle.action_exec.specs.Shapes.{size_of, unit_of}

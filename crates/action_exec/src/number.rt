@@ -1,8 +1,8 @@
 //! The numbers of fields in the bytes of a frame.
 ghost use Rattle.std.specs.Prelude.{◌≡◌, ◌+◌, ◌*◌, ◌^◌, ◌<◌, ◌≤◌, length, bit_and};
-ghost use Rattle.spec_base.specs.Bits.{all_bits};
+ghost use Rattle.spec_base.specs.Bits.{all_bits, merged};
 ghost use Rattle.spec_base.specs.Bytes.{big_endian_at};
-ghost use Rattle.spec_exec.specs.Writing.{with_number, merged};
+ghost use Rattle.spec_exec.specs.Writing.{with_number};
 ghost use Rattle.action_exec.specs.Shapes.{size_of, unit_of, bits_of};
 
 use crate::shape::{Shape, all_bits, placed_bits};

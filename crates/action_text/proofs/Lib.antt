@@ -7,4 +7,3 @@ pub mod Loads
 pub mod ArgumentLists
 pub mod Mods
 pub mod ListSteps
-pub mod PrintedSteps

@@ -43,8 +43,11 @@ fn read_next<'a>(
     requires begins { BeginsItem rest.text.now }
     requires few { length actions.old.items ≤ most_actions }
     requires sound { AreSound actions.old.items }
-    ensures read { IfOk result (λ more. read_items actions.old.items (items_in (word_view rest.entry)) ≡ read_items actions.new.items (items_in (word_view more))) }
-    ensures fault { IfErr result (λ e. IsFault e (read_items actions.old.items (items_in (word_view rest.entry)))) }
+    ensures read { IfOk result (λ more.
+        read_items actions.old.items (items_in (word_view rest.entry))
+        ≡ read_items actions.new.items (items_in (word_view more))) }
+    ensures fault { IfErr result (λ e.
+        IsFault e (read_items actions.old.items (items_in (word_view rest.entry)))) }
     ensures begins { IfOk result (λ more. BeginsItem more.text.now) }
     ensures shorter { IfOk result (λ more. length more.text.now < length rest.entry.text.now) }
     ensures few { IfOk result (λ _. length actions.new.items ≤ most_actions) }

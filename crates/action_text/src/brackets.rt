@@ -44,7 +44,8 @@ fn closes(stack: &[u8], byte: u8) -> bool
 // Opens or closes a bracket, where a byte does.
 #[tactic(auto, using(crate::proofs::ItemBytes::after_closing, crate::proofs::ItemBytes::after_other, crate::proofs::ItemBytes::without_top, crate::proofs::ItemBytes::with_top))]
 fn follow(stack: &mut Vec<u8>, byte: u8) -> Result<(), AllocError>
-    ensures { OnOk result (innermost_first stack.new.items ≡ open_after (innermost_first stack.old.items) byte) }
+    ensures { OnOk result
+        (innermost_first stack.new.items ≡ open_after (innermost_first stack.old.items) byte) }
 {
     if closes(stack, byte) {
         stack.pop();

@@ -40,7 +40,8 @@ pub fn after_separators(word: Word<'_>) -> Word<'_>
 pub fn cut_item(alloc: Global, word: Word<'_>) -> Result<CutItem<'_>, AllocError>
     requires some { 0 < length word.text.now }
     requires begins { BeginsItem word.text.now }
-    ensures items { IfOk result (λ cut. items_in (word_view word.entry) ≡ word_view cut.item ∷ items_in (word_view cut.rest)) }
+    ensures items { IfOk result (λ cut.
+        items_in (word_view word.entry) ≡ word_view cut.item ∷ items_in (word_view cut.rest)) }
     ensures closed { IfOk result (λ cut. cut.closed ≡ is_closed cut.item.text.now) }
     ensures begins { IfOk result (λ cut. BeginsItem cut.rest.text.now) }
     ensures shorter { IfOk result (λ cut. length cut.rest.text.now < length word.entry.text.now) }

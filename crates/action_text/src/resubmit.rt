@@ -16,7 +16,8 @@ pub const LAST_TABLE: u128 = 254;
 // `(,TABLE)`: no port, and no third argument.
 #[tactic(auto, using(crate::proofs::ArgumentLists::one_argument, crate::proofs::ArgumentLists::no_argument, crate::proofs::ArgumentLists::with_port, crate::proofs::ArgumentLists::without_table, crate::proofs::ArgumentLists::three_arguments, crate::proofs::ArgumentLists::table_argument))]
 fn table_of_arguments(item: Word<'_>, inside: Word<'_>) -> Result<OfAction, TextFault>
-    ensures value { result ≡ said (word_view item.entry) (word_view inside.entry) inside.entry.text.now }
+    ensures value { result
+        ≡ said (word_view item.entry) (word_view inside.entry) inside.entry.text.now }
     ensures sound { IfOk result (λ action. IsTrue (is_sound action)) }
 {
     let unsupported = Err(TextFault::Unsupported { col: item.column() });

@@ -22,7 +22,7 @@ use Rattle.board_laws.proofs.Changes.{hit, left_by, renewed_by, paid_totals}
 use Rattle.board_laws.proofs.Hits.{Hits}
 use Rattle.board_laws.proofs.Right.{right_from-made}
 use Rattle.board_laws.proofs.Kept.{key_clean, keys_before}
-use Rattle.board_laws.proofs.Sound.{IsSound, AreTaken, all_taken}
+use Rattle.board_laws.proofs.KeptInOrder.{IsKeptInOrder, AreTaken, all_taken}
 use Rattle.board_laws.proofs.Told.{DecidesAs, exact_hit, mega_hit, exact_decides, mega_decides, settled}
 use Rattle.board_laws.proofs.Once.{decision_is}
 use Rattle.board_laws.proofs.Owing.{Part, Packets, Bytes, part, unit, owing, owing_of, pick, credited_part, owing_push, paid_balance, dropped_owing, renewed_owing, hit_owing}
@@ -43,7 +43,7 @@ dues-append : (run : Run) (port : ℕ) (c : Part) (rule : ℕ) (ds es : List Dec
 dues-append run port c rule [] es = omega arith
 dues-append run port c rule (d ∷ ds) es = let h = dues-append run port c rule ds es in omega (arith, h)
 
-module _ (run : Run) (port limit : ℕ) (c : Part) (rule : ℕ) (s : State) (k : IsSound run port limit s) where
+module _ (run : Run) (port limit : ℕ) (c : Part) (rule : ℕ) (s : State) (k : IsKeptInOrder run port limit s) where
   -- the state after a step
   abbrev next : Step → State
   next step = effect run port s step
@@ -166,7 +166,7 @@ balanced_from run port limit c rule s [] taken = omega arith
 balanced_from run port limit c rule s (step ∷ steps) taken =
     let t = effect run port s step in
     let others = balanced_from run port limit c rule t steps taken.1 in
-    let one = balances run port limit c rule s taken.0.sound step taken.0.legal taken.0.keys in
+    let one = balances run port limit c rule s taken.0.kept step taken.0.legal taken.0.keys in
     let both = dues-append run port c rule (decision_at (decided_place step) s t) (decisions_from run port t steps) in
     add_up _ _ _ _ _ _ others one both
   where

@@ -21,7 +21,7 @@ pub mod Few
 pub mod Listed
 pub mod Used
 pub mod Kept
-pub mod Sound
+pub mod KeptInOrder
 pub mod Told
 pub mod Once
 pub mod Owing

@@ -20,12 +20,12 @@ use Rattle.board_laws.proofs.Refusals.{may_settle, may_look}
 use Rattle.board_laws.proofs.PlaceLaws.{waiting_written, decided_written, none_pending_yet}
 use Rattle.board_laws.proofs.Journals.{after_all, kept_along}
 use Rattle.board_laws.proofs.Hits.{Hits}
-use Rattle.board_laws.proofs.Sound.{IsSound, sound_opened, sound_keeps, AreTaken, all_taken}
+use Rattle.board_laws.proofs.KeptInOrder.{IsKeptInOrder, ordered_opened, ordered_keeps, AreTaken, all_taken}
 use Rattle.board_laws.proofs.Told.{DecidesAs, there, waits, exact_hit, mega_hit, exact_decides, mega_decides, settled}
 use Rattle.board_laws.proofs.Once.{decision_is}
 use Rattle.board_laws.proofs.Bounded.{few_visits}
 
-module _ (run : Run) (port limit : ℕ) (s : State) (k : IsSound run port limit s) where
+module _ (run : Run) (port limit : ℕ) (s : State) (k : IsKeptInOrder run port limit s) where
   -- a step decides as many frames as it looks up, but for those that are pending then and weren't
   abbrev next : Step → State
   next step = effect run port s step
@@ -131,7 +131,7 @@ module _ (run : Run) (port limit : ℕ) where
   advanced_from s (step ∷ steps) taken =
       let t = effect run port s step in
       let others = advanced_from t steps taken.1 in
-      let one = advances run port limit s taken.0.sound step taken.0.legal taken.0.keys in
+      let one = advances run port limit s taken.0.kept step taken.0.legal taken.0.keys in
       let both = length-append (decision_at (decided_place step) s t) (decisions_from run port t steps) in
       add_up _ _ _ _ _ _ _ _ _ others one both
     where
@@ -149,12 +149,12 @@ looked_up run port limit steps in_order keys legal =
 pub next_after : (run : Run) (port limit : ℕ) (steps : List Step) → AreInOrder run.syncs (last_version run) → IsLegal run port limit steps
     → (after run port steps).next ≤ length (frames_of run port) + 1
 next_after run port limit steps in_order legal =
-    let Within : State → Type 0 = λ s. IsSound run port limit s × (s.next ≤ length (frames_of run port) + 1) in
-    (kept_along run port limit Within keeps (opened run port) (sound_opened run port limit, omega arith) steps legal).1
+    let Within : State → Type 0 = λ s. IsKeptInOrder run port limit s × (s.next ≤ length (frames_of run port) + 1) in
+    (kept_along run port limit Within keeps (opened run port) (ordered_opened run port limit, omega arith) steps legal).1
   where
-    keeps : (s : State) → IsSound run port limit s × (s.next ≤ length (frames_of run port) + 1) → (step : Step) → Legal run port limit s step
-        → IsSound run port limit (effect run port s step) × ((effect run port s step).next ≤ length (frames_of run port) + 1)
-    keeps s k step legal = (sound_keeps run port limit in_order s k.0 step legal, next_keeps run port limit s k.0 k.1 step legal)
+    keeps : (s : State) → IsKeptInOrder run port limit s × (s.next ≤ length (frames_of run port) + 1) → (step : Step) → Legal run port limit s step
+        → IsKeptInOrder run port limit (effect run port s step) × ((effect run port s step).next ≤ length (frames_of run port) + 1)
+    keeps s k step legal = (ordered_keeps run port limit in_order s k.0 step legal, next_keeps run port limit s k.0 k.1 step legal)
 
 pub few_decisions : (run : Run) (port limit : ℕ) (steps : List Step) → AreInOrder run.syncs (last_version run) → HasKeys run port (after run port steps).next
     → IsLegal run port limit steps → length (decisions run port steps) ≤ length (frames_of run port)

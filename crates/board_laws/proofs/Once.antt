@@ -16,7 +16,7 @@ use Rattle.spec_board.specs.Journals.{IsLegal, opened, after}
 use Rattle.spec_board.specs.Decisions.{Decision, decided_place, decision_as, decision_at, decides, decisions_from, is_of, IsInWindow, IsDecided}
 use Rattle.board_laws.specs.Entries.{HasKeys}
 use Rattle.board_laws.proofs.PlaceLaws.{waiting_at}
-use Rattle.board_laws.proofs.Sound.{AreTaken, all_taken}
+use Rattle.board_laws.proofs.KeptInOrder.{AreTaken, all_taken}
 use Rattle.board_laws.proofs.Told.{Silent, DecidesAs, Deciding, told}
 
 pub decision_is : (run : Run) (port : ℕ) (s t : State) (step : Step) (place version : ℕ) (actions : List DpAction) → DecidesAs run port s t step place version actions

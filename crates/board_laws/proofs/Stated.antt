@@ -25,7 +25,7 @@ use Rattle.board_laws.proofs.Places.{all_places}
 use Rattle.board_laws.proofs.Right.{right_from-made}
 use Rattle.board_laws.proofs.Added.{IsOfEdit, visits_added}
 use Rattle.board_laws.proofs.Kept.{kept_after}
-use Rattle.board_laws.proofs.Sound.{sound_after}
+use Rattle.board_laws.proofs.KeptInOrder.{ordered_after}
 use Rattle.board_laws.proofs.Once.{decided_in}
 use Rattle.board_laws.proofs.Looks.{covering_is, none_missed, missed_none, found_as}
 use Rattle.board_laws.proofs.Looked.{frame_le, due_packets_most, due_bytes_most}
@@ -157,19 +157,19 @@ places_after run port limit steps legal = (kept_after run port limit steps legal
 
 pub versions_after : (run : Run) (port limit : ℕ) (steps : List Step) → AreInOrder run.syncs (last_version run) → IsLegal run port limit steps
     → HasVersionsInOrder run (after run port steps)
-versions_after run port limit steps in_order legal = (sound_after run port limit in_order steps legal).versions
+versions_after run port limit steps in_order legal = (ordered_after run port limit in_order steps legal).versions
 
 pub recent_after : (run : Run) (port limit : ℕ) (steps : List Step) → AreInOrder run.syncs (last_version run) → IsLegal run port limit steps
     → All (IsRecent (after run port steps)) (after run port steps).entries
 recent_after run port limit steps in_order legal =
     let s = after run port steps in
-    All_from-Among (IsRecent s) s.entries (sound_after run port limit in_order steps legal).recent
+    All_from-Among (IsRecent s) s.entries (ordered_after run port limit in_order steps legal).recent
 
 pub entries_of_run : (run : Run) (port limit : ℕ) (steps : List Step) → AreInOrder run.syncs (last_version run) → IsLegal run port limit steps
     → All (λ (e : Entry). e.version ≤ last_version run) (after run port steps).entries
 entries_of_run run port limit steps in_order legal =
     let s = after run port steps in
-    let k = sound_after run port limit in_order steps legal in
+    let k = ordered_after run port limit in_order steps legal in
     All_from-Among (λ (e : Entry). e.version ≤ last_version run) s.entries
     (λ e m. omega (arith, (k.recent e m).not_newer, k.versions.within_block, (in_order s.block).1))
 

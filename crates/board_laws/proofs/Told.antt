@@ -21,7 +21,7 @@ use Rattle.board_laws.proofs.BlockFacts.{place_there}
 use Rattle.board_laws.proofs.Hits.{Hits, exact_hits, mega_hits}
 use Rattle.board_laws.proofs.Right.{right_from-made}
 use Rattle.board_laws.proofs.Kept.{key_clean, keys_before}
-use Rattle.board_laws.proofs.Sound.{IsSound, IsTaken}
+use Rattle.board_laws.proofs.KeptInOrder.{IsKeptInOrder, IsTaken}
 
 -- The step decides no frame: one that is decided stays so, and one that isn't isn't yet.
 pub record Silent (s t : State) (step : Step) : Type 0 where
@@ -58,7 +58,7 @@ undecided_pending Waiting h = refl
 undecided_pending Pending h = refl
 undecided_pending (Decided w a) h = absurd (false≢true h)
 
-module _ (run : Run) (port limit : ℕ) (s : State) (k : IsSound run port limit s) where
+module _ (run : Run) (port limit : ℕ) (s : State) (k : IsKeptInOrder run port limit s) where
   -- ---- looks
 
   -- a place that is next, in the block of the board, is one of its places
@@ -206,4 +206,4 @@ module _ (run : Run) (port limit : ℕ) (s : State) (k : IsSound run port limit 
 
 pub told : (run : Run) (port limit : ℕ) (s : State) (step : Step) → IsTaken run port limit s step
     → Silent s (effect run port s step) step ⊎ Deciding run port s (effect run port s step) step
-told run port limit s step taken = told_by run port limit s taken.sound step taken.legal taken.keys
+told run port limit s step taken = told_by run port limit s taken.kept step taken.legal taken.keys

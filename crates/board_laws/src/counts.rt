@@ -27,7 +27,8 @@ pub fn translations_are_short()
 
 /// A translation visits only rules that the edits up to its version added, so their numbers are from 1 to the version.
 pub fn translations_visit_added_rules()
-    ensures { (run : Run) (v : ℕ) (key : List ℕ) → All (λ r. (1 ≤ r) × (r ≤ v)) (translated run v key).visits }
+    ensures { (run : Run) (v : ℕ) (key : List ℕ)
+        → All (λ r. (1 ≤ r) × (r ≤ v)) (translated run v key).visits }
 {}
 
 /// What a rule is due is no more than all frames can make it, each visiting it at every lookup.
@@ -35,11 +36,13 @@ pub fn dues_are_bounded()
     ensures packets { (run : Run) (port limit : ℕ) (steps : List Step)
         → AreInOrder run.syncs (last_version run) → HasKeys run port (after run port steps).next
         → IsLegal run port limit steps
-        → (rule : ℕ) → due_packets run port steps rule ≤ length (frames_of run port) * lookup_limit }
+        → (rule : ℕ) → due_packets run port steps rule
+        ≤ length (frames_of run port) * lookup_limit }
     ensures bytes { (run : Run) (port limit most : ℕ) (steps : List Step)
         → AreInOrder run.syncs (last_version run) → HasKeys run port (after run port steps).next
         → All (λ (f : Frame). length f.bytes ≤ most) (frames_of run port) → IsLegal run port limit steps
-        → (rule : ℕ) → due_bytes run port steps rule ≤ length (frames_of run port) * (lookup_limit * most) }
+        → (rule : ℕ) → due_bytes run port steps rule
+        ≤ length (frames_of run port) * (lookup_limit * most) }
 {}
 
 /// What a rule was credited with and what the entries owe it are together no more than all frames can make it, now and

@@ -33,7 +33,8 @@ pub fn frames_looked_up_are_decided_or_pending()
     ensures either { (run : Run) (port limit : ℕ) (steps : List Step)
         → AreInOrder run.syncs (last_version run) → HasKeys run port (after run port steps).next
         → IsLegal run port limit steps
-        → length (decisions run port steps) + pending_count (after run port steps) + 1 ≡ (after run port steps).next }
+        → length (decisions run port steps) + pending_count (after run port steps) + 1
+        ≡ (after run port steps).next }
     ensures within { (run : Run) (port limit : ℕ) (steps : List Step)
         → AreInOrder run.syncs (last_version run) → IsLegal run port limit steps
         → (after run port steps).next ≤ length (frames_of run port) + 1 }

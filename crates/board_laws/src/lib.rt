@@ -27,7 +27,7 @@
 //! Each fact is kept by every step. What a step does to the entries is said once: an entry of the state after the step
 //! was there before, with no more than its counts changed; or it was there and has a new translation; or it is new
 //! (`proofs/Origins`). The facts of entries and slots follow from these three cases, and with those of places and sweeps
-//! they are one record that every step keeps (`proofs/Kept`); versions are a second one (`proofs/Sound`). That an entry
+//! they are one record that every step keeps (`proofs/Kept`); versions are a second one (`proofs/KeptInOrder`). That an entry
 //! is right is wildcard soundness, at a mask that covers the bits that the translation of its own key consults. Decisions
 //! and counts are sums over the steps: a step decides one frame rightly, or none (`proofs/Told`).
 //!

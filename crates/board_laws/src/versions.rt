@@ -19,8 +19,10 @@ pub fn versions_stand_in_order()
 /// What a sweep has yet to put are live entries, by rising numbers.
 pub fn sweeps_list_live_entries()
     ensures rising { (run : Run) (port limit : ℕ) (steps : List Step)
-        → IsLegal run port limit steps → AllPairs (λ (m n : ℕ). m < n) (after run port steps).listed }
+        → IsLegal run port limit steps
+        → AllPairs (λ (m n : ℕ). m < n) (after run port steps).listed }
     ensures live { (run : Run) (port limit : ℕ) (steps : List Step)
         → IsLegal run port limit steps
-        → All (λ n. IsSome (entry_of n (after run port steps).entries)) (after run port steps).listed }
+        → All (λ n. IsSome (entry_of n (after run port steps).entries))
+        (after run port steps).listed }
 {}

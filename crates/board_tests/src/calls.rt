@@ -2,7 +2,7 @@
 ghost use Rattle.std.specs.Prelude.{◌≡◌, ◌≤◌, IsTrue, IfOk};
 ghost use Rattle.std.specs.List.{list_all};
 ghost use Rattle.ovs_fields.specs.Packed.{numbers};
-ghost use Rattle.pipe_model.specs.Runnable.{has_sound_actions};
+ghost use Rattle.spec_tables.specs.Edits.{has_sound_actions};
 ghost use Rattle.pmd_board.specs.BoardView.{state_of};
 ghost use Rattle.run_blocks.specs.Places.{HasPort, HasPlace};
 ghost use Rattle.spec_board.specs.Effects.{is_among, key_of_entry};
@@ -12,7 +12,7 @@ ghost use Rattle.spec_case.specs.Run.{last_version};
 use crate::rows::PORT;
 use flow_stats::Counts;
 use ovs_fields::Key;
-use pipe_model::Plain;
+use pipe_model::SpareLists;
 use pmd_board::{
     BeginFault, Board, EndFault, LookFault, Looked, OpenFault, PutDone, PutFault, SettleFault,
     Settled, Xlated,
@@ -68,7 +68,7 @@ fn translation<C: Case>(
 {
     let mut tables = Tables::new(alloc);
     tables.follow(edits, version)?;
-    tables.translate(run, key, Plain::empty(alloc))
+    tables.translate(run, key, SpareLists::new(alloc))
 }
 
 fn has_frame<C: Case>(run: &RunData<C>, port: u16, place: u32) -> bool

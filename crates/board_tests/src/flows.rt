@@ -1,7 +1,7 @@
 //! Edits of the rows, by names that say what they match.
 ghost use Rattle.std.specs.Prelude.{◌≡◌, IsTrue, IfOk, length};
 ghost use Rattle.std.specs.List.{list_all};
-ghost use Rattle.pipe_model.specs.Runnable.{has_sound_actions};
+ghost use Rattle.spec_tables.specs.Edits.{has_sound_actions};
 
 use ovs_fields::{FieldId, Key, Mask, masked};
 use rule_tables::{Actions, Edit, EditWord, Match, OfAction};

@@ -11,7 +11,7 @@ use Rattle.edge_io.specs.declared.reading.ReadFault.{ReadFault}
 use Rattle.edge_io.specs.declared.reading.ReadFault.TheVariants.{Over}
 use Rattle.edge_io.specs.Counts.{Counts, HasCause, ReadFailed, with_read_fault}
 use Rattle.edge_io.specs.Shelf.{Told, Opens}
-use Rattle.edge_io.specs.ReadAll.{read_fault_of, in_use_after, ReadCause, OnlyRead, Names}
+use Rattle.edge_io.specs.ReadAll.{read_fault_of, in_use_after, ReadCause, OnlyRead, IsAsked, Names}
 
 abbrev IsFrom : {T : Type 0} → Failed → Result T ReadFault → Type 0
 IsFrom f r = IsErrAnd r (λ e. e ≡ read_fault_of f)
@@ -34,18 +34,20 @@ only_read before after name failed.Fault opens = rw (opens.fault refl) refl
 only_read before after name failed.OutOfMemory opens = rw (opens.no_memory refl) refl
 
 pub names : {T U : Type 0} (before after : Told) (name : List ℕ) (r : Result T ReadFault) (f : Failed) →
-    IsFrom f r → Opens {T = U} before after name (Err f) → Names before.last after.last name r
+    IsFrom f r → Opens {T = U} before after name (Err f) → Names before after name r
 names before after name r failed.Fault from opens =
     let e = answer r failed.Fault from in
-    let named : after.last ≡ name = ap (λ (t : Told). t.last) (opens.fault refl) in
-    record { ok = rw e tt; fault = λ _. named; over = λ _. named; no_memory = λ _. inl named }
+    let told = opens.fault refl in
+    let is : IsAsked before after name = record { last = ap (λ (t : Told). t.last) told; opened = ap (λ (t : Told). t.opened) told } in
+    record { ok = rw e tt; fault = λ _. is; over = λ _. is; no_memory = λ _. inl is }
 names before after name r failed.OutOfMemory from opens =
     let e = answer r failed.OutOfMemory from in
+    let told = opens.no_memory refl in
     record {
       ok = rw e tt;
       fault = λ h. let x = sym e ∙ h in cc;
       over = λ h. absurd (not_over r failed.OutOfMemory from h);
-      no_memory = λ _. inr (ap (λ (t : Told). t.last) (opens.no_memory refl));
+      no_memory = λ _. inr (record { last = ap (λ (t : Told). t.last) told; opened = ap (λ (t : Told). t.opened) told });
     }
 
 read_failed : (before now : Counts) → now ≡ with_read_fault before → ReadFailed before now

@@ -1,7 +1,7 @@
 -- Worked rows of the definitions.
-use Rattle.std.proofs.Common.{◌≡◌, ℕ, List, [], ◌∷◌, Option, refl}
+use Rattle.std.proofs.Common.{◌≡◌, ℕ, List, [], ◌∷◌, ◌++◌, Option, refl}
 use Rattle.std.specs.Prelude.{codes}
-use Rattle.edge_io.specs.Shelf.{Told, untouched, wrote, closed, released, kept}
+use Rattle.edge_io.specs.Shelf.{Told, untouched, asked, wrote, closed, released, kept}
 use Rattle.edge_io.specs.ReadAll.{was_read}
 
 -- a file that is created, written in two pieces and closed is kept under its name
@@ -17,6 +17,10 @@ two_files holds = refl
 
 -- a file that is opened, read in part and closed leaves its name alone
 read_in_part : (t : Told) →
-    released (record (record t { left = codes "text"; last = codes "b" }) { left = codes "xt" })
+    released (record (record (asked t (codes "b")) { left = codes "text" }) { left = codes "xt" })
     ≡ was_read t (codes "b")
 read_in_part t = refl
+
+-- names are kept in the order of asking, each time anew
+asked_twice : (t : Told) → (asked (asked t (codes "b")) (codes "b")).opened ≡ (t.opened ++ codes "b" ∷ []) ++ codes "b" ∷ []
+asked_twice t = refl

@@ -3,8 +3,8 @@ use Rattle.std.proofs.Common.{◌≡◌, ℕ, ◌<◌, ◌≤◌, List, [], leng
 use Rattle.std.specs.Prelude.{IfOk, OnOk, IsOk}
 use Rattle.std.proofs.lemmas.Result.{on_ok_weaker}
 use Rattle.edge_io.specs.declared.reading.ReadFault.{ReadFault}
-use Rattle.edge_io.specs.Shelf.{Told}
-use Rattle.edge_io.specs.ReadAll.{was_read, Names}
+use Rattle.edge_io.specs.Shelf.{Told, asked}
+use Rattle.edge_io.specs.ReadAll.{was_read, IsAsked, Names}
 use Rattle.edge_io.proofs.Always.{on_ok}
 
 pub bytes : (contents : Option (List ℕ)) (left : List ℕ) (r : Result (Vec ℕ Global) ReadFault) →
@@ -18,7 +18,7 @@ not_ok left max (Ok v) e bound long ok = let n = ap length e in omega arith
 not_ok left max (Err f) e bound long ok = cc
 
 module _ {T : Type 0} (before mid after : Told) (name : List ℕ) (r : Result T ReadFault)
-    (opened : mid ≡ record before { left = mid.left; last = name })
+    (opened : mid ≡ record (asked before name) { left = mid.left })
     (read : after ≡ record mid { left = after.left }) where
   closed : after.left ≡ [] → after ≡ was_read before name
   closed none =
@@ -31,7 +31,10 @@ module _ {T : Type 0} (before mid after : Told) (name : List ℕ) (r : Result T 
   pub told : OnOk r (after.left ≡ []) → OnOk r (after ≡ was_read before name)
   told none = on_ok_weaker r closed none
 
-  pub names : Names before.last after.last name r
+  pub names : Names before after name r
   names =
-      let named : after.last ≡ name = ap (λ (t : Told). t.last) read ∙ ap (λ (t : Told). t.last) opened in
-      record { ok = on_ok r named; fault = λ _. named; over = λ _. named; no_memory = λ _. inl named }
+      let is : IsAsked before after name = record {
+        last = ap (λ (t : Told). t.last) read ∙ ap (λ (t : Told). t.last) opened;
+        opened = ap (λ (t : Told). t.opened) read ∙ ap (λ (t : Told). t.opened) opened;
+      } in
+      record { ok = on_ok r is; fault = λ _. is; over = λ _. is; no_memory = λ _. inl is }

@@ -3,3 +3,4 @@ pub mod Shelf
 pub mod Written
 pub mod Sink
 pub mod ReadAll
+pub mod Filling

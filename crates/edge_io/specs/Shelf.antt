@@ -5,28 +5,33 @@ use Rattle.edge_io.specs.declared.outside.Failed.{Failed}
 use Rattle.edge_io.specs.declared.outside.Failed.TheVariants.{Fault, OutOfMemory}
 
 -- What a shelf tells of its bytes: the contents by name that it holds, what is left of the opened file,
--- the files that were written and closed, what was written to the created file, and the name that
--- `open_file` or `create_file` was last called with.
+-- the files that were written and closed, what was written to the created file, the name that `open_file`
+-- or `create_file` was last called with, and those that `open_file` was called with, in their order.
 pub record Told : Type 0 where
   pub holds : List ℕ → Option (List ℕ)
   pub left : List ℕ
   pub done : List File
   pub current : List ℕ
   pub last : List ℕ
+  pub opened : List (List ℕ)
 
 -- a shelf of these contents, with which nothing was done
 abbrev pub untouched : (List ℕ → Option (List ℕ)) → Told
-untouched holds = record { holds = holds; left = []; done = []; current = []; last = [] }
+untouched holds = record { holds = holds; left = []; done = []; current = []; last = []; opened = [] }
 
 -- what stands for a shelf that tells nothing
 abbrev pub untold : Told
 untold = untouched (λ _. None)
 
+-- a file of this name was asked for, to be read
+abbrev pub asked : Told → List ℕ → Told
+asked t name = record t { last = name; opened = t.opened ++ name ∷ [] }
+
 -- Opening finds the contents of the name. A fault keeps the name alone, and out of memory nothing changes.
 pub record Opens {T : Type 0} (before after : Told) (name : List ℕ) (result : Result T Failed) : Type 0 where
   pub found : OnOk result (before.holds name ≡ Some after.left)
-  pub ok : OnOk result (after ≡ record before { left = after.left; last = name })
-  pub fault : IsErrOf result Fault → after ≡ record before { last = name }
+  pub ok : OnOk result (after ≡ record (asked before name) { left = after.left })
+  pub fault : IsErrOf result Fault → after ≡ asked before name
   pub no_memory : IsErrOf result OutOfMemory → after ≡ before
 
 -- Reading takes bytes from the front of what is left, and none only at the end. A fault may lose some of them.

@@ -21,9 +21,10 @@
 //!
 //! No contract can say what a disk holds. A shelf says by `tells` whether it tells its bytes; if so, `told`
 //! is the contents that it holds by name, what is left of the opened file, the files that were written and
-//! closed, what was written to the created file, and the name that was last asked for. Each call is one
-//! change of that record, after a refusal too: a fault may take a prefix of the bytes, out of memory takes
-//! none. So "the files written are exactly these" is one equation, and the name of a refused file is known.
+//! closed, what was written to the created file, the name that was last asked for, and the names that were
+//! asked for to be read, in their order. Each call is one change of that record, after a refusal too: a fault
+//! may take a prefix of the bytes, out of memory takes none. So "the files written are exactly these" is one
+//! equation, and the name of a refused file is known.
 //! A sink that tells says which bytes were written.
 //!
 //! # Which file is in use
@@ -37,6 +38,8 @@
 //!
 //! - `read_all` reads a whole file up to a number of bytes, in large pieces into one buffer; `write_all` and
 //!   `say_all` repeat a write until all is taken. The traits' calls take as many bytes as suits them.
+//! - `write_file` creates a file, has a closure fill it, and closes it. What a writer promises is one word,
+//!   `WritesAll` for a piece and `WritesFile` for a file, and the bytes of pieces in turn are those of all.
 //! - `FaultCounts` and `counted_fault` are for whoever has a shelf or a sink: they count as the traits ask.
 //! - A `Gate` is told of points at which threads meet, and may hold them, so that a test picks the order.
 //!   It promises nothing. `OpenGate` returns at once.
@@ -54,7 +57,7 @@ mod writing;
 pub use counts::{FaultCounts, counted_fault};
 pub use outside::{Failed, Gate, InUse, OpenGate, Point, Shelf, Sink};
 pub use reading::{ReadFault, read_all};
-pub use writing::{say_all, write_all};
+pub use writing::{say_all, write_all, write_file};
 
 #[cfg(test)]
 mod tests;

@@ -141,8 +141,7 @@ pub fn read_all<S: Shelf>(
     ensures told { IsTrue S.tells →
         OnOk result (S.told shelf.new ≡ was_read (S.told shelf.old) name.now) }
     ensures only_read { IsTrue S.tells → OnlyRead (S.told shelf.old) (S.told shelf.new) }
-    ensures named { IsTrue S.tells →
-        Names (S.told shelf.old).last (S.told shelf.new).last name.now result }
+    ensures named { IsTrue S.tells → Names (S.told shelf.old) (S.told shelf.new) name.now result }
     ensures cause { ReadCause (S.counts shelf.old) (S.counts shelf.new) result }
 {
     let mut piece = vec![in alloc; 0; PIECE]?;

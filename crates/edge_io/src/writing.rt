@@ -1,18 +1,15 @@
-ghost use Rattle.std.specs.Prelude.{◌≡◌, ℕ, ◌++◌, take, IsTrue, IsOk, OnOk, OnErr, IsErrOf};
+ghost use Rattle.std.specs.Prelude.{◌≡◌, ℕ, List, ◌++◌, Ok, take, IsTrue, IsOk, OnOk, OnErr, IsErrOf};
 ghost use Rattle.spec_base.specs.Counts.{Rose};
-ghost use Rattle.edge_io.specs.Counts.{HasCause, with_fault, with_write_fault};
-ghost use Rattle.edge_io.specs.Shelf.{wrote};
-ghost use Rattle.edge_io.specs.Written.{WrotePrefix};
+ghost use Rattle.edge_io.specs.Counts.{HasCause, with_fault};
+ghost use Rattle.edge_io.specs.Written.{WritesAll, WritesFile};
+ghost use Rattle.edge_io.specs.Filling.{IsCallableOnCreated, Fills, MayAnswer};
 
 use crate::{Failed, InUse, Shelf, Sink};
 
 /// Writes all the bytes to the created file. After a refusal a prefix of them was written.
 pub fn write_all<S: Shelf>(shelf: &mut S, bytes: &[u8]) -> Result<(), Failed>
     requires { S.in_use shelf.old ≡ InUse.Created }
-    ensures in_use { S.in_use shelf.new ≡ InUse.Created }
-    ensures ok { IsTrue S.tells → OnOk result (S.told shelf.new ≡ wrote (S.told shelf.old) bytes.now) }
-    ensures err { IsTrue S.tells → OnErr result (WrotePrefix (S.told shelf.old) (S.told shelf.new) bytes.now) }
-    ensures cause { HasCause with_write_fault (S.counts shelf.old) (S.counts shelf.new) result }
+    ensures { WritesAll S.Shelf shelf.old shelf.new bytes.now result }
 {
     let mut at = 0;
     while at < bytes.len() {
@@ -37,4 +34,29 @@ pub fn say_all<K: Sink>(say: &mut K, bytes: &[u8]) -> Result<(), Failed>
         at += say.write(&bytes[at..])?;
     }
     Ok(())
+}
+
+/// Creates the file of a name, has it filled, and closes it. Its bytes are those that each call of `fill` writes.
+///
+/// # Errors
+///
+/// - `Fault`: the shelf failed in creating, writing or closing the file, and its count of writing rose.
+/// - `OutOfMemory`: there was no memory for the shelf, or `fill` had none.
+///
+/// After an error the file was not created, or has a prefix of its bytes. It may then still be in use.
+pub fn write_file<S: Shelf, F: FnOnce(&mut S) -> Result<(), Failed>>(
+    shelf: &mut S,
+    name: &str,
+    fill: F,
+) -> Result<(), Failed>
+    requires in_use { S.in_use shelf.old ≡ InUse.Nothing }
+    requires callable { IsCallableOnCreated S.Shelf (F.pre fill) }
+    requires fills { (bytes : List ℕ) × Fills S.Shelf (F.post fill) bytes }
+    ensures file { (bytes : List ℕ) → Fills S.Shelf (F.post fill) bytes
+        → WritesFile S.Shelf shelf.old shelf.new (name.now, bytes) result }
+    ensures filled { OnOk result (MayAnswer S.Shelf (F.post fill) (Ok tt)) }
+{
+    shelf.create_file(name)?;
+    fill(shelf)?;
+    shelf.close_file()
 }

@@ -11,6 +11,10 @@ use Rattle.edge_io.specs.Shelf.{Told}
 abbrev pub pairs : List (String Global × Vec ℕ Global) → List File
 pairs files = map (λ file. (string_bytes file.0, file.1.items)) files
 
+-- the names of texts
+abbrev pub names : List (String Global) → List (List ℕ)
+names texts = map string_bytes texts
+
 -- the contents of the first file of a name
 abbrev pub lookup : List File → List ℕ → Option (List ℕ)
 lookup [] name = None
@@ -33,7 +37,8 @@ pub record Stored : Type 0 where
   pub done : List File
   pub current : List ℕ
   pub last : List ℕ
+  pub opened : List (List ℕ)
 
 -- what it tells, where it is seen to hold these contents
 abbrev pub told_of : (List ℕ → Option (List ℕ)) → Stored → Told
-told_of holds s = record { holds = holds; left = s.left; done = s.done; current = s.current; last = s.last }
+told_of holds s = record { holds = holds; left = s.left; done = s.done; current = s.current; last = s.last; opened = s.opened }

@@ -1,6 +1,6 @@
 ghost use Rattle.std.specs.Prelude.{◌≡◌, ◌≢◌, ℕ, List, [], ◌∷◌, ◌++◌, length, min, take, drop, ◌↔◌, Some, None, IsSome, IfSome, IfNone, OnOk, OnErr};
 ghost use Rattle.edge_io.specs.declared.outside.InUse.TheVariants.{Nothing, Opened, Created};
-ghost use Rattle.edge_memory.specs.Stored.{Stored, pairs, lookup, lookup_or_empty, contents_of};
+ghost use Rattle.edge_memory.specs.Stored.{Stored, pairs, names, lookup, contents_of};
 
 use edge_io::InUse;
 use std::alloc::{AllocError, Global};
@@ -24,11 +24,12 @@ pub(crate) struct Folder {
     made: Vec<(String, Vec<u8>)>,
     slot: Slot,
     last: String,
+    opened: Vec<String>,
 }
 
 impl Model for Folder {
     ghost use Rattle.std.specs.Prelude.{string_bytes};
-    ghost use Rattle.edge_memory.specs.Stored.{Stored, pairs};
+    ghost use Rattle.edge_memory.specs.Stored.{Stored, pairs, names};
     ghost use Rattle.edge_memory.specs.Slots.{use_of, left_of, current_of, IsSound};
 
     ghost Value = { Stored };
@@ -40,6 +41,7 @@ impl Model for Folder {
       done = pairs f.made.items;
       current = current_of f.slot;
       last = string_bytes f.last;
+      opened = names f.opened.items;
     } };
 
     ghost invariant = { λ f. IsSound (pairs f.files.items) f.made (string_bytes f.last) f.slot };
@@ -78,6 +80,7 @@ impl Folder {
           done = [];
           current = [];
           last = [];
+          opened = [];
         } }
     {
         Folder {
@@ -86,6 +89,7 @@ impl Folder {
             made: Vec::new(alloc),
             slot: Slot::Empty,
             last: String::new(alloc),
+            opened: Vec::new(alloc),
         }
     }
 
@@ -127,7 +131,14 @@ impl Folder {
         place_of(self.files.as_slice(), name)
     }
 
-    /// Keeps a name that was asked for in vain.
+    /// The names of the files that were opened, or asked for in vain, in their order.
+    pub(crate) fn opened(&self) -> &[String]
+        ensures { names result.now ≡ self.now.opened }
+    {
+        self.opened.as_slice()
+    }
+
+    /// Keeps the name of a file that was to be created in vain.
     pub(crate) fn keep_name(&mut self, name: &str) -> Result<(), AllocError>
         requires { self.old.in_use ≡ Nothing }
         ensures idle { self.old.current ≡ [] }
@@ -138,6 +149,22 @@ impl Folder {
         Ok(())
     }
 
+    /// Keeps the name of a file that is opened, or was asked for in vain.
+    pub(crate) fn keep_opened(&mut self, name: &str) -> Result<(), AllocError>
+        requires { self.old.in_use ≡ Nothing }
+        ensures ok { OnOk result (self.new ≡ record self.old {
+          last = name.now;
+          opened = self.old.opened ++ name.now ∷ [];
+        }) }
+        ensures err { OnErr result (self.new ≡ self.old) }
+    {
+        let opened = String::from_str(self.alloc, name)?;
+        self.opened.reserve(1)?;
+        self.last = String::from_str(self.alloc, name)?;
+        self.opened.push_reserved(opened);
+        Ok(())
+    }
+
     /// Opens the file at a place under a name; without a place it is an empty file.
     pub(crate) fn open(&mut self, file: Option<usize>, name: &str) -> Result<(), AllocError>
         requires { self.old.in_use ≡ Nothing }
@@ -145,10 +172,11 @@ impl Folder {
           in_use = Opened;
           left = contents_of self.old.held file;
           last = name.now;
+          opened = self.old.opened ++ name.now ∷ [];
         }) }
         ensures err { OnErr result (self.new ≡ self.old) }
     {
-        self.last = String::from_str(self.alloc, name)?;
+        self.keep_opened(name)?;
         self.slot = Slot::Opened { file, at: 0 };
         Ok(())
     }

@@ -3,7 +3,7 @@ ghost use Rattle.edge_io.specs.declared.outside.InUse.TheVariants.{Nothing, Open
 ghost use Rattle.edge_memory.specs.Calls.{with_call, IsDue, FailsWhere};
 ghost use Rattle.edge_io.specs.Counts.{no_faults, with_read_fault, with_write_fault, HasCause};
 ghost use Rattle.edge_io.specs.Shelf.{untouched, Opens, Reads, Creates, Writes, released, closed};
-ghost use Rattle.edge_memory.specs.Stored.{pairs, lookup};
+ghost use Rattle.edge_memory.specs.Stored.{pairs, names, lookup};
 
 use crate::calls::NumberedCalls;
 use crate::folder::Folder;
@@ -43,6 +43,13 @@ impl MemoryShelf {
         ensures { pairs result.now ≡ (shelf_told self.now).done }
     {
         self.folder.made()
+    }
+
+    /// The names of the files that were opened, or asked for in vain, in their order.
+    pub fn opened(&self) -> &[String]
+        ensures { names result.now ≡ (shelf_told self.now).opened }
+    {
+        self.folder.opened()
     }
 
     /// The name of the created file in use, and the bytes that were written to it.
@@ -92,7 +99,7 @@ impl Shelf for MemoryShelf {
                 Ok(())
             }
             _ => {
-                self.folder.keep_name(name)?;
+                self.folder.keep_opened(name)?;
                 Err(self.counts.read_fault())
             }
         }

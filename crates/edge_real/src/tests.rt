@@ -3,7 +3,10 @@ ghost use Rattle.edge_io.specs.declared.outside.InUse.TheVariants.{Nothing};
 
 use super::*;
 use edge_io::{Failed, Shelf, read_all, say_all, write_all};
+use std::cell::Cell;
+use std::fmt::Display;
 use std::fs;
+use std::io::{self, ErrorKind};
 use std::test::Fail;
 
 // Writes one file and closes it.
@@ -40,8 +43,49 @@ fn full_disk_is_a_fault_when_the_bytes_go_out(rt: HostRuntime) -> Result<(), Fai
     Ok(())
 }
 
+// A printer that takes a byte at a time, and keeps the last eight as a number. Its first call is interrupted.
+#[derive(Drop)]
+struct ByteByByte {
+    calls: Cell<u64>,
+    text: Cell<u64>,
+}
+
+impl Print for ByteByByte {
+    fn print<D: Display + Drop>(&self, _value: D) -> io::Result<()> {
+        Err(io::Error::from(ErrorKind::Other))
+    }
+
+    fn println<D: Display + Drop>(&self, _value: D) -> io::Result<()> {
+        Err(io::Error::from(ErrorKind::Other))
+    }
+
+    fn write_all(&self, _bytes: &[u8]) -> io::Result<()> {
+        Err(io::Error::from(ErrorKind::Other))
+    }
+
+    fn write_some(&self, bytes: &[u8]) -> io::Result<usize> {
+        let calls = self.calls.get();
+        self.calls.set(calls.wrapping_add(1));
+        if calls == 0 {
+            return Err(io::Error::from(ErrorKind::Interrupted));
+        }
+        let Some(byte) = bytes.first() else {
+            return Ok(0);
+        };
+        self.text.set(self.text.get() << 8 | u64::from(*byte));
+        Ok(1)
+    }
+}
+
 #[test]
-fn standard_output_takes_a_text(rt: HostRuntime) -> Result<(), Fail> {
-    say_all(&mut StdoutSink::new(&rt), b"said\n")?;
+fn standard_output_gets_each_byte_of_a_text_once(rt: HostRuntime) -> Result<(), Fail> {
+    let printer = ByteByByte {
+        calls: Cell::new(0),
+        text: Cell::new(0),
+    };
+    say_all(&mut StdoutSink::new(&printer), b"said\n")?;
+    let said = u64::from_be_bytes([0, 0, 0, b's', b'a', b'i', b'd', b'\n']);
+    assert_eq!(rt; printer.text.get(), said);
+    assert_eq!(rt; printer.calls.get(), 6);
     Ok(())
 }

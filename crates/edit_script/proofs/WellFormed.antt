@@ -2,11 +2,10 @@
 use Rattle.std.proofs.Common.{◌≡◌, ℕ, zero, suc, ◌+◌, ◌≤◌, ◌<◌, List, [], ◌∷◌, ◌++◌, length, Bool, true, IsTrue, refl, add-one, length-append, arith}
 use Rattle.std.specs.List.{list_all}
 use Rattle.std.proofs.lemmas.List.Folds.{list_all-append}
-use Rattle.spec_tables.specs.Edits.{Edit}
+use Rattle.spec_tables.specs.Edits.{Edit, has_sound_actions}
 use Rattle.spec_tables.specs.declared.sync_point.SyncPoint.{SyncPoint}
 use Rattle.spec_case.specs.Blocks.{edits_through, AreInOrder}
 use Rattle.spec_script.specs.Script.{Script, most_edits}
-use Rattle.edit_script.specs.Plain.{has_sound_actions}
 use Rattle.edit_script.specs.WellFormed.{IsWellFormed}
 
 -- ---- sync points

@@ -1,4 +1,3 @@
 pub mod LineFaults
-pub mod Plain
 pub mod ScriptViews
 pub mod WellFormed

@@ -3,7 +3,7 @@ use Rattle.std.specs.Prelude.{◌≤◌, length, IsTrue}
 use Rattle.std.specs.List.{list_all}
 use Rattle.spec_case.specs.Blocks.{AreInOrder}
 use Rattle.spec_script.specs.Script.{Script, most_edits, most_syncs}
-use Rattle.edit_script.specs.Plain.{has_sound_actions}
+use Rattle.spec_tables.specs.Edits.{has_sound_actions}
 
 -- The actions are sound, edits and sync points are within their limits, and the counts of edits before sync points never
 -- fall.

@@ -4,11 +4,10 @@ ghost use Rattle.spec_flow_text.specs.Given.{Gives};
 ghost use Rattle.spec_flow_text.specs.Names as names;
 ghost use Rattle.spec_flow_text.specs.Lines.{edit_words, edit, actions_from, edit_from, edit_in};
 ghost use Rattle.match_text.specs.Views.{match_text_view};
-ghost use Rattle.edit_script.specs.Plain.{has_sound_actions};
+ghost use Rattle.spec_tables.specs.Edits.{has_sound_actions};
 
-use crate::line_words::first_word;
 use action_text::read_actions;
-use field_text::{TextFault, meaning_of, uncommented};
+use field_text::{TextFault, first_word, meaning_of, uncommented};
 use match_text::{MatchText, read_match};
 use rule_tables::{Actions, Edit, EditWord};
 use std::alloc::Global;

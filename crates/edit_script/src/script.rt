@@ -4,7 +4,7 @@ ghost use Rattle.spec_case.specs.Blocks.{AreInOrder};
 ghost use Rattle.spec_flow_text.specs.Lines.{edit_in};
 ghost use Rattle.spec_script.specs.Given.{Gives};
 ghost use Rattle.spec_script.specs.Script.{most_line_bytes, most_edits, most_syncs, in_line, last_time, sync_time, with_edit, with_sync, with_line, script_of};
-ghost use Rattle.edit_script.specs.Plain.{has_sound_actions};
+ghost use Rattle.spec_tables.specs.Edits.{has_sound_actions};
 ghost use Rattle.edit_script.specs.ScriptViews.{script_view};
 ghost use Rattle.edit_script.specs.WellFormed.{IsWellFormed};
 

@@ -5,8 +5,7 @@ ghost use Rattle.spec_flow_text.specs.Items.{column, is_white, words};
 ghost use Rattle.spec_script.specs.Script.{most_seconds, seconds_of, fraction_of, seconds_with_fraction, time_of, time_in_words, sync_time};
 ghost use Rattle.field_text.specs.WordViews.{word_view};
 
-use crate::line_words::next_word;
-use field_text::{TextFault, Word, text_from};
+use field_text::{TextFault, WhiteSpace, Word, next_word, text_from};
 use text_numbers::{cut_at, read_decimal, read_digits};
 
 // The decimal digits of a fraction of a second in nanoseconds.
@@ -69,7 +68,8 @@ fn read_time(word: &[u8]) -> Option<u64>
 
 // The time that a word of a line spells.
 fn time_of_word(time: Word<'_>) -> Result<u64, TextFault>
-    ensures { result ≡ ok_or (time_of time.entry.text.now) (BadValue (column (word_view time.entry))) }
+    ensures { result
+        ≡ ok_or (time_of time.entry.text.now) (BadValue (column (word_view time.entry))) }
 {
     match read_time(time.text) {
         Some(nanoseconds) => Ok(nanoseconds),
@@ -81,14 +81,14 @@ fn time_of_word(time: Word<'_>) -> Result<u64, TextFault>
 fn time_in_words(text: Word<'_>) -> Result<u64, TextFault>
     ensures { result ≡ time_in_words (words is_white true text.entry.at text.entry.text.now) }
 {
-    let Some((sync, behind)) = next_word(text) else {
+    let Some((sync, behind)) = next_word::<WhiteSpace>(text) else {
         return Err(TextFault::Syntax { col: 1 });
     };
     let col = sync.column();
-    let Some((time, behind)) = next_word(behind) else {
+    let Some((time, behind)) = next_word::<WhiteSpace>(behind) else {
         return Err(TextFault::Syntax { col });
     };
-    match next_word(behind) {
+    match next_word::<WhiteSpace>(behind) {
         Some(_) => Err(TextFault::Syntax { col }),
         None => time_of_word(time),
     }

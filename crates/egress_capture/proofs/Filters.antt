@@ -1,5 +1,5 @@
 -- What a filter without the bit of a port says.
-use Rattle.std.proofs.Common.{◌≡◌, ℕ, ◌+◌, ◌*◌, ◌%◌, ◌^◌, false, bit_or, List, [], ◌∷◌, All, refl, sym, ap, ◌∙◌, inl, inr, arith}
+use Rattle.std.proofs.Common.{◌≡◌, ℕ, ◌+◌, ◌*◌, ◌%◌, ◌^◌, false, bit_or, List, [], ◌∷◌, All, refl, sym, ◌∙◌, inl, inr, arith}
 use Rattle.std.specs.Prelude.{◌==◌, cond, count_by, max}
 use Rattle.std.specs.Int.{bit_at}
 use Rattle.std.specs.List.{flat_map}
@@ -10,11 +10,9 @@ use Rattle.std.proofs.lemmas.List.Elements.{All-head, All-tail}
 use Rattle.std.proofs.lemmas.List.Sums.{sum_by-cons}
 use Rattle.spec_pcap.specs.Pcap.{Frame}
 use Rattle.spec_actions.specs.declared.action.DpAction.{DpAction}
-use Rattle.edge_io.specs.Shelf.{Told, wrote}
 use Rattle.egress_capture.specs.Sending.{sends_to, frames_to}
 use Rattle.egress_capture.specs.Filters.{bit_of}
-use Rattle.egress_capture.proofs.Prefixes.{wrote_nothing}
-use Rattle.egress_capture.proofs.Sends.{out_none}
+use Rattle.egress_capture.proofs.Written.{none_written}
 
 module _ (port : ℕ) where
   -- the action doesn't send to the port
@@ -34,11 +32,9 @@ module _ (port : ℕ) where
       sum_by-cons times a actions ∙ both
 
   -- where no action sends to the port, nothing is to be written
-  pub passed : (bytes_of : Frame → List ℕ) (t : Told) (time : ℕ) (actions : List DpAction) (frame : List ℕ) → All Passes actions
-      → t ≡ wrote t (flat_map bytes_of (frames_to port time actions frame))
-  passed bytes_of t time actions frame all =
-      wrote_nothing t
-      ∙ ap (λ (fs : List Frame). wrote t (flat_map bytes_of fs)) (sym (out_none port time actions frame (none_counted actions all)))
+  pub passed : (bytes_of : Frame → List ℕ) (time : ℕ) (actions : List DpAction) (frame : List ℕ) → All Passes actions
+      → flat_map bytes_of (frames_to port time actions frame) ≡ []
+  passed bytes_of time actions frame all = none_written bytes_of port time actions frame (none_counted actions all)
 
 -- ---- bits
 

@@ -1,5 +1,4 @@
 pub mod Prefixes
 mod Sends
-pub mod Decided
 mod Written
 mod Filters

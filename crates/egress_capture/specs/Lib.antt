@@ -1,3 +1,2 @@
-pub mod Boards
 pub mod Sending
 pub mod Filters

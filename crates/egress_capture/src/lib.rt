@@ -7,26 +7,26 @@
 //!
 //! # What is promised
 //!
-//! `write_port` writes exactly the file that `spec_run` defines for the port, out of the journals of the boards: each
-//! frame once for each output to the port in the actions that its board decided, with the time at which it came in. On
-//! a shelf that tells its bytes, a refused call leaves a prefix of that file after the files that were there before, or
-//! nothing of it.
+//! `write_port` writes exactly the file that `spec_run` defines for the port, out of the journals of finished boards:
+//! each frame once for each output to the port in the actions that its board decided, with the time at which it came
+//! in. On a shelf that tells its bytes, a refused call leaves a prefix of that file after the files that were there
+//! before, or nothing of it.
 //!
 //! # How
 //!
-//! The arrivals are made once for all ports, and so are their *filters*: a number for each, with a bit for each port
-//! that its actions send to (`filters_of`). Each port's file is one walk along the filters, so that a frame costs a port
-//! that doesn't get it no more than the test of a bit. Where the port's bit is there, the board of the arrival's port is
-//! found by going through the ports, of which there are few, and lends the actions of the frame, whose bytes go from its
-//! trace to the shelf. Ports whose numbers leave the same remainder by 32 share a bit, and then the actions tell.
+//! The arrivals are there once for all ports, and so are their *filters*: a number for each, with a bit for each port
+//! that its actions send to (`filters_of`). Each port's file is one walk along the filters, so that a frame costs a
+//! port that doesn't get it no more than the test of a bit. Where the port's bit is there, the finished boards lend the
+//! frame with its actions, and its bytes go from its trace to the shelf. Ports whose numbers leave the same remainder
+//! by 32 share a bit, and then the actions tell.
 //!
 //! What only sends is written from the trace. A frame that is rewritten on the way is copied into a buffer first
 //! (`action_exec`), one for each file, and only where it goes out at the port after it was rewritten.
 //!
 //! # What is left to others
 //!
-//! That the boards have decided every frame, and are those of the ports in the order of the words; the name of the
-//! file; and that files are written for all ports.
+//! That every frame is decided (`step_runner`, whose `Finished` has it as its type), the name of the file, and that
+//! files are written for all ports.
 #![tactic(auto)]
 
 mod port_file;

@@ -1,18 +1,14 @@
 //! Which ports actions may send to, told in a number, so that a port passes over the frames of others quickly.
-ghost use Rattle.std.specs.Prelude.{◌≡◌, ◌%◌, ℕ, true, false, All, IfOk, map};
+ghost use Rattle.std.specs.Prelude.{◌≡◌, ◌%◌, ℕ, false, IfOk};
 ghost use Rattle.std.specs.Int.{bit_at};
 ghost use Rattle.spec_case.specs.Arrivals.{in_order, arrivals as came_in};
-ghost use Rattle.pmd_board.specs.BoardView.{journals_view};
-ghost use Rattle.egress_capture.specs.Boards.{IsAllDecided};
 ghost use Rattle.egress_capture.specs.Sending.{sends_to};
 ghost use Rattle.egress_capture.specs.Filters.{bit_of, PassesAll, AreFilters};
 
-use crate::port_file::actions_of;
-use pmd_board::Board;
 use run_case::{Case, RunData};
 use spec_actions::DpAction;
-use spec_case::Arrival;
 use std::alloc::{AllocError, Global};
+use step_runner::Finished;
 
 /// How many bits a filter has.
 const BITS: u16 = 32;
@@ -65,20 +61,14 @@ impl PortFilter {
 pub fn filters_of<C: Case>(
     alloc: Global,
     run: &RunData<C>,
-    boards: &[Board<C>],
-    arrivals: &[Arrival],
+    finished: &Finished<C>,
 ) -> Result<Vec<PortFilter>, AllocError>
-    requires boards { map (λ b. b.port) boards.now ≡ C.run.ports }
-    requires arrivals { arrivals.now ≡ in_order (came_in C.run) }
-    requires decided { All (IsAllDecided C.run) boards.now }
-    ensures { IfOk result (λ v. AreFilters C.run (journals_view boards.now) arrivals.now v.items) }
+    ensures { IfOk result (λ v. AreFilters C.run finished.now (in_order (came_in C.run)) v.items) }
 {
-    // The ports differ, so that each arrival is a frame of its port's own trace.
-    let ports = run.ports().len() as usize;
-    prove!(boards.len() == ports);
-    let mut filters = Vec::with_capacity(alloc, arrivals.len())?;
-    'arrivals: for arrival in arrivals {
-        let actions = actions_of(run, boards, *arrival);
+    let came = finished.arrivals();
+    let mut filters = Vec::with_capacity(alloc, came.len())?;
+    'arrivals: for arrival in came {
+        let actions = finished.actions(run, *arrival);
         filters.push(PortFilter::of(actions))?;
     }
     Ok(filters)

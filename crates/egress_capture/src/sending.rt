@@ -1,13 +1,11 @@
 //! A frame sent out at one port, as often as its actions say, and as they then have it.
-ghost use Rattle.std.specs.Prelude.{◌≡◌, ◌+◌, ◌/◌, ◌<◌, ◌≤◌, ◌^◌, [], ◌∷◌, length, replicate, count_by, OnOk, OnErr, IsTrue};
+ghost use Rattle.std.specs.Prelude.{◌≡◌, ◌+◌, ◌/◌, ◌<◌, ◌≤◌, ◌^◌, [], ◌∷◌, length, replicate, count_by, OnOk};
 ghost use Rattle.std.specs.List.{flat_map, take_while};
 ghost use Rattle.spec_pcap.specs.Pcap.{record_of, second, snap_length};
 ghost use Rattle.spec_frames.specs.Ethernet.{tag_size};
 ghost use Rattle.spec_xlate.specs.Translation.{action_limit};
 ghost use Rattle.edge_io.specs.declared.outside.InUse.TheVariants.{Created};
-ghost use Rattle.edge_io.specs.Counts.{HasCause, with_write_fault};
-ghost use Rattle.edge_io.specs.Shelf.{wrote};
-ghost use Rattle.edge_io.specs.Written.{WrotePrefix};
+ghost use Rattle.edge_io.specs.Written.{WritesAll};
 ghost use Rattle.egress_capture.specs.Sending.{is_output, sends_to, frame_of, frames_to, next};
 
 use action_exec::FrameBuffer;
@@ -62,12 +60,8 @@ fn send_copies<S: Shelf>(
     requires seconds { time / second < 2 ^ 32 }
     requires len { length bytes.now < 2 ^ 32 }
     ensures nanos { writer.new ≡ writer.old }
-    ensures in_use { S.in_use shelf.new ≡ Created }
-    ensures ok { let records = flat_map (record_of writer.old) (replicate copies (frame_of time bytes.now)) in
-        IsTrue S.tells → OnOk result (S.told shelf.new ≡ wrote (S.told shelf.old) records) }
-    ensures err { let records = flat_map (record_of writer.old) (replicate copies (frame_of time bytes.now)) in
-        IsTrue S.tells → OnErr result (WrotePrefix (S.told shelf.old) (S.told shelf.new) records) }
-    ensures cause { HasCause with_write_fault (S.counts shelf.old) (S.counts shelf.new) result }
+    ensures writes { let records = flat_map (record_of writer.old) (replicate copies (frame_of time bytes.now)) in
+        WritesAll S.Shelf shelf.old shelf.new records result }
 {
     'copies: for copy in 0..copies {
         writer.frame(shelf, time, bytes)?;
@@ -89,14 +83,10 @@ fn run_action<S: Shelf>(
     requires seconds { time / second < 2 ^ 32 }
     requires len { length frame.old < 2 ^ 32 }
     ensures nanos { writer.new ≡ writer.old }
-    ensures in_use { S.in_use shelf.new ≡ Created }
     ensures frame { OnOk result (frame.new ≡ next action.now frame.old) }
     ensures grows { OnOk result (length frame.new ≤ length frame.old + tag_size) }
-    ensures ok { let records = flat_map (record_of writer.old) (frames_to port time (action.now ∷ []) frame.old) in
-        IsTrue S.tells → OnOk result (S.told shelf.new ≡ wrote (S.told shelf.old) records) }
-    ensures err { let records = flat_map (record_of writer.old) (frames_to port time (action.now ∷ []) frame.old) in
-        IsTrue S.tells → OnErr result (WrotePrefix (S.told shelf.old) (S.told shelf.new) records) }
-    ensures cause { HasCause with_write_fault (S.counts shelf.old) (S.counts shelf.new) result }
+    ensures writes { let records = flat_map (record_of writer.old) (frames_to port time (action.now ∷ []) frame.old) in
+        WritesAll S.Shelf shelf.old shelf.new records result }
 {
     if is_output_to(action, port) {
         writer.frame(shelf, time, frame.as_slice())
@@ -122,12 +112,8 @@ fn send_rewritten<S: Shelf>(
     requires len { length frame.old ≤ snap_length }
     requires few { length actions.now ≤ action_limit }
     ensures nanos { writer.new ≡ writer.old }
-    ensures in_use { S.in_use shelf.new ≡ Created }
-    ensures ok { let records = flat_map (record_of writer.old) (frames_to port time actions.now frame.old) in
-        IsTrue S.tells → OnOk result (S.told shelf.new ≡ wrote (S.told shelf.old) records) }
-    ensures err { let records = flat_map (record_of writer.old) (frames_to port time actions.now frame.old) in
-        IsTrue S.tells → OnErr result (WrotePrefix (S.told shelf.old) (S.told shelf.new) records) }
-    ensures cause { HasCause with_write_fault (S.counts shelf.old) (S.counts shelf.new) result }
+    ensures writes { let records = flat_map (record_of writer.old) (frames_to port time actions.now frame.old) in
+        WritesAll S.Shelf shelf.old shelf.new records result }
 {
     'actions: for action in actions {
         run_action(shelf, writer, time, frame, action, port)?;
@@ -152,12 +138,8 @@ pub fn send<S: Shelf>(
     requires len { length bytes.now ≤ snap_length }
     requires few { length actions.now ≤ action_limit }
     ensures nanos { writer.new ≡ writer.old }
-    ensures in_use { S.in_use shelf.new ≡ Created }
-    ensures ok { let records = flat_map (record_of writer.old) (frames_to port time actions.now bytes.now) in
-        IsTrue S.tells → OnOk result (S.told shelf.new ≡ wrote (S.told shelf.old) records) }
-    ensures err { let records = flat_map (record_of writer.old) (frames_to port time actions.now bytes.now) in
-        IsTrue S.tells → OnErr result (WrotePrefix (S.told shelf.old) (S.told shelf.new) records) }
-    ensures cause { HasCause with_write_fault (S.counts shelf.old) (S.counts shelf.new) result }
+    ensures writes { let records = flat_map (record_of writer.old) (frames_to port time actions.now bytes.now) in
+        WritesAll S.Shelf shelf.old shelf.new records result }
 {
     let (outputs, others) = actions.split_at(outputs_first(actions));
     send_copies(shelf, writer, time, bytes, copies(outputs, port))?;

@@ -77,7 +77,8 @@ fn slot_of_two(
     in_second: Option<&Kept>,
 ) -> u32
     requires { hash ≡ key_hash (numbers key.now) }
-    ensures { result ≡ slot_of_two (numbers key.now) first (option_copied in_first.entry) second (option_copied in_second.entry) }
+    ensures { result ≡ slot_of_two (numbers key.now) first (option_copied in_first.entry) second
+        (option_copied in_second.entry) }
 {
     if keeps(in_first, key, hash) {
         first
@@ -97,7 +98,8 @@ pub(crate) fn write(slots: &mut KeptSlots, number: u32, kept: Kept)
     requires cache { IsCache slots.old }
     requires within { number < slot_count }
     ensures cache { IsCache slots.new }
-    ensures written { (n : ℕ) → get nat_eq slots.new n ≡ (if number == n then Some kept else get nat_eq slots.old n) }
+    ensures written { (n : ℕ)
+        → get nat_eq slots.new n ≡ (if number == n then Some kept else get nat_eq slots.old n) }
 {
     if let Some(slot) = slots.get_mut(&number) {
         *slot = kept;

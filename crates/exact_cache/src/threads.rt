@@ -1,12 +1,6 @@
 //! That a cache may be shared among threads and go from one to another.
-//!
-//! This function does nothing. Without it a proof that is missing would show only where threads first meet, above.
 use crate::cache::ExactCache;
-
-// Any value of the type may go to another thread, and be shared with others.
-fn crosses_threads<T: Send + Sync>(value: &T) {
-    let _ = value;
-}
+use thread_bounds::crosses_threads;
 
 fn exact_cache_crosses_threads(cache: &ExactCache) {
     crosses_threads(cache)

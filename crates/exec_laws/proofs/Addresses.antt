@@ -11,7 +11,8 @@ use Rattle.spec_frames.specs.Ethernet.{is_tag_type, is_tagged, tci_of, carried, 
 use Rattle.spec_frames.specs.Network.{network_at, network}
 use Rattle.spec_frames.specs.Key.{with_value, with_network, key_of}
 use Rattle.spec_actions.specs.declared.action.DpAction.TheVariants.{Set}
-use Rattle.spec_exec.specs.Writing.{with_number, merged}
+use Rattle.spec_base.specs.Bits.{merged}
+use Rattle.spec_exec.specs.Writing.{with_number}
 use Rattle.spec_exec.specs.Rewriting.{corrected, set_field, after_action}
 use Rattle.key_laws.proofs.Forms.{ethernet_key, ethernet_of, whole-key}
 use Rattle.frame_laws.proofs.HeaderLaws.{carried-least}

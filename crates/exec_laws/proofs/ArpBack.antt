@@ -1,7 +1,7 @@
 -- The fields of ARP read back, and leave the headers where they stand.
 use Rattle.std.proofs.Common.{◌≡◌, ◌≢◌, ℕ, ◌+◌, ◌*◌, ◌^◌, ◌<◌, ◌≤◌, true, List, length, slice_index, All, bit_and, ◌⊎◌, inl, inr, refl, sym, ap, ap₂, ◌∙◌, subst, arith}
 use Rattle.std.proofs.Math.Nat.{mod-eq_of_lt}
-use Rattle.spec_base.specs.Bits.{all_bits}
+use Rattle.spec_base.specs.Bits.{all_bits, merged}
 use Rattle.spec_base.specs.Bytes.{big_endian_at}
 use Rattle.spec_keys.specs.declared.field_id.FieldId.TheVariants.{NwSrc, NwDst, NwProto, ArpSha, ArpTha}
 use Rattle.spec_keys.specs.Keys.{none, value_of}
@@ -18,7 +18,7 @@ use Rattle.spec_frames.specs.Transport.{transport}
 use Rattle.spec_frames.specs.Key.{with_value, with_network, key_of}
 use Rattle.spec_frames.specs.Layout.{place_of_network, layout_with, layout_of}
 use Rattle.spec_actions.specs.declared.action.DpAction.TheVariants.{Set}
-use Rattle.spec_exec.specs.Writing.{with_number, merged}
+use Rattle.spec_exec.specs.Writing.{with_number}
 use Rattle.spec_exec.specs.Rewriting.{corrected, set_field, after_action}
 use Rattle.key_laws.proofs.Forms.{by_length, by_network, ethernet_key, whole-key, whole-layout}
 use Rattle.frame_laws.proofs.HeaderLaws.{carried-least}

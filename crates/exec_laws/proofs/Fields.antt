@@ -2,7 +2,7 @@
 use Rattle.std.proofs.Common.{◌≡◌, ℕ, ◌*◌, ◌/◌, ◌%◌, ◌^◌, ◌<◌, List, bit_and, bit_xor, refl, sym, ap, ap₂, ◌∙◌, arith}
 use Rattle.std.proofs.lemmas.Nat.{and_mask, xor_lt, and_le_r, xor_shr, and_shr, xor_mod, and_mod, xor_comm, shl-shr}
 use Rattle.std.proofs.Math.Nat.{mod-eq_of_lt}
-use Rattle.spec_base.specs.Bits.{all_bits}
+use Rattle.spec_base.specs.Bits.{all_bits, merged}
 use Rattle.spec_keys.specs.declared.field_id.FieldId.TheVariants.{DlSrc, DlDst, VlanTci}
 use Rattle.spec_keys.specs.Keys.{none, value_of}
 use Rattle.spec_frames.specs.declared.headers.Datagram.{Datagram}
@@ -14,7 +14,6 @@ use Rattle.spec_frames.specs.Ipv4 as ipv4
 use Rattle.spec_frames.specs.Ipv6 as ipv6
 use Rattle.spec_frames.specs.Transport.{transport}
 use Rattle.spec_frames.specs.Key.{with_value, shown, with_datagram, with_transport, with_network}
-use Rattle.spec_exec.specs.Writing.{merged}
 use Rattle.key_laws.proofs.Forms.{ethernet_key, with_addresses}
 
 -- what a key says of Ethernet, whatever its other fields are

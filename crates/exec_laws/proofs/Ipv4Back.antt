@@ -2,7 +2,7 @@
 use Rattle.std.proofs.Common.{◌≡◌, ◌≢◌, ℕ, ◌+◌, ◌*◌, ◌^◌, ◌<◌, ◌≤◌, List, [], length, slice_index, ◌⊎◌, inl, inr, bit_and, refl, sym, ap, ap₂, ◌∙◌, arith}
 use Rattle.std.proofs.lemmas.Bool.{cases_lt}
 use Rattle.std.proofs.Math.Nat.{mod-eq_of_lt}
-use Rattle.spec_base.specs.Bits.{all_bits}
+use Rattle.spec_base.specs.Bits.{all_bits, merged}
 use Rattle.spec_base.specs.Bytes.{big_endian_at}
 use Rattle.spec_keys.specs.declared.field_id.FieldId.TheVariants.{NwSrc, NwDst, NwTos, NwTtl}
 use Rattle.spec_keys.specs.Keys.{none, value_of}
@@ -13,7 +13,7 @@ use Rattle.spec_frames.specs.Ipv4 as ipv4
 use Rattle.spec_frames.specs.Layout.{layout_of}
 use Rattle.spec_frames.specs.Key.{with_value, ip_frag, key_of}
 use Rattle.spec_actions.specs.declared.action.DpAction.TheVariants.{Set}
-use Rattle.spec_exec.specs.Writing.{with_number, merged}
+use Rattle.spec_exec.specs.Writing.{with_number}
 use Rattle.spec_exec.specs.Places.{Place, Plain, Sum, address_sum}
 use Rattle.spec_exec.specs.Rewriting.{after_words, corrected, set_field, after_action}
 use Rattle.spec_frames.specs.Ethernet.{header_size}

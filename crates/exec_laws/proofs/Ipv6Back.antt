@@ -2,7 +2,7 @@
 use Rattle.std.proofs.Common.{◌≡◌, ℕ, ◌+◌, ◌*◌, ◌/◌, ◌^◌, ◌%◌, ◌<◌, ◌≤◌, ◌&&◌, ◌==◌, nat_le, if◌then◌else◌, List, [], length, slice_index, All, bit_and, ◌⊎◌, inl, inr, refl, sym, ap, ◌∙◌, subst, arith}
 use Rattle.std.proofs.lemmas.Bool.{cond_both}
 use Rattle.std.proofs.Math.Nat.{mod-eq_of_lt}
-use Rattle.spec_base.specs.Bits.{all_bits}
+use Rattle.spec_base.specs.Bits.{all_bits, merged}
 use Rattle.spec_base.specs.Bytes.{big_endian_at}
 use Rattle.spec_keys.specs.declared.field_id.FieldId.TheVariants.{Ipv6Src, Ipv6Dst, NwTos, NwTtl}
 use Rattle.spec_keys.specs.Keys.{none, value_of}
@@ -19,7 +19,7 @@ use Rattle.spec_frames.specs.Transport.{transport}
 use Rattle.spec_frames.specs.Key.{with_value, ip_frag, key_of}
 use Rattle.spec_frames.specs.Layout.{layout_of}
 use Rattle.spec_actions.specs.declared.action.DpAction.TheVariants.{Set}
-use Rattle.spec_exec.specs.Writing.{with_number, merged}
+use Rattle.spec_exec.specs.Writing.{with_number}
 use Rattle.spec_exec.specs.Places.{Place, Sum, address_sum}
 use Rattle.spec_exec.specs.Rewriting.{corrected, set_field, after_action}
 use Rattle.key_laws.proofs.Forms.{whole-layout}

@@ -11,7 +11,8 @@ use Rattle.spec_frames.specs.Layout.{layout_with, layout_of}
 use Rattle.spec_base.specs.Bytes.{big_endian_at}
 use Rattle.spec_keys.specs.declared.field_id.FieldId.TheVariants.{DlSrc, DlDst}
 use Rattle.spec_actions.specs.declared.action.DpAction.TheVariants.{Set}
-use Rattle.spec_exec.specs.Writing.{with_number, merged}
+use Rattle.spec_base.specs.Bits.{merged}
+use Rattle.spec_exec.specs.Writing.{with_number}
 use Rattle.spec_exec.specs.Rewriting.{after_action}
 use Rattle.exec_laws.specs.ReadBack.{AreBytes}
 use Rattle.exec_laws.proofs.Replacing.{with_number-length, with_number-after}

@@ -3,7 +3,7 @@
 use Rattle.std.proofs.Common.{◌≡◌, ◌≢◌, ℕ, ◌+◌, ◌*◌, ◌<◌, ◌≤◌, ◌^◌, List, length, set, slice_index, bit_and, inl, inr, refl, sym, ap, ap₂, ◌∙◌, subst, arith}
 use Rattle.std.proofs.lemmas.List.{set-set, set_comm}
 use Rattle.std.proofs.Math.Nat.{mod-eq_of_lt}
-use Rattle.spec_base.specs.Bits.{all_bits}
+use Rattle.spec_base.specs.Bits.{all_bits, merged}
 use Rattle.spec_base.specs.Bytes.{big_endian_at}
 use Rattle.spec_keys.specs.declared.field_id.FieldId.TheVariants.{IpFrag, TpSrc, TpDst}
 use Rattle.spec_keys.specs.Keys.{value_of}
@@ -23,7 +23,7 @@ use Rattle.spec_frames.specs.Transport.{transport}
 use Rattle.spec_frames.specs.Layout.{layout_with, layout_of}
 use Rattle.spec_frames.specs.Key.{with_value, ip_frag, shown, with_numbers, with_datagram, with_ipv4, with_ipv6, with_transport, with_network, key_of}
 use Rattle.spec_actions.specs.declared.action.DpAction.TheVariants.{Set}
-use Rattle.spec_exec.specs.Writing.{with_number, merged}
+use Rattle.spec_exec.specs.Writing.{with_number}
 use Rattle.spec_exec.specs.Places.{Place, Sum, port_at, port_sum}
 use Rattle.spec_exec.specs.Rewriting.{corrected, set_at, set_field, after_action}
 use Rattle.key_laws.proofs.Forms.{ethernet_key, ethernet_of, whole-key, whole-layout}

@@ -8,7 +8,7 @@ use Rattle.spec_frames.specs.Layout.{layout_of}
 use Rattle.spec_frames.specs.Key.{with_value, key_of}
 use Rattle.spec_actions.specs.declared.action.DpAction.TheVariants.{Set}
 use Rattle.spec_xlate.specs.Needs.{is_unfragmented}
-use Rattle.spec_exec.specs.Writing.{merged}
+use Rattle.spec_base.specs.Bits.{merged}
 use Rattle.spec_exec.specs.Places.{place_in}
 use Rattle.spec_exec.specs.Rewriting.{after_action}
 

@@ -1,3 +1,4 @@
 pub mod Tables
 pub mod Forms
 pub mod CommaSteps
+pub mod WordLists

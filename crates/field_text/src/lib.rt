@@ -13,8 +13,10 @@
 //! - `read_value` reads a value and its mask exactly where the definition has one. Both are within the bits of the name.
 //! - `field_stated` and `vlan_stated` are the bits of a field of the key that an item of a match states, with what they
 //!   need of the flow. They are within the field, and the value within its mask.
-//! - `print_value` adds the text of a value that the definition gives. Where memory runs out the text begins
-//!   with what it was.
+//! - `print_value` adds the text of a value that the definition gives, and `print_list` the texts of items with commas
+//!   between them, or `drop`. Where memory runs out the text begins with what it was. `within_mask` is what is written of
+//!   bits: those outside the mask are 0.
+//! - `next_word` is the first word of a stretch of a line, and what stands behind it, whichever bytes stand between words.
 //! - A `Word` knows that its columns are numbers of 32 bits, and `text_from` gives the text of a line without its comment,
 //!   or the column of its first byte that isn't ASCII.
 //! - No reader takes memory.
@@ -35,6 +37,8 @@ mod fields;
 mod items;
 mod line;
 mod lines;
+mod listing;
+mod next_words;
 mod own_names;
 mod parts;
 mod printing;
@@ -49,6 +53,8 @@ pub use fields::{field_named, name_of};
 pub use items::{item_named, word_of};
 pub use line::Word;
 pub use lines::{is_separator, is_white, text_from, uncommented};
+pub use listing::{ItemPrinter, print_list};
+pub use next_words::{Gap, Separators, WhiteSpace, first_word, next_word};
 pub use own_names::own_name;
 pub use parts::{field_stated, protocol_part, type_part, vlan_stated};
 pub use printing::print_value;
@@ -58,5 +64,5 @@ pub use protocols::{
 pub use spec_flow_text::{
     ActionName, ItemName, MatchPrerequisite, Part, Shorthand, TagPart, TextFault, ValueForm,
 };
-pub use values::{Bits, read_value, read_whole_value};
+pub use values::{Bits, read_value, read_whole_value, within_mask};
 pub use words::meaning_of;

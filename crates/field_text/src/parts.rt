@@ -9,8 +9,8 @@ ghost use Rattle.field_text.specs.Views.{bits_view, Fits, FitsWidth, IsWithin};
 use crate::protocols::{
     ARP_TYPE, ICMP_PROTOCOL, ICMP6_PROTOCOL, IPV4_TYPE, IPV6_TYPE, TCP_PROTOCOL, UDP_PROTOCOL,
 };
-use crate::values::{Bits, low_bits, read_value};
-use named_fields::named;
+use crate::values::{Bits, read_value};
+use named_fields::{low_bits, named};
 use ovs_fields::FieldId;
 use spec_actions::NamedField;
 use spec_flow_text::{MatchPrerequisite, Part, Shorthand, TagPart};
@@ -87,7 +87,8 @@ fn raised(field: NamedField, bits: Bits) -> Bits
 // The bits of the priority of a tag, and that there is a tag.
 fn raised_with_tag(bits: Bits) -> Bits
     requires { Fits NamedField.VlanPcp bits }
-    ensures value { bits_view result ≡ values.with_tag (values.raised (named NamedField.VlanPcp).low (bits_view bits)) }
+    ensures value { bits_view result
+        ≡ values.with_tag (values.raised (named NamedField.VlanPcp).low (bits_view bits)) }
     ensures fits { FitsWidth FieldId.VlanTci result }
 {
     Bits {
@@ -152,7 +153,8 @@ const NO_VLAN: u128 = 0xffff;
 
 fn tag_part(bits: Bits) -> Part
     requires { FitsWidth FieldId.VlanTci bits }
-    ensures value { result ≡ values.part FieldId.VlanTci (bits_view bits) MatchPrerequisite.Nothing TagPart.Identifier }
+    ensures value { result
+        ≡ values.part FieldId.VlanTci (bits_view bits) MatchPrerequisite.Nothing TagPart.Identifier }
     ensures within { IsWithin result }
 {
     part(

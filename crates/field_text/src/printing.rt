@@ -3,7 +3,7 @@ ghost use Rattle.std.specs.Option.{option_map};
 ghost use Rattle.spec_base.specs.Bits.{all_bits};
 ghost use Rattle.spec_actions.specs.Named.{named};
 ghost use Rattle.spec_flow_text.specs.Printed as printed;
-ghost use Rattle.text_numbers.specs.Prefix.{IsPrefix};
+ghost use Rattle.text_numbers.specs.Added.{Adds};
 ghost use Rattle.field_text.specs.Views.{bits_view, Fits};
 ghost use Rattle.field_text.specs.PrintedForms.{form_view, width_of_form};
 
@@ -80,8 +80,7 @@ fn fragment_word(bits: Bits) -> Option<&'static str>
 // A whole value.
 fn print_whole(out: &mut String, form: PrintedForm, value: u128) -> Result<(), AllocError>
     requires { value < 2 ^ width_of_form (form_view form) }
-    ensures text { OnOk result (string_bytes out.new ≡ string_bytes out.old ++ printed.value_text (form_view form) value) }
-    ensures kept { OnErr result (IsPrefix (string_bytes out.old) (string_bytes out.new)) }
+    ensures { Adds out.old out.new (printed.value_text (form_view form) value) result }
 {
     match form {
         PrintedForm::Decimal => print_decimal(out, value),
@@ -96,8 +95,7 @@ fn print_whole(out: &mut String, form: PrintedForm, value: u128) -> Result<(), A
 // A value beside its mask.
 fn print_masked(out: &mut String, form: PrintedForm, value: u128) -> Result<(), AllocError>
     requires { value < 2 ^ width_of_form (form_view form) }
-    ensures text { OnOk result (string_bytes out.new ≡ string_bytes out.old ++ printed.masked_text (form_view form) value) }
-    ensures kept { OnErr result (IsPrefix (string_bytes out.old) (string_bytes out.new)) }
+    ensures { Adds out.old out.new (printed.masked_text (form_view form) value) result }
 {
     match form {
         PrintedForm::Decimal => print_hexadecimal(out, value),
@@ -107,8 +105,7 @@ fn print_masked(out: &mut String, form: PrintedForm, value: u128) -> Result<(), 
 
 fn print_mask(out: &mut String, form: PrintedForm, mask: u128) -> Result<(), AllocError>
     requires { mask < 2 ^ width_of_form (form_view form) }
-    ensures text { OnOk result (string_bytes out.new ≡ string_bytes out.old ++ printed.mask_text (form_view form) mask) }
-    ensures kept { OnErr result (IsPrefix (string_bytes out.old) (string_bytes out.new)) }
+    ensures { Adds out.old out.new (printed.mask_text (form_view form) mask) result }
 {
     match form {
         PrintedForm::Ipv4 => print_ipv4_mask(out, mask as u32),
@@ -126,8 +123,8 @@ fn print_value_and_mask(
 ) -> Result<(), AllocError>
     requires value { bits.value < 2 ^ width_of_form (form_view form) }
     requires mask { bits.mask < 2 ^ width_of_form (form_view form) }
-    ensures text { OnOk result (string_bytes out.new ≡ string_bytes out.old ++ printed.value_and_mask (form_view form) full (bits_view bits)) }
-    ensures kept { OnErr result (IsPrefix (string_bytes out.old) (string_bytes out.new)) }
+    ensures { Adds out.old out.new
+        (printed.value_and_mask (form_view form) full (bits_view bits)) result }
 {
     if bits.mask == full {
         return print_whole(out, form, bits.value);
@@ -140,8 +137,8 @@ fn print_value_and_mask(
 fn print_fragment(out: &mut String, full: u128, bits: Bits) -> Result<(), AllocError>
     requires value { bits.value < 2 ^ 128 }
     requires mask { bits.mask < 2 ^ 128 }
-    ensures text { OnOk result (string_bytes out.new ≡ string_bytes out.old ++ printed.value_of_form (form_view PrintedForm.Fragment) full (bits_view bits)) }
-    ensures kept { OnErr result (IsPrefix (string_bytes out.old) (string_bytes out.new)) }
+    ensures { Adds out.old out.new
+        (printed.value_of_form (form_view PrintedForm.Fragment) full (bits_view bits)) result }
 {
     match fragment_word(bits) {
         Some(word) => out.push_str(word),
@@ -153,8 +150,7 @@ fn print_fragment(out: &mut String, full: u128, bits: Bits) -> Result<(), AllocE
 #[tactic(auto, unfolding(spec_flow_text::specs::Printed::value_in_text))]
 pub fn print_value(out: &mut String, field: NamedField, bits: Bits) -> Result<(), AllocError>
     requires { Fits field bits }
-    ensures text { OnOk result (string_bytes out.new ≡ string_bytes out.old ++ printed.value_in_text field (bits_view bits)) }
-    ensures kept { OnErr result (IsPrefix (string_bytes out.old) (string_bytes out.new)) }
+    ensures { Adds out.old out.new (printed.value_in_text field (bits_view bits)) result }
 {
     let full = bits_of(field);
     match printed_form(field) {

@@ -1,14 +1,14 @@
-ghost use Rattle.std.specs.Prelude.{◌≡◌, ◌<◌, ◌≤◌, ◌^◌, IfSome};
+ghost use Rattle.std.specs.Prelude.{◌≡◌, ℕ, ◌<◌, ◌≤◌, ◌^◌, IfSome};
 ghost use Rattle.std.specs.Option.{option_map, option_and_then};
 ghost use Rattle.spec_base.specs.Bits.{all_bits};
 ghost use Rattle.spec_actions.specs.Named.{named};
 ghost use Rattle.spec_numbers.specs.Numbers.{number_upto, last_port, nonzero};
 ghost use Rattle.spec_flow_text.specs.Names.{meaning_of};
 ghost use Rattle.spec_flow_text.specs.Values as values;
-ghost use Rattle.field_text.specs.Views.{bits_view, limit, Fits};
+ghost use Rattle.field_text.specs.Views.{bits_view, limit, AreBelow, Fits};
 
 use crate::words::meaning_of;
-use named_fields::named;
+use named_fields::{low_bits, named};
 use spec_actions::NamedField;
 use spec_flow_text::ValueForm;
 use text_numbers::{
@@ -21,6 +21,17 @@ use text_numbers::{
 pub struct Bits {
     pub value: u128,
     pub mask: u128,
+}
+
+/// The same bits, of which those outside the mask are 0.
+pub fn within_mask(bits: Bits) -> Bits
+    ensures value { bits_view result ≡ values.within_mask (bits_view bits) }
+    ensures below { (width : ℕ) → AreBelow width bits → AreBelow width result }
+{
+    Bits {
+        value: bits.value & bits.mask,
+        mask: bits.mask,
+    }
 }
 
 fn form_of(field: NamedField) -> ValueForm
@@ -38,14 +49,6 @@ fn form_of(field: NamedField) -> ValueForm
         NamedField::IpFrag => ValueForm::Fragment,
         _ => ValueForm::Number,
     }
-}
-
-// The n least bits.
-pub fn low_bits(n: u32) -> u128
-    requires { n ≤ 128 }
-    ensures { result ≡ all_bits n }
-{
-    if n == 128 { u128::MAX } else { (1 << n) - 1 }
 }
 
 // All bits of a named field.

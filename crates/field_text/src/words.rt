@@ -20,7 +20,8 @@ pub fn begins_with_one_of(starts: &[&str], text: &[u8]) -> bool
 }
 
 fn found<T: Copy>(table: &[(&str, T)], text: &[u8]) -> Option<T>
-    ensures { result ≡ option_map (λ row. row.1) (find (λ row. bytes_eq row.0.now text.now) table.now) }
+    ensures { result
+        ≡ option_map (λ row. row.1) (find (λ row. bytes_eq row.0.now text.now) table.now) }
 {
     table
         .iter()

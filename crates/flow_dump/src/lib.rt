@@ -21,8 +21,8 @@
 //!
 //! # What is left to others
 //!
-//! The text of a step (`board_steps`), whose journals are written and in which order of ports, the name of the file,
-//! and that a journal is legal. What a shelf does with a file that was written in part: it may still be in use.
+//! The text of a step (`board_steps`), that the boards are finished and in the order of the words (`step_runner`), and
+//! the name of the file. What a shelf does with a file that was written in part: it may still be in use.
 #![tactic(auto)]
 
 mod journal;

@@ -12,12 +12,14 @@ use value_laws::{addresses_are_within, masks_are_within, numbers_are_within};
 /// Where one order is a fault so is the other, and the faults may differ: each is that of its first bad item, at the
 /// column where that stands.
 pub fn order_of_items_changes_nothing()
-    ensures alike { (word : EditWord) (at : ℕ) (front one other back : List ℕ) (first second third : ℕ) (m : MatchText)
+    ensures alike { (word : EditWord) (at : ℕ) (front one other back : List ℕ)
+        (first second third : ℕ) (m : MatchText)
         → IsTrue (is_separator first) → IsTrue (is_separator second) → IsTrue (is_separator third)
         → IsTrue (is_item one) → IsTrue (is_item other) → at ≤ length front
         → read_match word at (front ++ first ∷ (one ++ second ∷ (other ++ third ∷ back))) ≡ Ok m
         → read_match word at (front ++ first ∷ (other ++ second ∷ (one ++ third ∷ back))) ≡ Ok m }
-    ensures faults { (word : EditWord) (at : ℕ) (front one other back : List ℕ) (first second third : ℕ)
+    ensures faults { (word : EditWord) (at : ℕ) (front one other back : List ℕ)
+        (first second third : ℕ)
         → IsTrue (is_separator first) → IsTrue (is_separator second) → IsTrue (is_separator third)
         → IsTrue (is_item one) → IsTrue (is_item other) → at ≤ length front
         → is_ok (read_match word at (front ++ first ∷ (one ++ second ∷ (other ++ third ∷ back))))

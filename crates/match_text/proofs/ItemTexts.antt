@@ -4,7 +4,7 @@ use Rattle.std.specs.List.{join_with_byte, flat_map}
 use Rattle.std.proofs.lemmas.List.{drop_more, drop_all}
 use Rattle.spec_numbers.specs.Characters.{comma}
 use Rattle.spec_flow_text.specs.Printed.{Shown, shown_text}
-use Rattle.text_numbers.specs.Prefix.{IsPrefix}
+use Rattle.text_numbers.specs.Added.{IsPrefix}
 use Rattle.match_text.specs.Shown.{lead, items_text, begun_after}
 
 still_begun : (xs : List Shown) → begun_after true xs ≡ true
@@ -64,10 +64,9 @@ begins_before old mid new more first added = begins_on old mid new first (record
 
 -- ---- items in two parts
 
-pub both_printed : (begun after : Bool) (old mid new : List ℕ) (xs ys zs : List Shown) → mid ≡ old ++ items_text begun xs → after ≡ begun_after begun xs
-    → xs ++ ys ≡ zs → new ≡ mid ++ items_text after ys → new ≡ old ++ items_text begun zs
-both_printed begun after old mid new xs ys zs first is_after whole second =
-    second ∙ rw (first, is_after, ← whole, text_of_both begun xs ys) (append_assoc old (items_text begun xs) (items_text (begun_after begun xs) ys))
+pub both_printed : (begun after : Bool) (xs ys zs : List Shown) → after ≡ begun_after begun xs → xs ++ ys ≡ zs
+    → items_text begun xs ++ items_text after ys ≡ items_text begun zs
+both_printed begun after xs ys zs is_after whole = rw (is_after, ← whole, text_of_both begun xs ys) refl
 
 pub both_begun : (begun after later : Bool) (xs ys zs : List Shown) → after ≡ begun_after begun xs → xs ++ ys ≡ zs → later ≡ begun_after after ys
     → later ≡ begun_after begun zs

@@ -1,5 +1,4 @@
 pub mod Bits
-pub mod WordLists
 pub mod Filters
 pub mod Steps
 pub mod ItemTexts

@@ -11,8 +11,9 @@ ghost use Rattle.match_text.specs.Views.{sofar_view, stated_view};
 
 use crate::sofar::Sofar;
 use crate::stating::{number_once, with_shorthand, with_value};
-use crate::words::next_word;
-use field_text::{ItemName, TextFault, Word, field_stated, item_named, vlan_stated};
+use field_text::{
+    ItemName, Separators, TextFault, Word, field_stated, item_named, next_word, vlan_stated,
+};
 use rule_tables::EditWord;
 use text_numbers::{after_start, cut_at};
 
@@ -43,7 +44,9 @@ fn is_plain_cookie(word: EditWord, value: &[u8]) -> bool
 }
 
 fn with_table(col: u32, value_col: u32, value: &[u8], mut sofar: Sofar) -> Result<Sofar, TextFault>
-    ensures { Gives sofar_view result (number_once col value_col (sofar_view sofar).table last_table value.now then (λ n. Ok (record (sofar_view sofar) { table = Some n }))) }
+    ensures { Gives sofar_view result
+        (number_once col value_col (sofar_view sofar).table last_table value.now
+        then (λ n. Ok (record (sofar_view sofar) { table = Some n }))) }
 {
     let table = number_once(
         col,
@@ -62,7 +65,9 @@ fn with_priority(
     value: &[u8],
     mut sofar: Sofar,
 ) -> Result<Sofar, TextFault>
-    ensures { Gives sofar_view result (number_once col value_col (sofar_view sofar).priority last_priority value.now then (λ n. Ok (record (sofar_view sofar) { priority = Some n }))) }
+    ensures { Gives sofar_view result
+        (number_once col value_col (sofar_view sofar).priority last_priority value.now
+        then (λ n. Ok (record (sofar_view sofar) { priority = Some n }))) }
 {
     let most = u64::from(u16::MAX);
     let priority = number_once(col, value_col, sofar.priority.map(u64::from), most, value)?;
@@ -71,7 +76,9 @@ fn with_priority(
 }
 
 fn with_cookie(col: u32, value_col: u32, value: &[u8], mut sofar: Sofar) -> Result<Sofar, TextFault>
-    ensures { Gives sofar_view result (number_once col value_col (sofar_view sofar).cookie greatest_cookie value.now then (λ n. Ok (record (sofar_view sofar) { cookie = Some n }))) }
+    ensures { Gives sofar_view result
+        (number_once col value_col (sofar_view sofar).cookie greatest_cookie value.now
+        then (λ n. Ok (record (sofar_view sofar) { cookie = Some n }))) }
 {
     let cookie = number_once(col, value_col, sofar.cookie, u64::MAX, value)?;
     sofar.cookie = Some(cookie);
@@ -88,7 +95,8 @@ fn with_valued(
     value: &[u8],
     sofar: Sofar,
 ) -> Result<Sofar, TextFault>
-    ensures { Gives sofar_view result (with_valued word col value_col name value.now (sofar_view sofar)) }
+    ensures { Gives sofar_view result
+        (with_valued word col value_col name value.now (sofar_view sofar)) }
 {
     let name = match name {
         None => return Err(TextFault::UnknownName { col }),
@@ -148,7 +156,9 @@ fn with_item(word: EditWord, item: Word<'_>, sofar: Sofar) -> Result<Sofar, Text
 
 // What stands behind the start of a list of actions.
 fn behind_list_name(text: &[u8]) -> Option<&[u8]>
-    ensures rest { option_map (λ rest. rest.now) result ≡ option_or (strip_prefix (codes "actions=") text.now) (strip_prefix (codes "action=") text.now) }
+    ensures rest { option_map (λ rest. rest.now) result
+        ≡ option_or (strip_prefix (codes "actions=") text.now)
+        (strip_prefix (codes "action=") text.now) }
     ensures shorter { IfSome result (λ rest. length rest.now ≤ length text.now) }
 {
     if let Some(rest) = after_start(b"actions=", text) {
@@ -175,12 +185,15 @@ pub struct Stated {
 
 /// The items of a stretch of a line one after the other, up to the action list.
 pub fn read_items(word: EditWord, stretch: Word<'_>, start: Sofar) -> Result<Stated, TextFault>
-    ensures items { Gives stated_view result (read_items word (words is_separator true stretch.entry.at stretch.entry.text.now) (sofar_view start)) }
-    ensures within { IfOk result (λ stated. IfSome stated.list (λ list. list.1 ≤ stretch.entry.at + length stretch.entry.text.now)) }
+    ensures items { Gives stated_view result
+        (read_items word (words is_separator true stretch.entry.at stretch.entry.text.now)
+        (sofar_view start)) }
+    ensures within { IfOk result (λ stated. IfSome stated.list
+        (λ list. list.1 ≤ stretch.entry.at + length stretch.entry.text.now)) }
 {
     let mut sofar = start;
     let mut left = stretch;
-    'items: while let Some((item, behind)) = next_word(left) {
+    'items: while let Some((item, behind)) = next_word::<Separators>(left) {
         if let Some(place) = list_start(item) {
             return Ok(Stated {
                 sofar,

@@ -47,7 +47,6 @@ mod showing;
 mod shown;
 mod sofar;
 mod stating;
-mod words;
 
 pub use printing::print_match;
 pub use reading::{MatchText, read_match};

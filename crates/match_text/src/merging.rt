@@ -10,7 +10,10 @@ use rule_tables::Match;
 /// A match that states the bits of a part too.
 pub fn with_part_bits(before: &Match, part: &Part) -> Match
     requires { IsWithin part.now }
-    ensures { match_view result ≡ record { key = with_key_bits (numbers before.now.key) part.now; mask = with_mask_bits (bits before.now.mask) part.now } }
+    ensures { match_view result ≡ record {
+      key = with_key_bits (numbers before.now.key) part.now;
+      mask = with_mask_bits (bits before.now.mask) part.now;
+    } }
 {
     let mut key = before.key;
     key.set(part.field, key.get(part.field) | part.value);

@@ -76,7 +76,8 @@ fn stated_type(parts: &[Part]) -> Option<u128>
 
 // The protocol that is stated by a part whose need of an Ethernet type is met.
 fn kept_protocol(parts: &[Part], ethernet_type: Option<u128>) -> Option<u128>
-    ensures { result ≡ matches.number_of FieldId.NwProto (filter (λ (p : StatedPart). values.type_meets p.needs ethernet_type) parts.now) }
+    ensures { result ≡ matches.number_of FieldId.NwProto
+        (filter (λ (p : StatedPart). values.type_meets p.needs ethernet_type) parts.now) }
 {
     parts
         .iter()
@@ -88,7 +89,8 @@ fn kept_protocol(parts: &[Part], ethernet_type: Option<u128>) -> Option<u128>
 // The match that states the parts whose needs are met by a type and a protocol.
 fn match_of_met(parts: &[Part], ethernet_type: Option<u128>, protocol: Option<u128>) -> Match
     requires { All IsWithin parts.now }
-    ensures { match_view result ≡ matches.match_of (filter (λ (part : StatedPart). values.is_met part.needs ethernet_type protocol) parts.now) }
+    ensures { match_view result ≡ matches.match_of
+        (filter (λ (part : StatedPart). values.is_met part.needs ethernet_type protocol) parts.now) }
 {
     let mut matching = Match::any();
     'parts: for part in parts {

@@ -2,7 +2,7 @@ ghost use Rattle.std.specs.Prelude.{◌≡◌, ◌++◌, false, IfOk, IfSome, On
 ghost use Rattle.std.specs.List.{flat_map};
 ghost use Rattle.spec_flow_text.specs.Printed as printed;
 ghost use Rattle.rule_tables.specs.Views.{match_view};
-ghost use Rattle.text_numbers.specs.Prefix.{IsPrefix};
+ghost use Rattle.text_numbers.specs.Added.{Adds};
 ghost use Rattle.match_text.specs.Shown.{shown_view, IsFit, item_of, lead, items_text, begun_after};
 
 use crate::showing::{shorthand_of, shown_field};
@@ -13,8 +13,7 @@ use rule_tables::Match;
 use std::alloc::AllocError;
 
 fn print_lead(out: &mut String, begun: bool) -> Result<(), AllocError>
-    ensures text { OnOk result (string_bytes out.new ≡ string_bytes out.old ++ lead begun) }
-    ensures kept { OnErr result (IsPrefix (string_bytes out.old) (string_bytes out.new)) }
+    ensures { Adds out.old out.new (lead begun) result }
 {
     if begun {
         return out.push(',');
@@ -24,8 +23,7 @@ fn print_lead(out: &mut String, begun: bool) -> Result<(), AllocError>
 
 fn print_shown(out: &mut String, item: Shown) -> Result<(), AllocError>
     requires { IsFit item }
-    ensures text { OnOk result (string_bytes out.new ≡ string_bytes out.old ++ printed.shown_text (shown_view item)) }
-    ensures kept { OnErr result (IsPrefix (string_bytes out.old) (string_bytes out.new)) }
+    ensures { Adds out.old out.new (printed.shown_text (shown_view item)) result }
 {
     match item {
         Shown::Short(shorthand) => out.push_str(word_of(shorthand)),
@@ -41,9 +39,8 @@ fn print_shown(out: &mut String, item: Shown) -> Result<(), AllocError>
 #[tactic(auto, unfolding(crate::specs::Shown::items_text))]
 fn print_item(out: &mut String, begun: bool, item: Option<Shown>) -> Result<bool, AllocError>
     requires { IfSome item (λ x. IsFit x) }
-    ensures text { OnOk result (string_bytes out.new ≡ string_bytes out.old ++ items_text begun (item_of item)) }
+    ensures added { Adds out.old out.new (items_text begun (item_of item)) result }
     ensures begun { IfOk result (λ after. after ≡ begun_after begun (item_of item)) }
-    ensures kept { OnErr result (IsPrefix (string_bytes out.old) (string_bytes out.new)) }
 {
     match item {
         None => Ok(begun),
@@ -63,9 +60,10 @@ fn print_field(
     begun: bool,
     out: &mut String,
 ) -> Result<bool, AllocError>
-    ensures text { OnOk result (string_bytes out.new ≡ string_bytes out.old ++ items_text begun (printed.shown_field (match_view m.now) shorthand field)) }
-    ensures begun { IfOk result (λ after. after ≡ begun_after begun (printed.shown_field (match_view m.now) shorthand field)) }
-    ensures kept { OnErr result (IsPrefix (string_bytes out.old) (string_bytes out.new)) }
+    ensures added { Adds out.old out.new
+        (items_text begun (printed.shown_field (match_view m.now) shorthand field)) result }
+    ensures begun { IfOk result (λ after.
+        after ≡ begun_after begun (printed.shown_field (match_view m.now) shorthand field)) }
 {
     let (first, second) = shown_field(m, shorthand, field);
     let begun = print_item(out, begun, first)?;
@@ -79,8 +77,9 @@ fn print_fields(
     fields: &[FieldId],
     out: &mut String,
 ) -> Result<(), AllocError>
-    ensures text { OnOk result (string_bytes out.new ≡ string_bytes out.old ++ items_text false (flat_map (printed.shown_field (match_view m.now) shorthand) fields.now)) }
-    ensures kept { OnErr result (IsPrefix (string_bytes out.old) (string_bytes out.new)) }
+    ensures { Adds out.old out.new
+        (items_text false (flat_map (printed.shown_field (match_view m.now) shorthand) fields.now))
+        result }
 {
     let mut begun = false;
     'fields: for field in fields {
@@ -94,8 +93,7 @@ fn print_fields(
 /// Where memory runs out the text begins with what it was.
 #[tactic(auto, unfolding(spec_flow_text::specs::Printed::shown, spec_flow_text::specs::Printed::match_printed))]
 pub fn print_match(m: &Match, out: &mut String) -> Result<(), AllocError>
-    ensures text { OnOk result (string_bytes out.new ≡ string_bytes out.old ++ printed.match_printed (match_view m.now)) }
-    ensures kept { OnErr result (IsPrefix (string_bytes out.old) (string_bytes out.new)) }
+    ensures { Adds out.old out.new (printed.match_printed (match_view m.now)) result }
 {
     print_fields(m, shorthand_of(m), all_fields(), out)
 }

@@ -42,7 +42,8 @@ fn match_text(sofar: &Sofar, rest: Option<usize>) -> MatchText
 // An action list has to follow, but for a word that deletes, after which none may.
 fn with_list(word: EditWord, end: usize, stated: Stated) -> Result<MatchText, TextFault>
     requires { end ≤ 4_294_967_294 }
-    ensures text { Gives match_text_view result (with_list word end (sofar_view stated.sofar) stated.list) }
+    ensures text { Gives match_text_view result
+        (with_list word end (sofar_view stated.sofar) stated.list) }
     ensures rest { IfOk result (λ m. m.rest ≡ option_map (λ list. list.1) stated.list) }
 {
     match stated.list {

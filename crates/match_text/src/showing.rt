@@ -10,7 +10,7 @@ use crate::naming::{name_after, says_protocol};
 use crate::shown::Shown;
 use field_text::{
     ARP_TYPE, Bits, ICMP_PROTOCOL, ICMP6_PROTOCOL, IPV4_TYPE, IPV6_TYPE, Shorthand, TCP_PROTOCOL,
-    UDP_PROTOCOL,
+    UDP_PROTOCOL, within_mask,
 };
 use named_fields::NamedField;
 use ovs_fields::{FieldId, width};
@@ -92,11 +92,7 @@ fn shown_bits(field: NamedField, bits: Bits) -> Option<Shown>
     if bits.mask == 0 {
         return None;
     }
-    let kept = Bits {
-        value: bits.value & bits.mask,
-        mask: bits.mask,
-    };
-    Some(Shown::Value(field, kept))
+    Some(Shown::Value(field, within_mask(bits)))
 }
 
 // The parts of the type of service (RFC 2474, RFC 3168).
@@ -176,7 +172,8 @@ pub fn shown_field(
     shorthand: Option<Shorthand>,
     field: FieldId,
 ) -> (Option<Shown>, Option<Shown>)
-    ensures items { item_of result.0 ++ item_of result.1 ≡ printed.shown_field (match_view m.now) shorthand field }
+    ensures items { item_of result.0 ++ item_of result.1
+        ≡ printed.shown_field (match_view m.now) shorthand field }
     ensures first_fits { IfSome result.0 (λ item. IsFit item) }
     ensures second_fits { IfSome result.1 (λ item. IsFit item) }
 {

@@ -69,7 +69,8 @@ pub fn with_part(col: u32, part: Part, mut sofar: Sofar) -> Result<Sofar, TextFa
 }
 
 fn with_protocol(col: u32, shorthand: Shorthand, sofar: Sofar) -> Result<Sofar, TextFault>
-    ensures { Gives sofar_view result (items.with_protocol col (protocol_stated shorthand) (sofar_view sofar)) }
+    ensures { Gives sofar_view result
+        (items.with_protocol col (protocol_stated shorthand) (sofar_view sofar)) }
 {
     match protocol_part(shorthand) {
         None => Ok(sofar),

@@ -21,12 +21,17 @@ use value_laws::{
 /// the flow of both; after a word that deletes, the match alone does.
 pub fn printed_flow_reads_back()
     ensures flow { (word : EditWord) (front : List ℕ) (m : Match) (actions : List OfAction)
-        → IsTrue (not (deletes word)) → uncommented front ≡ front → IsSpellable m → IsTrue (are_spellable actions)
-        → edit_from word (length front) (front ++ (match_printed m ++ (codes ",actions=" ++ actions_printed actions)))
-        ≡ Ok (edit word (match_alone m (Some (length (front ++ (match_printed m ++ codes ",actions="))))) actions) }
+        → IsTrue (not (deletes word)) → uncommented front ≡ front → IsSpellable m
+        → IsTrue (are_spellable actions)
+        → edit_from word (length front)
+        (front ++ (match_printed m ++ (codes ",actions=" ++ actions_printed actions)))
+        ≡ Ok (edit word
+        (match_alone m (Some (length (front ++ (match_printed m ++ codes ",actions=")))))
+        actions) }
     ensures alone { (word : EditWord) (front : List ℕ) (m : Match)
         → IsTrue (deletes word) → uncommented front ≡ front → IsSpellable m
-        → edit_from word (length front) (front ++ match_printed m) ≡ Ok (edit word (match_alone m None) []) }
+        → edit_from word (length front) (front ++ match_printed m)
+        ≡ Ok (edit word (match_alone m None) []) }
 {
     printed_match_reads_back();
     printed_actions_are_one_line();

@@ -20,7 +20,8 @@ pub fn printed_match_reads_back()
         → IsTrue (deletes word) → uncommented front ≡ front → IsSpellable m
         → read_match word (length front) (front ++ match_printed m) ≡ Ok (match_alone m None) }
     ensures before_actions { (word : EditWord) (front : List ℕ) (m : Match) (list : List ℕ)
-        → IsTrue (not (deletes word)) → uncommented front ≡ front → IsSpellable m → IsTrue (is_plain list)
+        → IsTrue (not (deletes word)) → uncommented front ≡ front → IsSpellable m
+        → IsTrue (is_plain list)
         → read_match word (length front) (front ++ (match_printed m ++ (codes ",actions=" ++ list)))
         ≡ Ok (match_alone m (Some (length (front ++ (match_printed m ++ codes ",actions="))))) }
 {

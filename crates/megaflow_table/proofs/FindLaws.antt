@@ -12,11 +12,11 @@ use Rattle.ovs_fields.specs.Packed.{numbers, bits}
 use Rattle.megaflow_table.specs.declared.entry.Entry.{Entry}
 use Rattle.megaflow_table.specs.Entries.{covers, covering, AreDisjoint, AreRising}
 use Rattle.megaflow_table.specs.Subtables.{Subtable, Subtables, number_in, subtable_of, number_under}
-use Rattle.megaflow_table.specs.Sound.{IsSound, masked_key, entries_by}
+use Rattle.megaflow_table.specs.Parts.{IsConsistent, masked_key, entries_by}
 use Rattle.megaflow_table.proofs.OverlapLaws.{overlap_from_agree}
 use Rattle.megaflow_table.proofs.EntryLaws.{find_none, find_one, entry_at, rising_at}
 
-module _ (live : List ℕ) (look : ℕ → Option Entry) (under : List ℕ → List ℕ → Option ℕ) (sound : IsSound live look under) where
+module _ (live : List ℕ) (look : ℕ → Option Entry) (under : List ℕ → List ℕ → Option ℕ) (sound : IsConsistent live look under) where
   -- no two entries cover one key
   pub only_one : (key : List ℕ) (a b : ℕ) (e f : Entry) → look a ≡ Some e → look b ≡ Some f → covers key e ≡ true → covers key f ≡ true → (a ≡ b → ⊥) → ⊥
   only_one key a b e f at_a at_b first second apart =
@@ -103,7 +103,7 @@ passed_here key mask subtable u found same_pair is none =
     by None h = refl
     by (Some n) h = absurd (false≢true (sym h))
 
-module _ (live : List ℕ) (look : ℕ → Option Entry) (subtables : Subtables) (sound : IsSound live look (number_under subtables)) where
+module _ (live : List ℕ) (look : ℕ → Option Entry) (subtables : Subtables) (sound : IsConsistent live look (number_under subtables)) where
   pub found_in_subtable : (key : List ℕ) (mask : Mask) (subtable : Subtable) → subtable_of subtables (bits mask) ≡ Some subtable → (found : Option ℕ) → found ≡ number_in subtable (masked key (bits mask)) → is_some found ≡ true
       → found ≡ option_map (λ (e : Entry). e.number) (covering key (entries_by look live))
   found_in_subtable key mask subtable at None is some = absurd (false≢true some)

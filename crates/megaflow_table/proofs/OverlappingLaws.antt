@@ -20,7 +20,7 @@ use Rattle.ovs_fields.specs.Packed.{numbers, bits}
 use Rattle.megaflow_table.specs.declared.entry.Entry.{Entry}
 use Rattle.megaflow_table.specs.Entries.{overlaps}
 use Rattle.megaflow_table.specs.Live.{IsIn}
-use Rattle.megaflow_table.specs.Sound.{IsSound, masked_key}
+use Rattle.megaflow_table.specs.Parts.{IsConsistent, masked_key}
 use Rattle.megaflow_table.specs.Subtables.{Subtable, Subtables, number_in, subtable_of, number_under}
 use Rattle.megaflow_table.specs.Overlaps.{agreeing, overlapping_in, HasDistinctKeys, HasDistinctMasks, IsScanned, AreScanned}
 use Rattle.megaflow_table.proofs.OverlapLaws.{masked_common}
@@ -247,7 +247,7 @@ module _ (look : ℕ → Option Entry) (key mask : List ℕ) where
       (one_of t (filled 0 t refl) (are_scanned 0 t refl))
       (collected es (IsDistinct-tail (λ (a b : Mask). same (bits a) (bits b)) t.0 (keys_of es) masks) (λ j u at. filled (suc j) u at) (λ j u at. are_scanned (suc j) u at))
 
-module _ (live : List ℕ) (look : ℕ → Option Entry) (subtables : Subtables) (sound : IsSound live look (number_under subtables)) where
+module _ (live : List ℕ) (look : ℕ → Option Entry) (subtables : Subtables) (sound : IsConsistent live look (number_under subtables)) where
   -- each subtable has the entries of its mask
   filled_at : HasDistinctMasks subtables → (j : ℕ) (t : Mask × Subtable) → slice_get subtables.entries j ≡ Some t → IsFilled look t
   filled_at masks j t at = record {

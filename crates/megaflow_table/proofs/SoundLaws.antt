@@ -11,7 +11,7 @@ use Rattle.ovs_fields.specs.Packed.{numbers, bits}
 use Rattle.megaflow_table.specs.declared.entry.Entry.{Entry}
 use Rattle.megaflow_table.specs.Entries.{overlaps, without}
 use Rattle.megaflow_table.specs.Live.{IsIn, IsRising}
-use Rattle.megaflow_table.specs.Sound.{IsSound, masked_key, entries_by}
+use Rattle.megaflow_table.specs.Parts.{IsConsistent, masked_key, entries_by}
 use Rattle.megaflow_table.proofs.OverlapLaws.{overlap_from_agree, overlap_turned}
 use Rattle.megaflow_table.proofs.RisingLaws.{in_filter, filter_in, rising_filter}
 use Rattle.megaflow_table.proofs.EntryLaws.{IsHeld, IsSameName, behind, step, same-entries}
@@ -25,7 +25,7 @@ Back look look' = (n : ℕ) (f : Entry) → look' n ≡ Some f → (e : Entry) �
 same_bits : (e f : Entry) → IsSameName e f → masked_key f ≡ masked_key e
 same_bits e f s = λ i. masked (numbers (s.key i)) (bits (s.mask i))
 
-pub renamed_sound : (live : List ℕ) (look look' : ℕ → Option Entry) (under : List ℕ → List ℕ → Option ℕ) → IsSound live look under → Forth look look' → Back look look' → IsSound live look' under
+pub renamed_sound : (live : List ℕ) (look look' : ℕ → Option Entry) (under : List ℕ → List ℕ → Option ℕ) → IsConsistent live look under → Forth look look' → Back look look' → IsConsistent live look' under
 renamed_sound live look look' under sound forth back = record {
   rising = sound.rising;
   found = λ n is_in. let t = sound.found n is_in in let f = forth n t.0 t.1 in (f.0, f.1, f.2.number ∙ t.2);
@@ -86,7 +86,7 @@ rising_append m (x ∷ xs) rising above = (
   rising_append m xs rising.1 (λ n is_in. above n (inr is_in)),
 )
 
-module _ (live : List ℕ) (look : ℕ → Option Entry) (under : List ℕ → List ℕ → Option ℕ) (sound : IsSound live look under)
+module _ (live : List ℕ) (look : ℕ → Option Entry) (under : List ℕ → List ℕ → Option ℕ) (sound : IsConsistent live look under)
     (e : Entry) (above : (n : ℕ) → IsIn n live → n < e.number) (free : (n : ℕ) (f : Entry) → look n ≡ Some f → overlaps (numbers e.key) (bits e.mask) f ≡ false)
     (look' : ℕ → Option Entry) (put : (n : ℕ) → look' n ≡ cond (e.number == n) (Some e) (look n))
     (under' : List ℕ → List ℕ → Option ℕ) (indexes : (m k : List ℕ) → under' m k ≡ cond (same m (bits e.mask) && same k (masked_key e)) (Some e.number) (under m k)) where
@@ -119,7 +119,7 @@ module _ (live : List ℕ) (look : ℕ → Option Entry) (under : List ℕ → L
         | inr fails ↦ fails
       ]
 
-  pub added_sound : IsSound (live ++ e.number ∷ []) look' under'
+  pub added_sound : IsConsistent (live ++ e.number ∷ []) look' under'
   added_sound = record {
     rising = rising_append e.number live sound.rising above;
     found = λ n is_in. elim (in_append n e.number live is_in) [
@@ -219,9 +219,9 @@ module _ (look look' : ℕ → Option Entry) (number : ℕ) (gone : (n : ℕ) �
             ∙ ap (without number) (sym (step look x xs there.0 there.1))
       ]
 
-  module _ (live : List ℕ) (under under' : List ℕ → List ℕ → Option ℕ) (sound : IsSound live look under) (e : Entry) (at : look number ≡ Some e)
+  module _ (live : List ℕ) (under under' : List ℕ → List ℕ → Option ℕ) (sound : IsConsistent live look under) (e : Entry) (at : look number ≡ Some e)
       (indexes : (m k : List ℕ) → under' m k ≡ cond (same m (bits e.mask) && same k (masked_key e)) None (under m k)) where
-    pub removed_sound : IsSound (filter (λ m. not (m == number)) live) look' under'
+    pub removed_sound : IsConsistent (filter (λ m. not (m == number)) live) look' under'
     removed_sound = record {
       rising = rising_filter (λ m. not (m == number)) live sound.rising;
       found = λ n is_in.

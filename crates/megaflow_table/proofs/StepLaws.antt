@@ -12,16 +12,16 @@ use Rattle.megaflow_table.specs.declared.megaflows.Megaflows.TheInside.{Inside}
 use Rattle.megaflow_table.specs.Entries.{Flows, overlaps, without}
 use Rattle.megaflow_table.specs.Subtables.{HasRoomUnder, IsFresh, KeepsRoom, KeepsNumbers, ChangesOnly, subtable_of, number_under}
 use Rattle.megaflow_table.specs.Live.{IsIn}
-use Rattle.megaflow_table.specs.Sound.{IsSound, IsTable, masked_key, entries_by, look_in, flows_in}
+use Rattle.megaflow_table.specs.Parts.{IsConsistent, IsTable, masked_key, entries_by, look_in, flows_in}
 use Rattle.megaflow_table.proofs.EntryLaws.{all_by}
 use Rattle.megaflow_table.proofs.SoundLaws.{removed_sound, removed_entries, added_sound, added_entries}
 
 moved_sound : (live live' : List ℕ) (look look' : ℕ → Option Entry) (under under' : List ℕ → List ℕ → Option ℕ) → live' ≡ live → ((n : ℕ) → look' n ≡ look n) → ((m k : List ℕ) → under' m k ≡ under m k)
-    → IsSound live look under → IsSound live' look' under'
+    → IsConsistent live look under → IsConsistent live' look' under'
 moved_sound live live' look look' under under' lives looks unders sound =
     let look_path : look' ≡ look = λ i n. looks n i in
     let under_path : under' ≡ under = λ i m k. unders m k i in
-    subst (λ (l : List ℕ). IsSound l look' under') (sym lives) (subst (λ (f : ℕ → Option Entry). IsSound live f under') (sym look_path) (subst (λ (u : List ℕ → List ℕ → Option ℕ). IsSound live look u) (sym under_path) sound))
+    subst (λ (l : List ℕ). IsConsistent l look' under') (sym lives) (subst (λ (f : ℕ → Option Entry). IsConsistent live f under') (sym look_path) (subst (λ (u : List ℕ → List ℕ → Option ℕ). IsConsistent live look u) (sym under_path) sound))
 
 -- ---- more room
 
@@ -36,14 +36,14 @@ pub record IsGrown (a b : Inside) : Type 0 where
   pub fresh : IsFresh b.fresh
 
 module _ (a b : Inside) (table : IsTable a) (grown : IsGrown a b) where
-  grown_sound : IsSound b.live.items (look_in b) (number_under b.subtables)
+  grown_sound : IsConsistent b.live.items (look_in b) (number_under b.subtables)
   grown_sound =
       moved_sound a.live.items b.live.items (look_in a) (look_in b) (number_under a.subtables) (number_under b.subtables) grown.items
-      (λ n. ap (λ (es : List (ℕ × Entry)). lookup (nat_eq n) es) grown.entries) grown.subtables.numbers table.sound
+      (λ n. ap (λ (es : List (ℕ × Entry)). lookup (nat_eq n) es) grown.entries) grown.subtables.numbers table.consistent
 
   pub grown_table : b.room ≡ a.room → IsTable b
   grown_table same_room = record {
-    sound = grown_sound;
+    consistent = grown_sound;
     room = λ mask is. let before = table.room mask (ap (option_map (λ m. bits m)) (sym same_room) ∙ is) in record {
       entries = omega (arith, before.entries, grown.entries_room);
       live = omega (arith, before.live, grown.len, grown.capacity);
@@ -57,7 +57,7 @@ module _ (a b : Inside) (table : IsTable a) (grown : IsGrown a b) where
   pub ready_table : (mask : Mask) → b.room ≡ Some mask → 0 < spare b.entries → vec_len b.live < vec_capacity b.live → 0 < spare b.subtables
       → HasRoomUnder b.subtables (bits mask) → IsSome b.fresh → IsTable b
   ready_table mask room entries live subtables subtable fresh = record {
-    sound = grown_sound;
+    consistent = grown_sound;
     room = λ other is. record {
       entries = entries;
       live = live;
@@ -86,8 +86,8 @@ pub record IsLess (a b : Inside) (number : ℕ) (e : Entry) : Type 0 where
 module _ (a b : Inside) (number : ℕ) (e : Entry) (table : IsTable a) (less : IsLess a b number e) where
   pub less_table : IsTable b
   less_table = record {
-    sound = subst (λ (l : List ℕ). IsSound l (look_in b) (number_under b.subtables)) (sym less.items)
-        (removed_sound (look_in a) (look_in b) number less.entries a.live.items (number_under a.subtables) (number_under b.subtables) table.sound e less.at less.changes);
+    consistent = subst (λ (l : List ℕ). IsConsistent l (look_in b) (number_under b.subtables)) (sym less.items)
+        (removed_sound (look_in a) (look_in b) number less.entries a.live.items (number_under a.subtables) (number_under b.subtables) table.consistent e less.at less.changes);
     room = λ mask is. let before = table.room mask (ap (option_map (λ m. bits m)) (sym less.room) ∙ is) in record {
       entries = omega (arith, before.entries, less.entries_room);
       live = omega (arith, before.live, less.len, less.capacity);
@@ -104,7 +104,7 @@ module _ (a b : Inside) (number : ℕ) (e : Entry) (table : IsTable a) (less : I
       ∙ ap (λ (f : Flows). record f { entries = without number f.entries }) view
     where
       listed : entries_by (look_in b) b.live.items ≡ without number (entries_by (look_in a) a.live.items)
-      listed = ap (entries_by (look_in b)) less.items ∙ removed_entries (look_in a) (look_in b) number less.entries a.live.items table.sound.found
+      listed = ap (entries_by (look_in b)) less.items ∙ removed_entries (look_in a) (look_in b) number less.entries a.live.items table.consistent.found
 
 -- ---- one more
 
@@ -120,8 +120,8 @@ module _ (a b : Inside) (e : Entry) (table : IsTable a) (more : IsMore a b e) (a
     (free : (n : ℕ) (f : Entry) → look_in a n ≡ Some f → overlaps (numbers e.key) (bits e.mask) f ≡ false) where
   pub more_table : IsTable b
   more_table = record {
-    sound = subst (λ (l : List ℕ). IsSound l (look_in b) (number_under b.subtables)) (sym more.items)
-        (added_sound a.live.items (look_in a) (number_under a.subtables) table.sound e above free (look_in b) more.entries (number_under b.subtables) more.changes);
+    consistent = subst (λ (l : List ℕ). IsConsistent l (look_in b) (number_under b.subtables)) (sym more.items)
+        (added_sound a.live.items (look_in a) (number_under a.subtables) table.consistent e above free (look_in b) more.entries (number_under b.subtables) more.changes);
     room = λ mask is. absurd (none-some mask (ap (option_map (λ m. bits m)) (sym more.room) ∙ is));
     fresh = more.fresh;
   }
@@ -132,17 +132,17 @@ module _ (a b : Inside) (e : Entry) (table : IsTable a) (more : IsMore a b e) (a
       ∙ ap (λ (f : Flows). record f { entries = f.entries ++ e ∷ []; room = None }) view
     where
       listed : entries_by (look_in b) b.live.items ≡ entries_by (look_in a) a.live.items ++ e ∷ []
-      listed = ap (entries_by (look_in b)) more.items ∙ added_entries a.live.items (look_in a) (number_under a.subtables) table.sound e above free (look_in b) more.entries (number_under b.subtables) more.changes
+      listed = ap (entries_by (look_in b)) more.items ∙ added_entries a.live.items (look_in a) (number_under a.subtables) table.consistent e above free (look_in b) more.entries (number_under b.subtables) more.changes
 
 module _ (a : Inside) (table : IsTable a) (flows : Flows) (view : flows_in a ≡ flows) (e : Entry) where
   pub above_from : All (λ (f : Entry). f.number < e.number) flows.entries → (n : ℕ) → IsIn n a.live.items → n < e.number
   above_from all n is_in =
-      let there = table.sound.found n is_in in
+      let there = table.consistent.found n is_in in
       let before : All (λ (f : Entry). f.number < e.number) (entries_by (look_in a) a.live.items) = subst (λ (f : Flows). All (λ (g : Entry). g.number < e.number) f.entries) (sym view) all in
-      subst (λ (m : ℕ). m < e.number) there.2 (all_by (look_in a) (λ (f : Entry). f.number < e.number) a.live.items table.sound.found before n there.0 is_in there.1)
+      subst (λ (m : ℕ). m < e.number) there.2 (all_by (look_in a) (λ (f : Entry). f.number < e.number) a.live.items table.consistent.found before n there.0 is_in there.1)
 
   pub free_from : All (λ (f : Entry). overlaps (numbers e.key) (bits e.mask) f ≡ false) flows.entries → (n : ℕ) (f : Entry) → look_in a n ≡ Some f → overlaps (numbers e.key) (bits e.mask) f ≡ false
   free_from all n f is =
       let before : All (λ (f : Entry). overlaps (numbers e.key) (bits e.mask) f ≡ false) (entries_by (look_in a) a.live.items) =
       subst (λ (g : Flows). All (λ (h : Entry). overlaps (numbers e.key) (bits e.mask) h ≡ false) g.entries) (sym view) all in
-      all_by (look_in a) (λ (g : Entry). overlaps (numbers e.key) (bits e.mask) g ≡ false) a.live.items table.sound.found before n f (table.sound.within n f is) is
+      all_by (look_in a) (λ (g : Entry). overlaps (numbers e.key) (bits e.mask) g ≡ false) a.live.items table.consistent.found before n f (table.consistent.within n f is) is

@@ -1,5 +1,5 @@
 pub mod Entries
 pub mod Live
 pub mod Overlaps
-pub mod Sound
+pub mod Parts
 pub mod Subtables

@@ -13,8 +13,8 @@
 //!
 //! # What is promised
 //!
-//! Contracts see the table as a list of entries in rising order of their numbers, with the flow limit and the mask for
-//! which there is room (`specs/Entries`).
+//! Contracts and definitions call a megaflow an *entry* of the table. They see the table as a list of entries in rising
+//! order of their numbers, with the flow limit and the mask for which there is room (`specs/Entries`).
 //!
 //! - `find` answers the number of the entry that covers a key, as a scan of the list finds it.
 //! - `get`, `numbers`, `after` and `overlaps` answer by the list too, and `len` says what holds of any list that can

@@ -36,7 +36,7 @@ impl Model for Megaflows {
 
     ghost Value = { Flows };
 
-    ghost use Rattle.megaflow_table.specs.Sound.{flows_in, IsTable};
+    ghost use Rattle.megaflow_table.specs.Parts.{flows_in, IsTable};
 
     ghost view = { flows_in };
 
@@ -93,7 +93,8 @@ impl Megaflows {
 
     /// The number of the entry that covers a key. It takes no memory, and one probe for each mask.
     pub fn find(&self, key: &Key) -> Option<u32>
-        ensures { result ≡ option_map (λ e. e.number) (covering (numbers key.now) self.now.entries) }
+        ensures { result
+            ≡ option_map (λ e. e.number) (covering (numbers key.now) self.now.entries) }
     {
         'subtables: for i in 0..self.subtables.len() {
             let Some((mask, subtable)) = self.subtables.get_index(i) else {
@@ -119,7 +120,9 @@ impl Megaflows {
     /// It takes a probe for each mask that this one covers, and a test for each entry of the others. The only error is out
     /// of memory.
     pub fn overlaps(&self, key: &Key, mask: &Mask) -> Result<Vec<u32>, AllocError>
-        ensures { IfOk result (λ v. v.items ≡ numbers_of (filter (overlaps (numbers key.now) (bits mask.now)) self.now.entries)) }
+        ensures { IfOk result
+            (λ v. v.items
+            ≡ numbers_of (filter (overlaps (numbers key.now) (bits mask.now)) self.now.entries)) }
     {
         let mut found = overlapping(self.alloc, &self.subtables, key, mask)?;
         found.sort_unstable();
@@ -143,8 +146,10 @@ impl Megaflows {
     /// no memory.
     pub fn change(&mut self, number: u32, version: u32, actions: u32, visits: Visits) -> Visits
         requires { IsSome (entry_of number self.old.entries) }
-        ensures visits { option_map (λ e. e.visits) (entry_of number self.old.entries) ≡ Some result }
-        ensures entries { self.new.entries ≡ changed number (changed_to version actions visits) self.old.entries }
+        ensures visits { option_map (λ e. e.visits) (entry_of number self.old.entries)
+            ≡ Some result }
+        ensures entries { self.new.entries
+            ≡ changed number (changed_to version actions visits) self.old.entries }
         ensures room { self.new.room ≡ self.old.room }
         ensures limit { self.new.limit ≡ self.old.limit }
     {
@@ -205,7 +210,8 @@ impl Megaflows {
     pub fn install(&mut self, entry: Entry)
         requires room { self.old.room ≡ Some (bits entry.mask) }
         requires new { All (λ e. e.number < entry.number) self.old.entries }
-        requires free { All (λ e. overlaps (numbers entry.key) (bits entry.mask) e ≡ false) self.old.entries }
+        requires free { All
+            (λ e. overlaps (numbers entry.key) (bits entry.mask) e ≡ false) self.old.entries }
         ensures entries { self.new.entries ≡ self.old.entries ++ entry ∷ [] }
         ensures room { self.new.room ≡ None }
         ensures limit { self.new.limit ≡ self.old.limit }

@@ -16,7 +16,9 @@ pub(crate) fn overlapping(
     key: &Key,
     mask: &Mask,
 ) -> Result<Vec<u32>, AllocError>
-    ensures found { IfOk result (λ v. v.items ≡ flat_map (overlapping_in (numbers key.now) (bits mask.now)) subtables.now.entries) }
+    ensures found { IfOk result
+        (λ v. v.items
+        ≡ flat_map (overlapping_in (numbers key.now) (bits mask.now)) subtables.now.entries) }
     ensures masks { HasDistinctMasks subtables.now }
     ensures scanned { OnOk result (AreScanned (bits mask.now) subtables.now.entries) }
 {
@@ -41,7 +43,10 @@ fn add_overlapping(
     key: &Key,
     mask: &Mask,
 ) -> Result<(), AllocError>
-    ensures found { OnOk result (found.new.items ≡ found.old.items ++ overlapping_in (numbers key.now) (bits mask.now) (subtable_mask.now, subtable.now)) }
+    ensures found { OnOk result
+        (found.new.items
+        ≡ found.old.items ++ overlapping_in (numbers key.now) (bits mask.now)
+        (subtable_mask.now, subtable.now)) }
     ensures scanned { OnOk result (IsScanned (bits mask.now) (subtable_mask.now, subtable.now)) }
 {
     if !covers(mask, subtable_mask) {
@@ -60,7 +65,9 @@ fn add_agreeing(
     key: &Key,
     mask: &Mask,
 ) -> Result<(), AllocError>
-    ensures found { OnOk result (found.new.items ≡ found.old.items ++ agreeing (numbers key.now) (bits mask.now) subtable.now.entries) }
+    ensures found { OnOk result
+        (found.new.items
+        ≡ found.old.items ++ agreeing (numbers key.now) (bits mask.now) subtable.now.entries) }
     ensures keys { HasDistinctKeys subtable.now }
 {
     'entries: for (masked_key, number) in subtable.iter() {

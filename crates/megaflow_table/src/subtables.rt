@@ -44,7 +44,8 @@ pub(crate) fn insert_under(
     requires subtable { HasRoomUnder subtables.old (bits mask.now) }
     requires is_fresh { IsFresh fresh.old }
     requires has_fresh { IsSome fresh.old }
-    ensures changes { ChangesOnly subtables.old subtables.new (bits mask.now) (numbers masked_key) (Some number) }
+    ensures changes { ChangesOnly subtables.old subtables.new (bits mask.now) (numbers masked_key)
+        (Some number) }
     ensures fresh { IsFresh fresh.new }
 {
     if let Some(subtable) = subtables.get_mut(mask) {
@@ -62,7 +63,8 @@ pub(crate) fn insert_under(
 
 /// Takes the number of a masked key out of the subtable of its mask, and tells whether that is empty now.
 fn remove_number(subtables: &mut Subtables, mask: &Mask, masked_key: &Key) -> bool
-    ensures changes { ChangesOnly subtables.old subtables.new (bits mask.now) (numbers masked_key.now) None }
+    ensures changes { ChangesOnly subtables.old subtables.new (bits mask.now)
+        (numbers masked_key.now) None }
     ensures room { KeepsRoom subtables.old subtables.new }
     ensures emptied { IsTrue result → IsEmptied subtables.new (bits mask.now) }
 {
@@ -77,7 +79,8 @@ fn remove_number(subtables: &mut Subtables, mask: &Mask, masked_key: &Key) -> bo
 
 /// Takes the number of a masked key out, and with the last one of a mask its subtable, so that no lookup probes it.
 pub(crate) fn remove_under(subtables: &mut Subtables, mask: &Mask, masked_key: &Key)
-    ensures changes { ChangesOnly subtables.old subtables.new (bits mask.now) (numbers masked_key.now) None }
+    ensures changes { ChangesOnly subtables.old subtables.new (bits mask.now)
+        (numbers masked_key.now) None }
     ensures room { KeepsRoom subtables.old subtables.new }
 {
     if remove_number(subtables, mask, masked_key) {

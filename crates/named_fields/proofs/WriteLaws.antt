@@ -5,7 +5,8 @@ use Rattle.spec_keys.specs.declared.field_id.FieldId.{FieldId}
 use Rattle.spec_actions.specs.declared.named_field.NamedField.{NamedField}
 use Rattle.spec_actions.specs.Named.{named}
 use Rattle.spec_actions.specs.Sound.{fits_name}
-use Rattle.spec_xlate.specs.Translation.{merged, written, written_bits, in_field}
+use Rattle.spec_base.specs.Bits.{merged}
+use Rattle.spec_xlate.specs.Translation.{written, written_bits, in_field}
 use Rattle.named_fields.proofs.NamedLaws.{writable-within}
 use Rattle.named_fields.proofs.SliceLaws.{placed}
 

@@ -9,7 +9,8 @@
 //! # What is promised
 //!
 //! - `named` gives what a name stands for, as the one table of `spec_actions` has it.
-//! - `read_slice` is the number that bits of a named field are, and `slice_bits` says which bits these are.
+//! - `read_slice` is the number that bits of a named field are, and `slice_bits` says which bits these are; `low_bits` are
+//!   the n least bits of a number.
 //! - `write_bits` replaces bits of a named field, as far as a write may change them, and `write_field` those of a field of
 //!   the key; all else stays. A `vlan_tci` that a write leaves without its tag bit becomes 0.
 //! - `holds` tells whether a packet is what a write needs.
@@ -33,6 +34,6 @@ mod tags;
 
 pub use names::{NamedBits, named};
 pub use prerequisites::holds;
-pub use slices::{read_slice, slice_bits, write_bits, write_field};
+pub use slices::{low_bits, read_slice, slice_bits, write_bits, write_field};
 pub use spec_actions::{NamedField, Prerequisite, Slice};
 pub use tags::{TAG_BIT, is_tagged, set_tag};

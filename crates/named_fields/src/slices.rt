@@ -12,7 +12,7 @@ use ovs_fields::{FieldId, Key};
 use spec_actions::{NamedField, Slice};
 
 /// The n least bits.
-fn low_bits(n: u32) -> u128
+pub fn low_bits(n: u32) -> u128
     requires { n ≤ 128 }
     ensures { result ≡ all_bits n }
 {

@@ -1,6 +1,6 @@
-//! The update of a checksum of the Internet protocols (RFC 1071 and 1624).
+//! Checksums of the Internet protocols, and their update (RFC 1071 and 1624).
 ghost use Rattle.std.specs.Prelude.{◌≡◌};
-ghost use Rattle.spec_checksum.specs.Checksum.{ones_add, updated};
+ghost use Rattle.spec_checksum.specs.Checksum.{checksum, ones_add, updated};
 ghost use Rattle.net_bytes.specs.Update.{UpdateIsRecomputing};
 
 // The sum in ones' complement: what is carried out of the word is added again at its end.
@@ -9,6 +9,18 @@ fn ones_add(a: u16, b: u16) -> u16
 {
     let (sum, carried) = a.overflowing_add(b);
     sum + u16::from(carried)
+}
+
+/// The checksum of words of 16 bits, of which the one in its own place is 0.
+#[tactic(auto, unfolding(spec_checksum::specs::Checksum::checksum))]
+pub fn checksum_of(words: &[u16]) -> u16
+    ensures { result ≡ checksum words.now }
+{
+    let mut sum = 0;
+    'words: for word in words {
+        sum = ones_add(sum, *word);
+    }
+    !sum
 }
 
 /// The checksum after one of the words that it covers has changed (RFC 1624, equation 3).

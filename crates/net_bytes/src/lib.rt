@@ -1,4 +1,4 @@
-//! Numbers in the bytes of a frame, and the update of a checksum.
+//! Numbers in the bytes of a frame, and checksums.
 //!
 //! # What?
 //!
@@ -6,13 +6,14 @@
 //! (RFC 1700, "Data Notations"). `be16` and its like read the number at an offset, and `put16` and its like write one.
 //! `le16` and `le32` read numbers of the other order, as capture files have them.
 //!
-//! Where a word of a header changes, `checksum_update` gives the header's new Internet checksum (RFC 1071) from the old
-//! one (RFC 1624).
+//! `checksum_of` gives the Internet checksum of words (RFC 1071). Where a word of a header changes, `checksum_update`
+//! gives the new checksum from the old one (RFC 1624).
 //!
 //! # What is promised
 //!
 //! - A number that is read is exactly the one of `spec_base` at the offset. `be48` says too that it has 48 bits.
 //! - A write puts the number's bytes at the offset. The bytes before and after stay, and so does the length.
+//! - The checksum of words is the one of `spec_checksum`.
 //! - The updated checksum is the one of equation 3 of RFC 1624, as `spec_checksum` states it.
 //! - Updating is recomputing (`update_is_recomputing`): for all words the updated checksum is the one of the words as
 //!   they are now. Only where these are all 0 do the two differ: the update gives 0, and recomputing gives 65,535. No
@@ -36,7 +37,7 @@ mod checksum;
 mod reading;
 mod writing;
 
-pub use checksum::{checksum_update, update_is_recomputing};
+pub use checksum::{checksum_of, checksum_update, update_is_recomputing};
 pub use reading::{be16, be32, be48, be128, le16, le32};
 pub use writing::{put16, put32, put48, put128};
 

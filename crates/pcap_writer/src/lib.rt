@@ -2,7 +2,8 @@
 //!
 //! # What?
 //!
-//! A `PcapWriter` creates a file and writes its header, then a record for each frame, and closes it.
+//! A `PcapWriter` creates a file and writes its header, then a record for each frame, and closes it. Where whoever has
+//! the shelf creates and closes the file, a writer begins with the header.
 //!
 //! # What is promised
 //!

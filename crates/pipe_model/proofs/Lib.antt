@@ -4,5 +4,6 @@ mod InOrder
 pub mod Looking
 mod Moving
 mod Others
+mod RunEvents
 pub mod Versions
 pub mod Winners

@@ -5,11 +5,11 @@ use Rattle.std.proofs.lemmas.Bool.{and_parts, and_from}
 use Rattle.spec_tables.specs.declared.edit_word.EditWord.{EditWord}
 use Rattle.spec_tables.specs.declared.edit_word.EditWord.TheVariants.{Add, Modify, ModifyStrict, Delete, DeleteStrict}
 use Rattle.spec_tables.specs.Rules.{Rule}
-use Rattle.spec_tables.specs.Edits.{Edit, rule_of, with_actions, modified, without, is_named_by, is_reached_by, edited, after_edit, version}
+use Rattle.spec_tables.specs.Edits.{Edit, rule_of, with_actions, modified, without, is_named_by, is_reached_by, edited, after_edit, version, has_sound_actions}
 use Rattle.spec_tables.specs.Live.{rule_numbered}
 use Rattle.rule_tables.specs.History.{rules_of, history_of}
 use Rattle.rule_tables.proofs.Histories.{rules_of-history}
-use Rattle.pipe_model.specs.Runnable.{IsAmong, AreRunnable, is_sound_rule, has_sound_actions}
+use Rattle.pipe_model.specs.Runnable.{IsAmong, AreRunnable, is_sound_rule}
 
 -- ---- numbers rise
 

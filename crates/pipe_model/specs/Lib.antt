@@ -1,6 +1,9 @@
+pub mod Events
 pub mod Modes
 pub mod Others
 pub mod Plains
 pub mod Runnable
+pub mod Scans
 pub mod States
-pub mod Switches
+pub mod Winning
+pub mod Xlates

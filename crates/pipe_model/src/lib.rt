@@ -18,22 +18,27 @@
 //! number. Rules that edits made have distinct numbers, and sound actions where those of the edits are sound
 //! (`proofs/Versions`).
 //!
-//! `Translating` is a translation under way, for whoever translates by other lookups than a scan: each step of it does what
-//! the definition of that step does to the definition's `State`.
+//! `translate_by` is the same run for every kind of lookup (`Lookups`): whoever finds the winning rule otherwise than by a
+//! scan, or wants to know what a translation looked at, gives that alone. It gives both lists of `pipe` too, and tells each
+//! lookup and each action to notes, in the order in which they happen (`specs/Events`). `plain` takes no notes.
+//!
+//! `Translated` is what comes of a translation whose notes are the bits that it consulted. It stands for every packet
+//! whose key agrees on these bits (`IsWildcardSound`, specs/Xlates.antt): that is for whoever makes one to show.
 //!
 //! # How
 //!
-//! Each action is a method of `Translating`; only lookups call each other (`lookups`). An output appends at once what turns
+//! Each action is a method of `Translating`, a translation under way, and does what the definition of that step does to the
+//! definition's `State`; only lookups call each other (`interpreter`). An output appends at once what turns
 //! the frame's key into the current one, and the outputs; what is beyond the limit is cut off again, and the translation is
 //! over. Where a packet goes to all other ports, these are found one number after the other, so that no sorted copy of the
 //! ports is made.
 //!
-//! A translation is made in lists that its caller hands in (`Translating::start`): what they hold is dropped, and their
-//! memory is used again, so that it takes none where what it makes fits in them. `Plain::empty` gives the first ones.
+//! A translation is made in empty lists that its caller hands in (`SpareLists`), so that it takes no memory where what it
+//! makes fits in them. `SpareLists::new` gives the first ones, and `Plain::into_spare` those of a translation before.
 //!
 //! # What is left to others
 //!
-//! Which bits of the key were consulted, and so for which other keys the translation holds. What the datapath actions do
+//! Which bits each lookup and each action consults. What the datapath actions do
 //! to a frame. And that the actions of edits are sound, which whoever reads them sees to.
 #![tactic(auto)]
 
@@ -43,9 +48,13 @@ mod lookups;
 mod mode;
 mod outputs;
 mod ports;
-mod switch;
+mod scanning;
+mod translated;
 mod translating;
 
-pub use interpreter::plain;
-pub use lists::{Plain, Visits};
-pub use translating::{DEEPEST, Translating};
+pub use interpreter::translate_by;
+pub use lists::{Plain, SpareLists, Visits};
+pub use lookups::{Found, Lookups};
+pub use scanning::plain;
+pub use translated::Translated;
+pub use translating::Translating;

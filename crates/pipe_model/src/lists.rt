@@ -1,4 +1,4 @@
-ghost use Rattle.std.specs.Prelude.{◌≡◌};
+ghost use Rattle.std.specs.Prelude.{◌≡◌, []};
 
 use dp_actions::ActionList;
 use std::alloc::Global;
@@ -48,16 +48,35 @@ pub struct Plain {
 }
 
 impl Plain {
-    ghost use Rattle.std.specs.Prelude.{[]};
-    ghost use Rattle.pipe_model.specs.Plains.{translation_in};
+    /// The memory of both lists, for another translation.
+    pub fn into_spare(self) -> SpareLists {
+        SpareLists::of(self.actions, self.visits)
+    }
+}
 
-    /// No actions and no visits. It takes no memory; what the lists take later is of `alloc`.
-    pub fn empty(alloc: Global) -> Plain
-        ensures { translation_in result ≡ record { actions = []; visits = [] } }
-    {
-        Plain {
+/// Empty lists, in whose memory a translation is made.
+#[derive(Debug, Drop)]
+pub struct SpareLists {
+    pub(crate) actions: ActionList,
+    pub(crate) visits: Vec<u32>,
+    ghost no_actions: { actions ≡ [] },
+    ghost no_visits: { visits.items ≡ [] },
+}
+
+impl SpareLists {
+    /// Lists without memory; what they take later is of `alloc`.
+    pub fn new(alloc: Global) -> SpareLists {
+        SpareLists {
             actions: ActionList::new(Vec::new(alloc)),
-            visits: Visits::new(Vec::new(alloc)),
+            visits: Vec::new(alloc),
         }
+    }
+
+    /// The memory of lists that nothing names any more. What they hold is dropped.
+    pub fn of(mut actions: ActionList, visits: Visits) -> SpareLists {
+        actions.truncate(0);
+        let mut visits = visits.into_vec();
+        visits.clear();
+        SpareLists { actions, visits }
     }
 }

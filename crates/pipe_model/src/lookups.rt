@@ -1,75 +1,56 @@
-//! Lookups and the actions that they lead to, which may lead to further lookups.
-ghost use Rattle.std.specs.Prelude.{◌≡◌, OnOk, IsTrue};
-ghost use Rattle.spec_actions.specs.Sound.{is_sound, AreSound};
-ghost use Rattle.spec_xlate.specs.Translation.{act, run, look};
-ghost use Rattle.pipe_model.specs.States.{state_of};
-ghost use Rattle.pipe_model.specs.Switches.{switch_in, CanRun};
+ghost use Rattle.std.specs.Prelude.{◌≡◌, None, IsTrue, MatchOption};
+ghost use Rattle.spec_actions.specs.Sound.{is_sound};
+ghost use Rattle.spec_tables.specs.Rules.{winner};
+ghost use Rattle.spec_xlate.specs.Translation as xlate;
+ghost use Rattle.ovs_fields.specs.Packed.{numbers};
+ghost use Rattle.pipe_model.specs.Events.{Event};
+ghost use Rattle.pipe_model.specs.Events.Event.{Looked, Acted};
+ghost use Rattle.pipe_model.specs.Winning.{IsWinner};
 
-use crate::switch::{Switch, find_winner};
-use crate::translating::Translating;
+use ovs_fields::Key;
 use rule_tables::OfAction;
-use std::alloc::AllocError;
 
-/// What one action does. So many depths are left for the lookup that it may lead to.
-#[cycle(look)]
-fn act(
-    state: &mut Translating,
-    sw: &Switch,
-    action: OfAction,
-    depths: u32,
-) -> Result<(), AllocError>
-    requires can_run { CanRun sw.now }
-    requires sound { IsTrue (is_sound action) }
-    ensures { OnOk result (state_of state.new ≡ act (switch_in sw.now) (look (switch_in sw.now) depths) action (state_of state.old)) }
-{
-    match action {
-        OfAction::Resubmit(table) => look(state, sw, table, depths),
-        OfAction::Goto(table) => look(state, sw, table, depths),
-        _ => state.step(sw.ports, action),
-    }
+/// What a lookup found: the rule's number and its actions.
+#[derive(Clone, Copy)]
+pub struct Found<'a> {
+    pub number: u32,
+    pub actions: &'a [OfAction],
 }
 
-/// What a list of actions does, as far as it goes.
-#[cycle(look)]
-fn run(
-    state: &mut Translating,
-    sw: &Switch,
-    actions: &[OfAction],
-    depths: u32,
-) -> Result<(), AllocError>
-    requires can_run { CanRun sw.now }
-    requires sound { AreSound actions.now }
-    ensures { OnOk result (state_of state.new ≡ run (switch_in sw.now) (look (switch_in sw.now) depths) actions.now (state_of state.old)) }
-{
-    'actions: for action in actions {
-        act(state, sw, *action, depths)?;
-        if !state.is_going() {
-            return Ok(());
-        }
-    }
-    Ok(())
-}
+/// A switch whose tables are looked up in some way, and what is noted of a translation through them.
+///
+/// Notes are taken of each lookup, and of each action that leads to none, in the order in which they happen.
+pub trait Lookups {
+    /// What is noted: nothing, bits that were consulted, or each step.
+    type Notes;
 
-/// A lookup in a table, and all that it leads to. So many depths are left, its own among them.
-#[cycle(look)]
-pub(crate) fn look(
-    state: &mut Translating,
-    sw: &Switch,
-    table: u8,
-    depths: u32,
-) -> Result<(), AllocError>
-    requires can_run { CanRun sw.now }
-    ensures { OnOk result (state_of state.new ≡ look (switch_in sw.now) depths table (state_of state.old)) }
-{
-    if depths == 0 || state.lookups_left() == 0 {
-        state.stop();
-        return Ok(());
-    }
-    state.take_lookup();
-    if let Some(found) = find_winner(sw, table, state.current()) {
-        state.visit(found.number)?;
-        run(state, sw, found.actions, depths - 1)?;
-        state.resume();
-    }
-    Ok(())
+    /// The switch, as the definition sees it.
+    ghost switch: { Self → xlate.Switch };
+
+    /// Whether a translation can be run over it.
+    ghost can_run: { Self → Type 0 };
+
+    /// What notes are seen as.
+    ghost Noted: { Type 0 };
+
+    ghost noted: { Self.Notes → Noted };
+
+    /// The notes after one more event.
+    ghost after: { Noted → Event → Noted };
+
+    /// The numbers of its ports, in any order.
+    fn ports(&self) -> &[u16]
+        ensures { result.now ≡ (switch self.now).ports };
+
+    /// The rule that wins for a key in a table. The lookup is noted.
+    fn find<'a>(&'a self, table: u8, key: &Key, notes: &mut Self::Notes) -> Option<Found<'a>>
+        requires { can_run self.now }
+        ensures winner { MatchOption result (winner ((switch self.now).tables table) (numbers key.now) ≡ None)
+            (λ found. IsWinner ((switch self.now).tables table) (numbers key.now) found.number found.actions.now) }
+        ensures noted { noted notes.new ≡ after (noted notes.old) (Looked table ((switch self.now).tables table) (numbers key.now)) };
+
+    /// Notes an action on a packet of a key, before it is done.
+    fn note(&self, action: OfAction, key: &Key, notes: &mut Self::Notes)
+        requires { IsTrue (is_sound action) }
+        ensures { noted notes.new ≡ after (noted notes.old) (Acted action (numbers key.now)) };
 }

@@ -8,7 +8,7 @@ ghost use Rattle.spec_xlate.specs.Tags.{is_full, pushed, popped};
 ghost use Rattle.spec_xlate.specs.Translation.{start, in_port_of, emit_all, committed, stopped, with_current, resumed, output, output_all, other_ports, slice_of, slice_bits, write, write_tag, lower_ttl, act, action_limit};
 ghost use Rattle.ovs_fields.specs.Packed.{numbers};
 
-use crate::lists::{Plain, Visits};
+use crate::lists::{Plain, SpareLists, Visits};
 use crate::mode::Mode;
 use crate::outputs::{append_outputs, append_outputs_but, cut_off};
 use crate::ports::{has_others, other_port};
@@ -22,7 +22,7 @@ use rule_tables::OfAction;
 use std::alloc::AllocError;
 
 /// The depth of the deepest lookup, that of the first being 0. The limits are this profile's.
-pub const DEEPEST: u32 = 64;
+pub(crate) const DEEPEST: u32 = 64;
 
 /// How many lookups a translation may make.
 const LOOKUP_LIMIT: u32 = 512;
@@ -56,19 +56,15 @@ impl Translating {
     ghost use Rattle.pipe_model.specs.Plains.{translation_in};
     ghost use Rattle.pipe_model.specs.States.{state_of, is_going, visiting, stepped, without_rules};
 
-    /// Before the first lookup of a packet. What the lists hold is dropped, and their memory is used again. It takes none.
-    pub fn start(lists: Plain, key: &Key) -> Translating
+    /// Before the first lookup of a packet, in lists whose memory is used. It takes no more.
+    pub fn start(lists: SpareLists, key: &Key) -> Translating
         ensures { state_of result ≡ start (numbers key.now) }
     {
-        let mut actions = lists.actions;
-        actions.truncate(0);
-        let mut visits = lists.visits.into_vec();
-        visits.clear();
         Translating {
             current: *key,
             base: *key,
-            actions,
-            visits,
+            actions: lists.actions,
+            visits: lists.visits,
             lookups_left: LOOKUP_LIMIT,
             mode: Mode::Going,
         }

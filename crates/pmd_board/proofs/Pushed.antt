@@ -16,7 +16,7 @@ use Rattle.board_laws.proofs.Balance.{packets_balance, bytes_balance}
 use Rattle.board_laws.proofs.Journals.{after_step, legal_step}
 use Rattle.board_laws.proofs.Looked.{next_after}
 use Rattle.board_laws.proofs.Once.{decided_in}
-use Rattle.board_laws.proofs.Stated.{apart_after, decided_after, few_entries, list_is_live, places_after, recent_after, right_after, versions_after}
+use Rattle.board_laws.proofs.Stated.{apart_after, decided_after, few_entries, list_is_live, places_after, recent_after, right_after, slots_after, versions_after}
 use Rattle.run_blocks.specs.Places.{HasPort}
 use Rattle.board_steps.specs.declared.step.Step as rust
 use Rattle.board_steps.specs.StepViews.{step_view, steps_view}
@@ -37,6 +37,7 @@ lawful_after run port limit steps in_order keys legal = record {
   few = few_entries run port limit steps legal;
   right = right_after run port limit steps keys legal;
   recent = recent_after run port limit steps in_order legal;
+  slots = slots_after run port limit steps legal;
   listed = list_is_live run port limit steps legal;
   decided = decided_after run port limit steps in_order keys legal;
   accounted = λ rule. record {

@@ -1,5 +1,5 @@
 -- What a settle and a put need of a port's caches, and what they make of them.
-use Rattle.std.proofs.Common.{◌≡◌, ℕ, ◌+◌, ◌^◌, ◌<◌, ◌≤◌, Bool, true, false, List, length, filter, nat_lt, if◌then◌else◌, All, Option, Some, None, refl, sym, ap, ◌∙◌, subst, arith}
+use Rattle.std.proofs.Common.{◌≡◌, ℕ, ◌+◌, ◌^◌, ◌<◌, ◌≤◌, Bool, true, false, List, length, filter, nat_lt, if◌then◌else◌, All, Option, Some, None, refl, sym, ap, ap₂, ◌∙◌, subst, arith}
 use Rattle.std.specs.Option.{option_map}
 use Rattle.std.specs.Prelude.{not}
 use Rattle.spec_pcap.specs.Pcap.{Frame}
@@ -20,6 +20,9 @@ use Rattle.board_laws.proofs.Refusals.{may_put}
 use Rattle.pcap_reader.specs.Records.{IsShort}
 use Rattle.port_caches.specs.Views.{AreCachesOf, Caches}
 use Rattle.port_caches.specs.Steps.{AreRules, HasFewTotals, IsFrameOf, IsPut, IsSettled, put_state, settle_effect, settle_state}
+use Rattle.pmd_board.specs.declared.board.Board.TheInside.{Inside}
+use Rattle.pmd_board.specs.BoardView.{BoardView, state_of}
+use Rattle.pmd_board.specs.Fields.{view_of}
 use Rattle.pmd_board.proofs.Caches.{are_rules, put_fits, settle_fits, settle_is}
 use Rattle.pmd_board.proofs.Sweeps.{put_of_state, settled_of}
 
@@ -36,6 +39,30 @@ visits_rules run own v rules key mask t made all in_order block le =
     (are_rules run v rules own (let h = (in_order block).1 in omega (arith, h, le, all)))
 
 -- ---- settles
+
+-- The frame of a place may be settled under a version, and this was made of its key.
+pub record CanSettle {X : Type 0} (run : Run) (b : Inside X) (place v length_ time : ℕ) (key mask : List ℕ) (t : Translation) : Type 0 where
+  pub may : settle_fault run (state_of run (view_of b)) place v ≡ None
+  pub made : IsMadeOf run (key_at run b.port place) v key mask t
+  pub frame : IsFrameOf length_ time (frame_at run b.port place)
+
+-- so it is where that was said of the board's view, and under what is the same version
+pub can_settle : {X : Type 0} (run : Run) (b : Inside X) (before : BoardView) (port place v said length_ time : ℕ) (key mask own : List ℕ) (t : Translation)
+    → view_of b ≡ before → port ≡ before.port → v ≡ said → settle_fault run (state_of run before) place said ≡ None
+    → key ≡ key_at run port place → own ≡ key → mask ≡ mask_for run said own → t ≡ translated run said own
+    → IsFrameOf length_ time (frame_at run port place) → CanSettle run b place v length_ time key mask t
+can_settle run b before port place v said length_ time key mask own t view port_is version may key_is own_is mask_is t_is frame =
+    let here : port ≡ b.port = port_is ∙ ap (λ (x : BoardView). x.port) (sym view) in
+    let its : key ≡ key_at run b.port place = key_is ∙ ap (λ q. key_at run q place) here in
+    record {
+      may = rw version (subst (λ (x : BoardView). settle_fault run (state_of run x) place said ≡ None) (sym view) may);
+      made = record {
+        key_is = its;
+        mask_is = mask_is ∙ ap₂ (mask_for run) (sym version) (own_is ∙ its);
+        translation_is = t_is ∙ ap₂ (translated run) (sym version) (own_is ∙ its);
+      };
+      frame = subst (λ q. IsFrameOf length_ time (frame_at run q place)) here frame;
+    }
 
 pub totals_fit : (run : Run) (port limit : ℕ) (steps : List Step) (c : Caches) (place v length_ time : ℕ) (key mask : List ℕ) (t : Translation)
     → IsMadeOf run (key_at run port place) v key mask t

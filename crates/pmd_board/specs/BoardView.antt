@@ -13,7 +13,7 @@ use Rattle.spec_board.specs.Texts.{Journal}
 use Rattle.megaflow_table.specs.declared.entry.Entry as flows
 use Rattle.port_caches.specs.declared.lists.HeldList.{HeldList}
 use Rattle.port_caches.specs.Views.{entry_view}
-use Rattle.board_laws.specs.Entries.{AreApart, IsRight}
+use Rattle.board_laws.specs.Entries.{AreApart, IsRight, NamesCovering}
 use Rattle.board_laws.specs.Versions.{HasVersionsInOrder, IsRecent}
 use Rattle.board_laws.specs.Places.{ArePlaces}
 
@@ -45,8 +45,9 @@ pub record Appends (run : Run) (before : BoardView) (step : Step) (after : Board
 
 -- What the laws of boards say of every board: the versions stand in order, and those of the entries; the places as
 -- they were looked up; no key is covered by two entries, and each entry has what a plain scan under its version gives,
--- for every key that it covers; each frame that is decided is decided once, rightly, and within its window; and what a
--- rule was credited with and what the entries owe it are together what it is due.
+-- for every key that it covers; a slot of the exact-match cache that names a live entry names one that covers the slot's
+-- key; each frame that is decided is decided once, rightly, and within its window; and what a rule was credited with and
+-- what the entries owe it are together what it is due.
 pub record IsLawful (run : Run) (b : BoardView) : Type 0 where
   pub versions : HasVersionsInOrder run (state_of run b)
   pub places : ArePlaces run b.port (state_of run b)
@@ -55,6 +56,7 @@ pub record IsLawful (run : Run) (b : BoardView) : Type 0 where
   pub few : length (state_of run b).entries ≤ b.flow_limit
   pub right : All (IsRight run) (state_of run b).entries
   pub recent : All (IsRecent (state_of run b)) (state_of run b).entries
+  pub slots : All (NamesCovering (state_of run b).entries) (state_of run b).slots
   pub listed : All (λ n. IsSome (entry_of n (state_of run b).entries)) (state_of run b).listed
   pub decided : (place : ℕ) → IsTrue (is_decided (place_at place (state_of run b))) → IsDecided run b.port b.journal place
   pub accounted : (rule : ℕ) → IsAccounted run b.port b.journal rule

@@ -112,7 +112,8 @@ impl<C: Case> Board<C> {
         flow_limit: u32,
     ) -> Result<Board<C>, AllocError>
         requires { HasPort C.run.ports port }
-        ensures { IfOk result (λ b. b ≡ record { port = port; flow_limit = flow_limit; journal = [] }) }
+        ensures { IfOk result
+            (λ b. b ≡ record { port = port; flow_limit = flow_limit; journal = [] }) }
     {
         let frames = run.frames(port) as usize;
         let blocks = bounds_of(alloc, run, port)?;
@@ -228,8 +229,10 @@ impl<C: Case> Board<C> {
 
     // What is kept of the decision of a place's frame.
     fn kept(&self, place: u32) -> Option<(u32, &[DpAction])>
-        ensures some { IfSome result (λ d. states.place_at place (state_of C.run self.now) ≡ states.Decided d.0 d.1.now) }
-        ensures none { IfNone result (states.is_decided (states.place_at place (state_of C.run self.now)) ≡ false) }
+        ensures some { IfSome result
+            (λ d. states.place_at place (state_of C.run self.now) ≡ states.Decided d.0 d.1.now) }
+        ensures none { IfNone result
+            (states.is_decided (states.place_at place (state_of C.run self.now)) ≡ false) }
     {
         if place == 0 || place as usize > self.places.len() {
             return None;
@@ -245,8 +248,10 @@ impl<C: Case> Board<C> {
     /// One step of the journal decided it, as a plain scan of that version does, within the window of its block.
     pub fn decision(&self, place: u32) -> Option<(u32, &[DpAction])>
         ensures told { IfSome result (λ d. IsDecision C.run self.now place d.0 d.1.now) }
-        ensures some { IfSome result (λ d. states.place_at place (state_of C.run self.now) ≡ states.Decided d.0 d.1.now) }
-        ensures none { IfNone result (states.is_decided (states.place_at place (state_of C.run self.now)) ≡ false) }
+        ensures some { IfSome result
+            (λ d. states.place_at place (state_of C.run self.now) ≡ states.Decided d.0 d.1.now) }
+        ensures none { IfNone result
+            (states.is_decided (states.place_at place (state_of C.run self.now)) ≡ false) }
         ensures lawful { IsLawful C.run self.now }
     {
         let _ = &self.journal;
@@ -267,7 +272,8 @@ impl<C: Case> Board<C> {
     /// The actions of a live megaflow.
     pub fn actions(&self, number: u32) -> &[DpAction]
         requires { IsSome (entry_of number (state_of C.run self.now).entries) }
-        ensures { option_map (λ e. e.actions) (entry_of number (state_of C.run self.now).entries) ≡ Some result.now }
+        ensures { option_map (λ e. e.actions) (entry_of number (state_of C.run self.now).entries)
+            ≡ Some result.now }
     {
         self.caches.entry_actions(number)
     }
@@ -275,7 +281,8 @@ impl<C: Case> Board<C> {
     /// What each rule was credited with. What entries owe it comes on top.
     pub fn totals(&self) -> &Totals
         ensures rules { length result.now ≡ last_version C.run }
-        ensures totals { (rule : ℕ) → total_of result.now rule ≡ (state_of C.run self.now).totals rule }
+        ensures totals { (rule : ℕ)
+            → total_of result.now rule ≡ (state_of C.run self.now).totals rule }
         ensures lawful { IsLawful C.run self.now }
     {
         self.caches.totals()
@@ -284,8 +291,10 @@ impl<C: Case> Board<C> {
     /// The least entry above a number that the sweep has yet to put, and its key; `None` exactly where there is none.
     pub fn next_check(&self, after: u32) -> Option<(u32, Key)>
         ensures some { IfSome result (λ r. (find (λ n. nat_lt after n) (state_of C.run self.now).listed ≡ Some r.0)
-            × (option_map (λ e. e.key) (entry_of r.0 (state_of C.run self.now).entries) ≡ Some (numbers r.1))) }
-        ensures none { IfNone result (find (λ n. nat_lt after n) (state_of C.run self.now).listed ≡ None) }
+            × (option_map (λ e. e.key) (entry_of r.0 (state_of C.run self.now).entries)
+            ≡ Some (numbers r.1))) }
+        ensures none { IfNone result
+            (find (λ n. nat_lt after n) (state_of C.run self.now).listed ≡ None) }
     {
         let number = self.listed.above(after)?;
         match self.caches.key_of(number) {
@@ -304,7 +313,8 @@ impl<C: Case> Board<C> {
     // For how many steps there has to be room.
     pub(crate) fn room_needed(&self) -> usize
         ensures left { result ≡ left (length (frames_of C.run self.now.port)) (state_of C.run self.now).next (last_block C.run)
-            (state_of C.run self.now).block (state_of C.run self.now).is_sweeping (length (state_of C.run self.now).listed) }
+            (state_of C.run self.now).block (state_of C.run self.now).is_sweeping
+            (length (state_of C.run self.now).listed) }
         ensures few { result < 2 ^ 35 }
     {
         steps_left(

@@ -12,7 +12,7 @@
 //! # What is promised
 //!
 //! A board is seen as its port, its limit and its journal (`specs/BoardView`), and the journal says all: `spec_board`
-//! defines the state that it leads to.
+//! defines the state that it leads to, where a megaflow is called an *entry*.
 //!
 //! - Each call appends exactly its step, which is legal there, or refuses and leaves the board. A refusal comes exactly
 //!   where `spec_board` has it, as the first of its causes and with the numbers that it carries. Out of memory alone is
@@ -20,7 +20,8 @@
 //! - A journal is legal whatever calls were made and whatever the flow limit is, and so the laws of boards hold of it
 //!   (`board_laws`). Those that callers need are one record, `IsLawful`, and a clause of each call that changes caches or
 //!   tells of them. No key is covered by two megaflows, and each has the actions and visits of a plain scan under its
-//!   version, for every clean key that it covers. Each decided frame was decided by exactly one step, with the actions of a
+//!   version, for every clean key that it covers; a slot of the exact-match cache that names a live megaflow names one
+//!   that covers the slot's key. Each decided frame was decided by exactly one step, with the actions of a
 //!   plain scan of a version in its window. Versions stand in order, and what a rule was credited with and what megaflows
 //!   owe it are together what it is due.
 //!

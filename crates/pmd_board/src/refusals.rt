@@ -69,7 +69,8 @@ impl<C: Case> Board<C> {
     }
 
     pub(crate) fn look_refusal(&self, at: &Keyed<C>) -> Option<LookFault>
-        ensures { at.now.port ≡ self.now.port → result ≡ look_fault C.run self.now.port (state_of C.run self.now) at.now.place }
+        ensures { at.now.port ≡ self.now.port
+            → result ≡ look_fault C.run self.now.port (state_of C.run self.now) at.now.place }
     {
         if at.place != self.next {
             return Some(LookFault::OutOfTurn { next: self.next });

@@ -26,7 +26,8 @@ use std::alloc::AllocError;
 
 // The exact-match cache keeps which entry a look found among the megaflows.
 fn remember(caches: &mut PortCaches, key: &Key, found: Looked)
-    ensures slots { AreSameSlots caches.new.slots (slots_after found (numbers key.now) caches.old.slots) }
+    ensures slots { AreSameSlots caches.new.slots
+        (slots_after found (numbers key.now) caches.old.slots) }
     ensures rest { caches.new ≡ record caches.old { slots = caches.new.slots } }
 {
     if let Looked::Mega(number) = found {
@@ -38,7 +39,9 @@ impl<C: Case> Board<C> {
     /// Opens a block, the next one, once all is done in the block before it.
     pub fn open_block(&mut self, block: u32) -> Result<(), OpenFault>
         ensures opened { IfOk result (λ _. Appends C.run self.old (steps.Open block) self.new) }
-        ensures refused { IfErr result (λ f. (open_fault C.run self.old.port (state_of C.run self.old) block ≡ Some f) × (self.new ≡ self.old)) }
+        ensures refused { IfErr result
+            (λ f. (open_fault C.run self.old.port (state_of C.run self.old) block ≡ Some f)
+            × (self.new ≡ self.old)) }
     {
         if let Some(fault) = self.open_refusal(block) {
             return Err(fault);
@@ -59,8 +62,11 @@ impl<C: Case> Board<C> {
     /// frame as the entry has it; a miss leaves it pending.
     pub fn look(&mut self, at: &Keyed<C>) -> Result<Looked, LookFault>
         requires { at.now.port ≡ self.old.port }
-        ensures looked { IfOk result (λ r. Appends C.run self.old (steps.Look at.now.place r) self.new) }
-        ensures refused { IfErr result (λ f. (look_fault C.run self.old.port (state_of C.run self.old) at.now.place ≡ Some f) × (self.new ≡ self.old)) }
+        ensures looked { IfOk result
+            (λ r. Appends C.run self.old (steps.Look at.now.place r) self.new) }
+        ensures refused { IfErr result
+            (λ f. (look_fault C.run self.old.port (state_of C.run self.old) at.now.place ≡ Some f)
+            × (self.new ≡ self.old)) }
         ensures lawful { IsLawful C.run self.new }
     {
         if let Some(fault) = self.look_refusal(at) {
@@ -79,7 +85,8 @@ impl<C: Case> Board<C> {
     // The frame is decided by the entry that its look found.
     fn hit(&mut self, at: &Keyed<C>, number: u32, found: Looked)
         requires port { at.now.port ≡ self.old.port }
-        requires may { look_fault C.run self.old.port (state_of C.run self.old) at.now.place ≡ None }
+        requires may { look_fault C.run self.old.port (state_of C.run self.old) at.now.place
+            ≡ None }
         requires found { looked (numbers at.now.key) (state_of C.run self.old) ≡ found }
         requires number { IsFound found number }
         ensures { Appends C.run self.old (steps.Look at.now.place found) self.new }
@@ -97,7 +104,8 @@ impl<C: Case> Board<C> {
 
     fn miss(&mut self, at: &Keyed<C>)
         requires port { at.now.port ≡ self.old.port }
-        requires may { look_fault C.run self.old.port (state_of C.run self.old) at.now.place ≡ None }
+        requires may { look_fault C.run self.old.port (state_of C.run self.old) at.now.place
+            ≡ None }
         requires missed { looked (numbers at.now.key) (state_of C.run self.old) ≡ Miss }
         ensures { Appends C.run self.old (steps.Look at.now.place Miss) self.new }
     {
@@ -119,8 +127,11 @@ impl<C: Case> Board<C> {
     pub fn settle(&mut self, at: &Keyed<C>, made: Xlated<C>) -> Result<(), SettleFault>
         requires port { at.now.port ≡ self.old.port }
         requires key { made.key ≡ numbers at.now.key }
-        ensures settled { IfOk result (λ _. HasSettled C.run self.old at.now.place made.version self.new) }
-        ensures refused { IfErr result (λ f. (f ≡ settle_faults.OutOfMemory) ⊎ (settle_fault C.run (state_of C.run self.old) at.now.place made.version ≡ Some f)) }
+        ensures settled { IfOk result
+            (λ _. HasSettled C.run self.old at.now.place made.version self.new) }
+        ensures refused { IfErr result
+            (λ f. (f ≡ settle_faults.OutOfMemory)
+            ⊎ (settle_fault C.run (state_of C.run self.old) at.now.place made.version ≡ Some f)) }
         ensures unchanged { IfErr result (λ _. self.new ≡ self.old) }
         ensures lawful { IsLawful C.run self.new }
     {
@@ -139,18 +150,20 @@ impl<C: Case> Board<C> {
     fn fill(&mut self, at: &Keyed<C>, made: Xlated<C>) -> Result<(), AllocError>
         requires port { at.now.port ≡ self.old.port }
         requires key { made.key ≡ numbers at.now.key }
-        requires may { settle_fault C.run (state_of C.run self.old) at.now.place made.version ≡ None }
-        ensures filled { OnOk result (HasSettled C.run self.old at.now.place made.version self.new) }
+        requires may { settle_fault C.run (state_of C.run self.old) at.now.place made.version
+            ≡ None }
+        ensures filled { OnOk result
+            (HasSettled C.run self.old at.now.place made.version self.new) }
         ensures unchanged { OnErr result (self.new ≡ self.old) }
     {
         let version = made.version();
-        let mask = *made.mask();
+        let (made, mask) = made.into_parts();
         let room = self.room_needed();
         self.journal.reserve(room + 1)?;
         let settled = self.caches.settle(
             &at.key,
             version,
-            made.into_plain(),
+            made,
             &mask,
             at.length,
             at.time,
@@ -174,7 +187,9 @@ impl<C: Case> Board<C> {
     /// Begins a sweep at a version: it is to put all megaflows. It takes memory for the sweep.
     pub fn begin(&mut self, version: u32) -> Result<(), BeginFault>
         ensures begun { IfOk result (λ _. Appends C.run self.old (steps.Begin version) self.new) }
-        ensures refused { IfErr result (λ f. (f ≡ begin_faults.OutOfMemory) ⊎ (begin_fault C.run (state_of C.run self.old) version ≡ Some f)) }
+        ensures refused { IfErr result
+            (λ f. (f ≡ begin_faults.OutOfMemory)
+            ⊎ (begin_fault C.run (state_of C.run self.old) version ≡ Some f)) }
         ensures unchanged { IfErr result (λ _. self.new ≡ self.old) }
     {
         if let Some(fault) = self.begin_refusal(version) {
@@ -211,9 +226,13 @@ impl<C: Case> Board<C> {
     /// Where the sweep doesn't list the megaflow, the translation may be of any key. It is given up where it refuses; else
     /// lists that aren't needed any more are given back. It takes no memory.
     pub fn put(&mut self, number: u32, made: Xlated<C>) -> Result<Revalidated, PutFault>
-        requires { IsTrue (is_among (state_of C.run self.old).listed number) → made.key ≡ key_of_entry (entry_of number (state_of C.run self.old).entries) }
-        ensures put { IfOk result (λ r. Appends C.run self.old (steps.Put number made.version r.done) self.new) }
-        ensures refused { IfErr result (λ f. (put_fault C.run (state_of C.run self.old) number made.version ≡ Some f) × (self.new ≡ self.old)) }
+        requires { IsTrue (is_among (state_of C.run self.old).listed number)
+            → made.key ≡ key_of_entry (entry_of number (state_of C.run self.old).entries) }
+        ensures put { IfOk result
+            (λ r. Appends C.run self.old (steps.Put number made.version r.done) self.new) }
+        ensures refused { IfErr result
+            (λ f. (put_fault C.run (state_of C.run self.old) number made.version ≡ Some f)
+            × (self.new ≡ self.old)) }
         ensures lawful { IsLawful C.run self.new }
     {
         if let Some(fault) = self.put_refusal(number, made.version()) {
@@ -231,10 +250,8 @@ impl<C: Case> Board<C> {
         ensures { Appends C.run self.old (steps.Put number made.version result.done) self.new }
     {
         let version = made.version();
-        let mask = *made.mask();
-        let revalidated = self
-            .caches
-            .put(number, version, made.into_plain(), &mask, self.clock);
+        let (made, mask) = made.into_parts();
+        let revalidated = self.caches.put(number, version, made, &mask, self.clock);
         self.listed.forget(number);
         self.newest = self.newest.max(version);
         self.journal.push_reserved(Step::Put {
@@ -248,7 +265,8 @@ impl<C: Case> Board<C> {
     /// Ends the sweep that runs, once no megaflow is left to put.
     pub fn end(&mut self) -> Result<(), EndFault>
         ensures ended { IfOk result (λ _. Appends C.run self.old steps.End self.new) }
-        ensures refused { IfErr result (λ f. (end_fault (state_of C.run self.old) ≡ Some f) × (self.new ≡ self.old)) }
+        ensures refused { IfErr result
+            (λ f. (end_fault (state_of C.run self.old) ≡ Some f) × (self.new ≡ self.old)) }
     {
         if !self.sweeping {
             return Err(EndFault::NotSweeping);

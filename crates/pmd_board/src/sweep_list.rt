@@ -55,7 +55,8 @@ impl SweepList {
 
     // Where a number stands, if it does.
     fn place_of(&self, number: u32) -> Option<usize>
-        ensures some { IfSome result (λ place. (place < length self.now) × (slice_index self.now place ≡ number)) }
+        ensures some { IfSome result
+            (λ place. (place < length self.now) × (slice_index self.now place ≡ number)) }
         ensures none { IfNone result (list_any (λ n. n == number) self.now ≡ false) }
     {
         let past = self.0.partition_point(|n| *n <= number);

@@ -21,7 +21,7 @@ use exact_cache::ExactCache;
 use flow_stats::Totals;
 use megaflow_table::Megaflows;
 use ovs_fields::{Key, Mask};
-use pipe_model::Plain;
+use pipe_model::{Plain, SpareLists};
 use spec_actions::DpAction;
 use spec_board::{Looked, PutDone};
 use std::alloc::{AllocError, Global};
@@ -47,12 +47,11 @@ pub struct SettledFrame {
     pub list: usize,
 }
 
-/// An entry that was revalidated: what became of it, and lists that aren't needed any more. What these hold means
-/// nothing; their memory can be used again.
+/// An entry that was revalidated: what became of it, and lists that aren't needed any more.
 #[derive(Debug, Drop)]
 pub struct Revalidated {
     pub done: PutDone,
-    pub lists: Plain,
+    pub lists: SpareLists,
 }
 
 impl Model for PortCaches {
@@ -108,7 +107,8 @@ impl PortCaches {
 
     /// The key of a live entry; `None` exactly where no entry of this number is live.
     pub fn key_of(&self, number: u32) -> Option<&Key>
-        ensures { option_map (λ k. numbers k.now) result ≡ option_map (λ e. e.key) (entry_of number self.now.entries) }
+        ensures { option_map (λ k. numbers k.now) result
+            ≡ option_map (λ e. e.key) (entry_of number self.now.entries) }
     {
         match self.flows.get(number) {
             Some(entry) => Some(&entry.key),
@@ -171,7 +171,8 @@ impl PortCaches {
 
     /// The exact-match cache keeps that an entry covers a key. It takes no memory.
     pub fn remember(&mut self, key: &Key, number: u32)
-        ensures slots { AreSameSlots self.new.slots (with_cached (numbers key.now) number self.old.slots) }
+        ensures slots { AreSameSlots self.new.slots
+            (with_cached (numbers key.now) number self.old.slots) }
         ensures rest { self.new ≡ record self.old { slots = self.new.slots } }
     {
         self.exact.put(key, number);
@@ -248,7 +249,8 @@ impl PortCaches {
         match done {
             PutDone::Idle | PutDone::Removed => {
                 self.flows.remove(number);
-                Revalidated { done, lists: made }
+                let lists = made.into_spare();
+                Revalidated { done, lists }
             }
             PutDone::Kept => {
                 let visits = visits_of(made.visits);

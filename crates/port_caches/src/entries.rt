@@ -19,7 +19,7 @@ use dp_actions::ActionList;
 use flow_stats::Totals;
 use megaflow_table::{Entry, Megaflows, Visits};
 use ovs_fields::{Key, Mask, covers};
-use pipe_model::Plain;
+use pipe_model::{Plain, SpareLists};
 use spec_actions::DpAction;
 use spec_board::PutDone;
 
@@ -33,12 +33,9 @@ pub(crate) fn visits_of(visits: pipe_model::Visits) -> Visits
     Visits::new(visits.into_vec())
 }
 
-/// Actions and visits that nothing names any more, as lists of a translation. It takes no memory.
-pub(crate) fn spare_lists(actions: ActionList, visits: Visits) -> Plain {
-    Plain {
-        actions,
-        visits: pipe_model::Visits::new(visits.into_vec()),
-    }
+/// The memory of actions and visits that nothing names any more.
+pub(crate) fn spare_lists(actions: ActionList, visits: Visits) -> SpareLists {
+    SpareLists::of(actions, pipe_model::Visits::new(visits.into_vec()))
 }
 
 /// An entry that decided no packet yet. Its actions are a place among lists.
@@ -83,7 +80,8 @@ pub(crate) fn new_entry(
 /// The version of an entry, and the place of its actions.
 pub(crate) fn named_by(flows: &Megaflows, number: u32) -> (u32, u32)
     requires { IsSome (entry_of number flows.now.entries) }
-    ensures { (e : Entry) → entry_of number flows.now.entries ≡ Some e → (result.0 ≡ e.version) × (result.1 ≡ e.actions) }
+    ensures { (e : Entry) → entry_of number flows.now.entries ≡ Some e → (result.0 ≡ e.version)
+        × (result.1 ≡ e.actions) }
 {
     let Some(entry) = flows.get(number) else {
         unreachable!()
@@ -94,8 +92,12 @@ pub(crate) fn named_by(flows: &Megaflows, number: u32) -> (u32, u32)
 /// The rules of an entry are credited with what it owes.
 pub(crate) fn credit_owed(flows: &Megaflows, totals: &mut Totals, number: u32)
     requires live { ForEntry number flows.now.entries (λ e. AreRules (length totals.old) e.visits) }
-    requires countable { (rule : ℕ) → IsCountable (credited_with (entry_of number flows.now.entries) (total_of totals.old) rule) }
-    ensures credited { (rule : ℕ) → total_of totals.new rule ≡ credited_with (entry_of number flows.now.entries) (total_of totals.old) rule }
+    requires countable { (rule : ℕ)
+        → IsCountable
+        (credited_with (entry_of number flows.now.entries) (total_of totals.old) rule) }
+    ensures credited { (rule : ℕ)
+        → total_of totals.new rule
+        ≡ credited_with (entry_of number flows.now.entries) (total_of totals.old) rule }
     ensures rules { length totals.new ≡ length totals.old }
 {
     let Some(entry) = flows.get(number) else {
@@ -111,11 +113,14 @@ pub(crate) fn credit_owed(flows: &Megaflows, totals: &mut Totals, number: u32)
 /// The entries of these numbers are paid and dropped, one after the other. It takes no memory.
 fn drop_each(flows: &mut Megaflows, totals: &mut Totals, dropped: &[u32])
     requires live { ArePayable (length totals.old) dropped.now flows.old.entries }
-    requires countable { (rule : ℕ) → IsCountable (totals_after dropped.now flows.old.entries (total_of totals.old) rule) }
+    requires countable { (rule : ℕ)
+        → IsCountable (totals_after dropped.now flows.old.entries (total_of totals.old) rule) }
     ensures entries { flows.new.entries ≡ entries_after dropped.now flows.old.entries }
     ensures room { flows.new.room ≡ flows.old.room }
     ensures limit { flows.new.limit ≡ flows.old.limit }
-    ensures totals { (rule : ℕ) → total_of totals.new rule ≡ totals_after dropped.now flows.old.entries (total_of totals.old) rule }
+    ensures totals { (rule : ℕ)
+        → total_of totals.new rule
+        ≡ totals_after dropped.now flows.old.entries (total_of totals.old) rule }
     ensures rules { length totals.new ≡ length totals.old }
 {
     'numbers: for number in dropped {
@@ -127,13 +132,19 @@ fn drop_each(flows: &mut Megaflows, totals: &mut Totals, dropped: &[u32])
 /// An entry takes the place of those of these numbers, which are paid and dropped. It takes no memory.
 pub(crate) fn displace(flows: &mut Megaflows, totals: &mut Totals, dropped: &[u32], entry: Entry)
     requires live { ArePayable (length totals.old) dropped.now flows.old.entries }
-    requires countable { (rule : ℕ) → IsCountable (totals_after dropped.now flows.old.entries (total_of totals.old) rule) }
+    requires countable { (rule : ℕ)
+        → IsCountable (totals_after dropped.now flows.old.entries (total_of totals.old) rule) }
     requires room { flows.old.room ≡ Some (bits entry.mask) }
-    requires new { All (λ e. e.number < entry.number) (entries_after dropped.now flows.old.entries) }
-    requires free { All (λ e. overlaps (numbers entry.key) (bits entry.mask) e ≡ false) (entries_after dropped.now flows.old.entries) }
-    ensures entries { flows.new.entries ≡ entries_after dropped.now flows.old.entries ++ entry ∷ [] }
+    requires new { All (λ e. e.number < entry.number)
+        (entries_after dropped.now flows.old.entries) }
+    requires free { All (λ e. overlaps (numbers entry.key) (bits entry.mask) e ≡ false)
+        (entries_after dropped.now flows.old.entries) }
+    ensures entries { flows.new.entries
+        ≡ entries_after dropped.now flows.old.entries ++ entry ∷ [] }
     ensures limit { flows.new.limit ≡ flows.old.limit }
-    ensures totals { (rule : ℕ) → total_of totals.new rule ≡ totals_after dropped.now flows.old.entries (total_of totals.old) rule }
+    ensures totals { (rule : ℕ)
+        → total_of totals.new rule
+        ≡ totals_after dropped.now flows.old.entries (total_of totals.old) rule }
     ensures rules { length totals.new ≡ length totals.old }
 {
     drop_each(flows, totals, dropped);
@@ -143,10 +154,14 @@ pub(crate) fn displace(flows: &mut Megaflows, totals: &mut Totals, dropped: &[u3
 /// An entry is paid, and owes nothing then. It takes no memory.
 pub(crate) fn pay(flows: &mut Megaflows, totals: &mut Totals, number: u32)
     requires live { ForEntry number flows.old.entries (λ e. AreRules (length totals.old) e.visits) }
-    requires countable { (rule : ℕ) → IsCountable (credited_with (entry_of number flows.old.entries) (total_of totals.old) rule) }
+    requires countable { (rule : ℕ)
+        → IsCountable
+        (credited_with (entry_of number flows.old.entries) (total_of totals.old) rule) }
     ensures entries { flows.new.entries ≡ changed number paid flows.old.entries }
     ensures limit { flows.new.limit ≡ flows.old.limit }
-    ensures totals { (rule : ℕ) → total_of totals.new rule ≡ credited_with (entry_of number flows.old.entries) (total_of totals.old) rule }
+    ensures totals { (rule : ℕ)
+        → total_of totals.new rule
+        ≡ credited_with (entry_of number flows.old.entries) (total_of totals.old) rule }
     ensures rules { length totals.new ≡ length totals.old }
 {
     credit_owed(flows, totals, number);

@@ -13,6 +13,7 @@
 //!
 //! `spec_board` defines what a step of a board does to its state, and a call here is promised in its words. Caches
 //! are *those of* a state that has the same entries, exact-match slots and totals (`AreCachesOf` in `specs/Views`).
+//! An *entry* is a megaflow, by its name in definitions and contracts.
 //! Of every state whose caches they are before a call:
 //!
 //! - `look` answers what the definition answers there.

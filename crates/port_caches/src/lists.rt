@@ -35,7 +35,8 @@ pub(crate) fn reserve_lists(lists: &mut Vec<HeldList>, more: usize) -> Result<()
 pub(crate) fn push_list(lists: &mut Vec<HeldList>, actions: ActionList, held: bool) -> usize
     requires { 1 ≤ room_in lists.old }
     ensures place { result ≡ length lists.old.items }
-    ensures items { lists.new.items ≡ lists.old.items ++ (record { actions = actions; held = held }) ∷ [] }
+    ensures items { lists.new.items
+        ≡ lists.old.items ++ (record { actions = actions; held = held }) ∷ [] }
     ensures len { vec_len lists.new ≡ vec_len lists.old + 1 }
     ensures capacity { vec_capacity lists.new ≡ vec_capacity lists.old }
 {
@@ -47,7 +48,9 @@ pub(crate) fn push_list(lists: &mut Vec<HeldList>, actions: ActionList, held: bo
 /// A decided frame names a list from now on.
 pub(crate) fn hold(lists: &mut Vec<HeldList>, list: usize)
     requires { list < length lists.old.items }
-    ensures items { lists.new.items ≡ slice_set lists.old.items list (record { actions = actions_at lists.old.items list; held = true }) }
+    ensures items { lists.new.items
+        ≡ slice_set lists.old.items list
+        (record { actions = actions_at lists.old.items list; held = true }) }
     ensures len { vec_len lists.new ≡ vec_len lists.old }
     ensures capacity { vec_capacity lists.new ≡ vec_capacity lists.old }
 {

@@ -13,7 +13,8 @@ use value_laws::{addresses_are_within, masks_are_within, numbers_are_within};
 /// which a mask can name. A `load` to some bits of a field that takes no mask is read, and no value spells it.
 pub fn read_actions_can_be_spelled()
     ensures { (at : ℕ) (line : List ℕ) (actions : List OfAction)
-        → read_actions at line ≡ Ok actions → IsTrue (list_all is_respellable actions) → IsTrue (are_spellable actions) }
+        → read_actions at line ≡ Ok actions → IsTrue (list_all is_respellable actions)
+        → IsTrue (are_spellable actions) }
 {
     numbers_are_within();
     addresses_are_within();
@@ -23,7 +24,8 @@ pub fn read_actions_can_be_spelled()
 /// So what is printed of such a list reads back as that list.
 pub fn read_actions_read_back()
     ensures { (at : ℕ) (line front : List ℕ) (actions : List OfAction)
-        → read_actions at line ≡ Ok actions → IsTrue (list_all is_respellable actions) → uncommented front ≡ front
+        → read_actions at line ≡ Ok actions → IsTrue (list_all is_respellable actions)
+        → uncommented front ≡ front
         → read_actions (length front) (front ++ actions_printed actions) ≡ Ok actions }
 {
     read_actions_can_be_spelled();

@@ -19,11 +19,16 @@ pub fn read_edit_reads_back()
     ensures flow { (line front : List ℕ) (e : Edit) (again : EditWord)
         → edit_in line ≡ Ok e → IsTrue (list_all is_respellable e.actions)
         → IsTrue (not (deletes again)) → uncommented front ≡ front
-        → edit_from again (length front) (front ++ (match_printed e.matching ++ (codes ",actions=" ++ actions_printed e.actions)))
-        ≡ Ok (edit again (match_alone e.matching (Some (length (front ++ (match_printed e.matching ++ codes ",actions="))))) e.actions) }
+        → edit_from again (length front)
+        (front ++ (match_printed e.matching ++ (codes ",actions=" ++ actions_printed e.actions)))
+        ≡ Ok (edit again
+        (match_alone e.matching
+        (Some (length (front ++ (match_printed e.matching ++ codes ",actions=")))))
+        e.actions) }
     ensures alone { (line front : List ℕ) (e : Edit) (again : EditWord)
         → edit_in line ≡ Ok e → IsTrue (deletes again) → uncommented front ≡ front
-        → edit_from again (length front) (front ++ match_printed e.matching) ≡ Ok (edit again (match_alone e.matching None) []) }
+        → edit_from again (length front) (front ++ match_printed e.matching)
+        ≡ Ok (edit again (match_alone e.matching None) []) }
 {
     read_match_can_be_spelled();
     read_actions_can_be_spelled();

@@ -24,11 +24,16 @@ pub fn read_match_can_be_spelled()
 pub fn read_match_reads_back()
     ensures alone { (word again : EditWord) (at : ℕ) (line front : List ℕ) (t : MatchText)
         → read_match word at line ≡ Ok t → IsTrue (deletes again) → uncommented front ≡ front
-        → read_match again (length front) (front ++ match_printed t.matching) ≡ Ok (match_alone t.matching None) }
-    ensures before_actions { (word again : EditWord) (at : ℕ) (line front list : List ℕ) (t : MatchText)
-        → read_match word at line ≡ Ok t → IsTrue (not (deletes again)) → uncommented front ≡ front → IsTrue (is_plain list)
-        → read_match again (length front) (front ++ (match_printed t.matching ++ (codes ",actions=" ++ list)))
-        ≡ Ok (match_alone t.matching (Some (length (front ++ (match_printed t.matching ++ codes ",actions="))))) }
+        → read_match again (length front) (front ++ match_printed t.matching)
+        ≡ Ok (match_alone t.matching None) }
+    ensures before_actions { (word again : EditWord) (at : ℕ) (line front list : List ℕ)
+        (t : MatchText)
+        → read_match word at line ≡ Ok t → IsTrue (not (deletes again))
+        → uncommented front ≡ front → IsTrue (is_plain list)
+        → read_match again (length front)
+        (front ++ (match_printed t.matching ++ (codes ",actions=" ++ list)))
+        ≡ Ok (match_alone t.matching
+        (Some (length (front ++ (match_printed t.matching ++ codes ",actions="))))) }
 {
     read_match_can_be_spelled();
     printed_match_reads_back();

@@ -16,7 +16,7 @@ use Rattle.rule_tables.specs.declared.stored.StoredRule.{StoredRule}
 use Rattle.spec_tables.specs.Changes.{changes_by}
 use Rattle.rule_tables.specs.History.{edited_by, versions_to}
 use Rattle.rule_tables.specs.Views.{rule_view}
-use Rattle.rule_tables.specs.Stored.{is_picked_by, stored_in, rule_at, rules_at, ended_by, with_end, identity_of, is_same_identity, AreInOrder, AreNumbered, AreLives, AreFound, IsSound}
+use Rattle.rule_tables.specs.Stored.{is_picked_by, stored_in, rule_at, rules_at, ended_by, with_end, identity_of, is_same_identity, AreInOrder, AreNumbered, AreLives, AreFound, AreConsistent}
 use Rattle.rule_tables.proofs.Counts.{any_counted}
 use Rattle.rule_tables.proofs.FilterMaps.{push_cases}
 use Rattle.rule_tables.proofs.Histories.{pushed}
@@ -34,7 +34,7 @@ pub record IsNext (last : ℕ) (e : Edit) (s : StoredRule) : Type 0 where
   pub number : s.rule.number ≡ last + 1
   pub rule : rule_view s.rule s.actions ≡ rule_of (last + 1) e
 
-module _ (made : List Modification) (xs : List StoredRule) (find : RuleIdentity → Option ℕ) (last changes : ℕ) (sound : IsSound made xs find last changes) (respects : RespectsIdentities find) (e : Edit) (s : StoredRule) (next : IsNext last e s) where
+module _ (made : List Modification) (xs : List StoredRule) (find : RuleIdentity → Option ℕ) (last changes : ℕ) (sound : AreConsistent made xs find last changes) (respects : RespectsIdentities find) (e : Edit) (s : StoredRule) (next : IsNext last e s) where
   abbrev identity : RuleIdentity
   identity = identity_of s.rule
 
@@ -178,7 +178,7 @@ module _ (made : List Modification) (xs : List StoredRule) (find : RuleIdentity 
         both true here there = refl
         both false here there = refl
 
-    sound_after : IsSound made (ys ++ s ∷ []) find' (last + 1) (changes + cond (is_some old) 2 1)
+    sound_after : AreConsistent made (ys ++ s ∷ []) find' (last + 1) (changes + cond (is_some old) 2 1)
     sound_after = record {
       fits = next.room;
       in_order = in_order_after;
@@ -193,11 +193,11 @@ module _ (made : List Modification) (xs : List StoredRule) (find : RuleIdentity 
     }
 
 -- what one more rule makes, as the code comes to it
-pub sound_added : (made : List Modification) (xs : List StoredRule) (find find' : RuleIdentity → Option ℕ) (last changes : ℕ) → IsSound made xs find last changes → RespectsIdentities find
+pub sound_added : (made : List Modification) (xs : List StoredRule) (find find' : RuleIdentity → Option ℕ) (last changes : ℕ) → AreConsistent made xs find last changes → RespectsIdentities find
     → (e : Edit) (s : StoredRule) → IsNext last e s → (mine : RuleIdentity) → mine ≡ identity_of s.rule → (ended : Option ℕ) → ended ≡ find mine
     → ((q : RuleIdentity) → find' q ≡ cond (is_same_identity mine q) (Some (length xs)) (find q)) → (count : ℕ) → count ≡ cond (is_some ended) 2 1
     → (zs : List StoredRule) → zs ≡ with_end ended s.rule.number (xs ++ s ∷ [])
-    → IsSound made zs find' s.rule.number (changes + count)
+    → AreConsistent made zs find' s.rule.number (changes + count)
     × (record { versions = versions_to s.rule.number (λ v. rules_at made v zs); changes = changes + count } ≡ edited_by e (record { versions = versions_to last (λ v. rules_at made v xs); changes = changes }))
 sound_added made xs find find' last changes sound respects e s next mine is ended ended_is put count count_is zs becomes =
     let same_old : ended ≡ find (identity_of s.rule) = ended_is ∙ ap find is in
@@ -212,7 +212,7 @@ sound_added made xs find find' last changes sound respects e s next mine is ende
     let same : (P : List StoredRule → ℕ → ℕ → Type 0) → P there (last + 1) (cond (is_some (find (identity_of s.rule))) 2 1) → P zs s.rule.number count =
     λ P h. subst (λ (z : List StoredRule). P z s.rule.number count) (sym all)
     (subst (λ (n : ℕ). P there n count) (sym number) (subst (λ (k : ℕ). P there (last + 1) k) (sym count_of) h)) in (
-      same (λ z n k. IsSound made z find' n (changes + k)) (sound_after made xs find last changes sound respects e s next find' put_as),
+      same (λ z n k. AreConsistent made z find' n (changes + k)) (sound_after made xs find last changes sound respects e s next find' put_as),
       same (λ z n k. record { versions = versions_to n (λ v. rules_at made v z); changes = changes + k } ≡ edited_by e (record { versions = versions_to last (λ v. rules_at made v xs); changes = changes }))
           (history_after made xs find last changes sound respects e s next),
     )

@@ -13,7 +13,7 @@ use Rattle.rule_tables.specs.declared.stored.Modification.{Modification}
 use Rattle.rule_tables.specs.declared.stored.StoredRule.{StoredRule}
 use Rattle.spec_tables.specs.Changes.{changes_by}
 use Rattle.rule_tables.specs.History.{History, edited_by, versions_to}
-use Rattle.rule_tables.specs.Stored.{is_modify, is_picked_by, acts_on, rules_at, ended_by, with_end, is_same_identity, AreInOrder, AreNumbered, AreLives, AreMade, AreFound, IsSound}
+use Rattle.rule_tables.specs.Stored.{is_modify, is_picked_by, acts_on, rules_at, ended_by, with_end, is_same_identity, AreInOrder, AreNumbered, AreLives, AreMade, AreFound, AreConsistent}
 use Rattle.rule_tables.proofs.Counts.{count_by-cons}
 use Rattle.rule_tables.proofs.FilterMaps.{push_cases}
 use Rattle.rule_tables.proofs.Histories.{pushed}
@@ -24,10 +24,10 @@ use Rattle.rule_tables.proofs.Modified.{rules_before_modification, rules_modifie
 
 -- the same modifications and rules, found by the same identities
 pub sound_moved : (made now : List Modification) (xs zs : List StoredRule) (find find' : RuleIdentity → Option ℕ) (last changes : ℕ) → now ≡ made → zs ≡ xs
-    → ((q : RuleIdentity) → find' q ≡ find q) → IsSound made xs find last changes → IsSound now zs find' last changes
+    → ((q : RuleIdentity) → find' q ≡ find q) → AreConsistent made xs find last changes → AreConsistent now zs find' last changes
 sound_moved made now xs zs find find' last changes as_made same alike sound =
-    subst (λ (all : List Modification). IsSound all zs find' last changes) (sym as_made)
-    (subst (λ (stored : List StoredRule). IsSound made stored find' last changes) (sym same) (record {
+    subst (λ (all : List Modification). AreConsistent all zs find' last changes) (sym as_made)
+    (subst (λ (stored : List StoredRule). AreConsistent made stored find' last changes) (sym same) (record {
       fits = sound.fits;
       in_order = sound.in_order;
       numbered = sound.numbered;
@@ -39,7 +39,7 @@ sound_moved made now xs zs find find' last changes as_made same alike sound =
 
 -- no rules
 pub sound_at_first : (made : List Modification) (xs : List StoredRule) (find : RuleIdentity → Option ℕ) → made ≡ [] → xs ≡ [] → ((q : RuleIdentity) → find q ≡ None)
-    → IsSound made xs find 0 0
+    → AreConsistent made xs find 0 0
 sound_at_first made xs find no_modifications none nothing =
     sound_moved [] made [] xs (λ _. None) find 0 0 no_modifications none nothing (record {
       fits = lit< tt;
@@ -81,15 +81,15 @@ modified_as ModifyStrict is n e rules = (refl, refl)
 modified_as Delete is n e rules = absurd (false≢true is)
 modified_as DeleteStrict is n e rules = absurd (false≢true is)
 
-pub sound_modified : (made : List Modification) (xs : List StoredRule) (find : RuleIdentity → Option ℕ) (last changes : ℕ) → IsSound made xs find last changes
+pub sound_modified : (made : List Modification) (xs : List StoredRule) (find : RuleIdentity → Option ℕ) (last changes : ℕ) → AreConsistent made xs find last changes
     → (m : Modification) → last + 1 < 2 ^ 32 → is_modify m.edit.word ≡ true → m.version ≡ last + 1
     → (count : ℕ) → count ≡ count_by (is_picked_by m.edit.word m.edit) (rules_at made last xs)
-    → IsSound (made ++ m ∷ []) xs find m.version (changes + count)
+    → AreConsistent (made ++ m ∷ []) xs find m.version (changes + count)
     × (record { versions = versions_to m.version (λ v. rules_at (made ++ m ∷ []) v xs); changes = changes + count }
     ≡ edited_by m.edit (record { versions = versions_to last (λ v. rules_at made v xs); changes = changes }))
 sound_modified made xs find last changes sound m room modifies version count counted =
     let shape = modified_as m.edit.word modifies (last + 1) m.edit (rules_at made last xs) in (
-      subst (λ (n : ℕ). IsSound (made ++ m ∷ []) xs find n (changes + count)) (sym version) (record {
+      subst (λ (n : ℕ). AreConsistent (made ++ m ∷ []) xs find n (changes + count)) (sym version) (record {
         fits = room;
         in_order = sound.in_order;
         numbered = numbered_next xs last sound.numbered;
@@ -127,9 +127,9 @@ modified_none p e (r ∷ rules) none =
           ap₂ (λ (x : tables.Rule) (xs : List tables.Rule). x ∷ xs) (cond-false (p r) (with_actions e r) r fails) (modified_none p e rules rest)
     ]
 
-pub sound_idle : (made : List Modification) (xs : List StoredRule) (find : RuleIdentity → Option ℕ) (last changes : ℕ) → IsSound made xs find last changes
+pub sound_idle : (made : List Modification) (xs : List StoredRule) (find : RuleIdentity → Option ℕ) (last changes : ℕ) → AreConsistent made xs find last changes
     → (e : Edit) → last + 1 < 2 ^ 32 → is_modify e.word ≡ true → count_by (is_picked_by e.word e) (rules_at made last xs) ≡ 0
-    → IsSound made xs find (last + 1) changes
+    → AreConsistent made xs find (last + 1) changes
     × (record { versions = versions_to (last + 1) (λ v. rules_at made v xs); changes = changes }
     ≡ edited_by e (record { versions = versions_to last (λ v. rules_at made v xs); changes = changes }))
 sound_idle made xs find last changes sound e room modifies none =
@@ -166,10 +166,10 @@ deleted_as ModifyStrict is n e rules = absurd (false≢true is)
 deleted_as Delete is n e rules = (refl, refl)
 deleted_as DeleteStrict is n e rules = (refl, refl)
 
-pub sound_deleted : (made : List Modification) (xs : List StoredRule) (find find' : RuleIdentity → Option ℕ) (last changes : ℕ) → IsSound made xs find last changes
+pub sound_deleted : (made : List Modification) (xs : List StoredRule) (find find' : RuleIdentity → Option ℕ) (last changes : ℕ) → AreConsistent made xs find last changes
     → (e : Edit) → last + 1 < 2 ^ 32 → is_delete e.word ≡ true → (zs : List StoredRule) → zs ≡ map (ended_by e (last + 1)) xs → AreFound zs find'
     → (count : ℕ) → count ≡ count_by (acts_on e) xs
-    → IsSound made zs find' (last + 1) (changes + count)
+    → AreConsistent made zs find' (last + 1) (changes + count)
     × (record { versions = versions_to (last + 1) (λ v. rules_at made v zs); changes = changes + count }
     ≡ edited_by e (record { versions = versions_to last (λ v. rules_at made v xs); changes = changes }))
 sound_deleted made xs find find' last changes sound e room deletes zs is found count counted =
@@ -193,11 +193,11 @@ sound_deleted made xs find find' last changes sound e room deletes zs is found c
     )
 
 -- of the rule that is named
-pub sound_deleted_strict : (made : List Modification) (xs : List StoredRule) (find find' : RuleIdentity → Option ℕ) (last changes : ℕ) → IsSound made xs find last changes
+pub sound_deleted_strict : (made : List Modification) (xs : List StoredRule) (find find' : RuleIdentity → Option ℕ) (last changes : ℕ) → AreConsistent made xs find last changes
     → RespectsIdentities find → (e : Edit) → last + 1 < 2 ^ 32 → e.word ≡ DeleteStrict → (identity : RuleIdentity) → IsNamed e identity
     → (old : Option ℕ) → old ≡ find identity → ((q : RuleIdentity) → find' q ≡ cond (is_same_identity identity q) None (find q))
     → (zs : List StoredRule) → zs ≡ with_end old (last + 1) xs → (count : ℕ) → count ≡ cond (is_some old) 1 0
-    → IsSound made zs find' (last + 1) (changes + count)
+    → AreConsistent made zs find' (last + 1) (changes + count)
     × (record { versions = versions_to (last + 1) (λ v. rules_at made v zs); changes = changes + count }
     ≡ edited_by e (record { versions = versions_to last (λ v. rules_at made v xs); changes = changes }))
 sound_deleted_strict made xs find find' last changes sound respects e room word identity named old is removed zs becomes count counted =

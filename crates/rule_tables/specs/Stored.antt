@@ -152,9 +152,9 @@ pub record AreFound (stored : List StoredRule) (find : RuleIdentity → Option �
   pub own : (identity : RuleIdentity) (i : ℕ) (s : StoredRule) → find identity ≡ Some i → slice_get stored i ≡ Some s
       → (s.gone ≡ None) × (is_same_identity identity (identity_of s.rule) ≡ true)
 
--- What holds of the modifications, of the stored rules, of the place that is found by each identity, of the last version,
--- and of the count of changes: an edit changes no more rules than there are numbers.
-pub record IsSound (modifications : List Modification) (stored : List StoredRule) (find : RuleIdentity → Option ℕ) (last changes : ℕ) : Type 0 where
+-- The modifications, the stored rules, the place that is found by each identity, the last version and the count of changes
+-- are consistent: an edit changes no more rules than there are numbers.
+pub record AreConsistent (modifications : List Modification) (stored : List StoredRule) (find : RuleIdentity → Option ℕ) (last changes : ℕ) : Type 0 where
   pub fits : last < 2 ^ 32
   pub in_order : AreInOrder stored
   pub numbered : AreNumbered stored last

@@ -2,10 +2,10 @@
 use Rattle.std.specs.HashMap.{get}
 use Rattle.rule_tables.specs.declared.versions.VersionedRules.TheInside.{Inside}
 use Rattle.rule_tables.specs.History.{History, versions_to}
-use Rattle.rule_tables.specs.Stored.{rules_at, is_same_identity, IsSound}
+use Rattle.rule_tables.specs.Stored.{rules_at, is_same_identity, AreConsistent}
 
 abbrev pub history_in : Inside → History
 history_in a = record { versions = versions_to a.last (λ v. rules_at a.modifications.items v a.rules.items); changes = a.changes }
 
 abbrev pub IsVersioned : Inside → Type 0
-IsVersioned a = IsSound a.modifications.items a.rules.items (λ identity. get is_same_identity a.places identity) a.last a.changes
+IsVersioned a = AreConsistent a.modifications.items a.rules.items (λ identity. get is_same_identity a.places identity) a.last a.changes

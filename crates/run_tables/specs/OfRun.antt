@@ -2,7 +2,7 @@
 use Rattle.std.specs.Prelude.{◌≡◌, ◌≤◌, IsTrue}
 use Rattle.std.specs.List.{list_all}
 use Rattle.spec_case.specs.Run.{Run, last_version}
-use Rattle.pipe_model.specs.Runnable.{has_sound_actions}
+use Rattle.spec_tables.specs.Edits.{has_sound_actions}
 use Rattle.tuple_classifier.specs.Versions.{Version, version_of}
 
 -- The rules are those that the edits of a run make up to a version of it, and the actions of its edits are sound.

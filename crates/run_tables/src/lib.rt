@@ -12,7 +12,8 @@
 //!
 //! - `new` is version 0, without rules.
 //! - `publish_next` makes the next version, and `follow` goes on to a given one. Where memory is wanting, `publish_next`
-//!   leaves the version as it was, and `follow` stops at a version on the way.
+//!   leaves the version as it was, and `follow` stops at a version on the way. `apply` makes the next version by an edit of
+//!   the run that its caller holds.
 //! - `translate` answers an `Xlated<C>` of the key and this version (`run_xlate`): what the tables make of a packet, and
 //!   exactly the bits of the key that decide it.
 //! - No call goes back to an older version, skips an edit, or applies one twice.
@@ -34,5 +35,5 @@
 mod tables;
 mod threads;
 
-pub use pipe_model::Plain;
+pub use pipe_model::SpareLists;
 pub use tables::Tables;

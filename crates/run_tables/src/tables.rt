@@ -1,11 +1,12 @@
-ghost use Rattle.std.specs.Prelude.{◌≡◌, ◌+◌, ◌<◌, ◌≤◌, IsTrue, IfOk, OnOk, OnErr};
+ghost use Rattle.std.specs.Prelude.{◌≡◌, ◌+◌, ◌<◌, ◌≤◌, ◌^◌, IsTrue, IfOk, OnOk, OnErr, Some, slice_get};
 ghost use Rattle.std.specs.List.{list_all};
 ghost use Rattle.spec_case.specs.Run.{last_version};
 ghost use Rattle.ovs_fields.specs.Packed.{numbers};
-ghost use Rattle.pipe_model.specs.Runnable.{has_sound_actions};
+ghost use Rattle.spec_tables.specs.Edits.{has_sound_actions};
 
 use ovs_fields::Key;
-use pipe_model::Plain;
+use pipe_model::SpareLists;
+use rule_tables::Edit;
 use run_case::{Case, RunData};
 use run_edits::RunEdits;
 use run_xlate::Xlated;
@@ -63,7 +64,20 @@ impl<C: Case> Tables<C> {
         ensures err { OnErr result (self.new ≡ self.old) }
     {
         let next = edits.edit(self.version() + 1);
-        self.rules.apply(next)
+        self.apply(next)
+    }
+
+    /// Applies an edit, which is the next one of the run, and answers the version that it makes.
+    ///
+    /// The only error is out of memory, and then the version stays.
+    pub fn apply(&mut self, edit: &Edit) -> Result<u32, AllocError>
+        requires next { slice_get C.run.edits self.old ≡ Some edit.now }
+        requires room { self.old + 1 < 2 ^ 32 }
+        ensures next { OnOk result (self.new ≡ self.old + 1) }
+        ensures version { IfOk result (λ v. v ≡ self.new) }
+        ensures err { OnErr result (self.new ≡ self.old) }
+    {
+        self.rules.apply(edit)
     }
 
     /// Applies the edits of the run up to a version, that of the tables or a later one.
@@ -85,21 +99,19 @@ impl<C: Case> Tables<C> {
 
     /// What the tables make of a packet of this key, with the bits of the key that decide it.
     ///
-    /// What `lists` hold is dropped, and their memory is used again: none is taken where what is made fits in what they
-    /// have room for. A translation that passes a limit may need more.
+    /// It is made in `lists`: no memory is taken where what is made fits in what they have room for. A translation that passes a limit may need more.
     ///
     /// The only error is out of memory, and then nothing is left behind.
     pub fn translate(
         &self,
         run: &RunData<C>,
         key: &Key,
-        lists: Plain,
+        lists: SpareLists,
     ) -> Result<Xlated<C>, AllocError>
         ensures key { IfOk result (λ x. x.key ≡ numbers key.now) }
         ensures version { IfOk result (λ x. x.version ≡ self.now) }
     {
         let made = translate(lists, &self.rules, run.ports().as_slice(), key)?;
-        let mask = *made.mask();
-        Ok(Xlated::new(*key, self.version(), made.into_plain(), mask))
+        Ok(Xlated::new(made))
     }
 }

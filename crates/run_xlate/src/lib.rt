@@ -11,7 +11,7 @@
 //! - The translation is the one that `spec_board` calls `translated`, and the mask is its `mask_for`, exactly. So key and
 //!   version settle all else, and they are all that contracts see of an `Xlated` (`specs/Views`).
 //! - Where the packet's own key is clean, every clean key that agrees with it on the mask is translated alike by that
-//!   version, and has the same mask (`IsSound`, specs/Sound). That is what lets a megaflow stand for other packets than
+//!   version, and has the same mask (`IsWildcardSound` of `pipe_model`). That is what lets a megaflow stand for other packets than
 //!   its own. A key is clean where metadata and registers are 0, as they are in the key of each frame.
 //! - No call takes memory, and none can fail.
 //!

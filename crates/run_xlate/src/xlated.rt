@@ -1,12 +1,13 @@
 ghost use Rattle.std.specs.Prelude.{◌≡◌};
 ghost use Rattle.ovs_fields.specs.Packed.{numbers, bits};
-ghost use Rattle.spec_board.specs.Results.{translated, mask_for};
+ghost use Rattle.spec_board.specs.Results.{switch_at, translated, mask_for};
 ghost use Rattle.pipe_model.specs.Plains.{translation_in};
-ghost use Rattle.run_xlate.specs.Sound.{IsSound};
+ghost use Rattle.pipe_model.specs.Xlates.{IsWildcardSound};
+ghost use Rattle.run_xlate.specs.Views.{xlate_of};
 
 use dp_actions::ActionList;
 use ovs_fields::{Key, Mask};
-use pipe_model::{Plain, Visits};
+use pipe_model::{Plain, Translated, Visits};
 use run_case::Case;
 use std::marker::{Model, PhantomData};
 
@@ -15,10 +16,7 @@ use std::marker::{Model, PhantomData};
 /// Its type keeps that both are those of its key and its version.
 #[derive(Debug, Drop)]
 pub struct Xlated<C: Case> {
-    key: Key,
-    version: u32,
-    made: Plain,
-    mask: Mask,
+    made: Translated,
     of: PhantomData<C>,
 }
 
@@ -35,17 +33,14 @@ impl<C: Case> Model for Xlated<C> {
 }
 
 impl<C: Case> Xlated<C> {
-    /// The translation of a packet of this key under this version of the run's tables. It takes no memory.
-    pub fn new(key: Key, version: u32, made: Plain, mask: Mask) -> Xlated<C>
-        requires translation { translation_in made ≡ translated C.run version (numbers key) }
-        requires mask { bits mask ≡ mask_for C.run version (numbers key) }
-        ensures { result ≡ record { key = numbers key; version = version } }
+    /// A translation that is the run's. It takes no memory.
+    pub fn new(made: Translated) -> Xlated<C>
+        requires translation { made.translation ≡ translated C.run made.version made.key }
+        requires mask { made.mask ≡ mask_for C.run made.version made.key }
+        ensures { result ≡ record { key = made.key; version = made.version } }
     {
         Xlated {
-            key,
-            version,
             made,
-            mask,
             of: PhantomData,
         }
     }
@@ -54,43 +49,45 @@ impl<C: Case> Xlated<C> {
     pub fn key(&self) -> &Key
         ensures { numbers result.now ≡ self.now.key }
     {
-        &self.key
+        self.made.key()
     }
 
     /// The version of the tables, which is how many edits of the run stand before it.
     pub fn version(&self) -> u32
         ensures { result ≡ self.now.version }
     {
-        self.version
+        self.made.version()
     }
 
     /// What is done to the frame, in order.
     pub fn actions(&self) -> &ActionList
         ensures { result.now ≡ (translated C.run self.now.version self.now.key).actions }
     {
-        &self.made.actions
+        self.made.actions()
     }
 
     /// The rules visited, in order, each as often as it was.
     pub fn visits(&self) -> &Visits
         ensures { result.now ≡ (translated C.run self.now.version self.now.key).visits }
     {
-        &self.made.visits
+        self.made.visits()
     }
 
     /// The bits of the key that were consulted. Where this key is clean, every clean key that agrees with it on them is
     /// translated alike.
     pub fn mask(&self) -> &Mask
         ensures mask { bits result.now ≡ mask_for C.run self.now.version self.now.key }
-        ensures sound { IsSound C.run self.now }
+        ensures sound { IsWildcardSound (switch_at C.run self.now.version) (xlate_of C.run self.now) }
     {
-        &self.mask
+        let _ = self.made.key();
+        self.made.mask()
     }
 
-    /// Both lists. It takes no memory.
-    pub fn into_plain(self) -> Plain
-        ensures { translation_in result ≡ translated C.run self.version self.key }
+    /// Both lists, and the mask. It takes no memory.
+    pub fn into_parts(self) -> (Plain, Mask)
+        ensures translation { translation_in result.0 ≡ translated C.run self.version self.key }
+        ensures mask { bits result.1 ≡ mask_for C.run self.version self.key }
     {
-        self.made
+        self.made.into_parts()
     }
 }

@@ -14,7 +14,8 @@ use Rattle.spec_actions.specs.declared.named_field.Prerequisite.TheVariants as n
 use Rattle.spec_actions.specs.Named.{named}
 use Rattle.spec_xlate.specs.Tags.{is_tag, is_tag_field, tagged}
 use Rattle.spec_xlate.specs.Needs.{is_ip, is_unfragmented, is_protocol, is_met}
-use Rattle.spec_xlate.specs.Translation.{merged, with_value, written, in_field, written_bits}
+use Rattle.spec_base.specs.Bits.{merged}
+use Rattle.spec_xlate.specs.Translation.{with_value, written, in_field, written_bits}
 use Rattle.spec_keys.specs.Protocols.{ipv4_type, ipv6_type, arp_type, tcp_protocol, udp_protocol}
 use Rattle.translation_laws.proofs.CommitLaws.{place_of-lt}
 use Rattle.sending_laws.specs.Made.{can_change}

@@ -2,3 +2,4 @@ pub mod Shown
 pub mod Runs
 mod Rows
 mod Refused
+mod StepRows

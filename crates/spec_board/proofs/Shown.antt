@@ -35,7 +35,9 @@ use Rattle.spec_board.specs.Texts.{Journal}
 use Rattle.spec_board.specs.Results.{are_same_actions}
 use Rattle.spec_board.specs.Effects.{credited_by}
 use Rattle.spec_board.specs.Decisions.{decisions_from}
-use Rattle.spec_board.specs.Schedules.{Board, Schedule, finish_board, least_block, finish, with_given_steps, scheduled}
+use Rattle.spec_board.specs.Schedules.{Board, Schedule, finish_board, least_block, finish}
+use Rattle.spec_board.specs.GivenSteps.{with_given_steps}
+use Rattle.spec_board.specs.Scheduled.{scheduled}
 
 -- ---- runs
 

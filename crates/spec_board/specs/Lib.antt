@@ -8,4 +8,6 @@ pub mod Journals
 pub mod Decisions
 pub mod Counts
 pub mod Schedules
+pub mod GivenSteps
+pub mod Scheduled
 pub mod Texts

@@ -15,7 +15,9 @@
 //! - `Journals`: when a journal is legal, what it leads to, and when it is complete.
 //! - `Decisions`: which step decided a frame, the window of its version, and what each rule is due.
 //! - `Counts`: what entries owe to a rule, and how that and its total come to what it is due.
-//! - `Schedules`: the journals of a given list of steps, and how every run is finished.
+//! - `Schedules`: boards under way, and how every run is finished, block by block.
+//! - `GivenSteps`: what given steps do to boards, and which of them are not met.
+//! - `Scheduled`: the schedule of a whole run, its given steps and then its end.
 //! - `Texts`: a journal as text.
 #![tactic(auto)]
 

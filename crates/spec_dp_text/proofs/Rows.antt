@@ -19,11 +19,13 @@ actions_and_their_texts =
     (PushVlan 0xf000, codes "push_vlan(vid=0,pcp=7)") ∷
     (Set NwTtl 255 0xff, codes "set(nw_ttl=255)") ∷
     (Set NwTtl 0x3f 0x7f, codes "set(nw_ttl=0x3f/0x7f)") ∷
+    (Set NwTtl 5 3, codes "set(nw_ttl=0x1/0x3)") ∷
     (Set TpDst 0 0x10, codes "set(tp_dst=0x0/0x10)") ∷
     (Set DlDst 0 5, codes "set(dl_dst=00:00:00:00:00:00/00:00:00:00:00:05)") ∷
     (Set DlDst 0x0200_0000_000a 0xffff_ffff_ffff, codes "set(dl_dst=02:00:00:00:00:0a)") ∷
     (Set NwSrc 8 8, codes "set(nw_src=0.0.0.8/0.0.0.8)") ∷
     (Set NwSrc 0x0a00_0000 0xff00_0000, codes "set(nw_src=10.0.0.0/8)") ∷
+    (Set NwSrc 0x0a01_0203 0xff00_0000, codes "set(nw_src=10.0.0.0/8)") ∷
     (Set Ipv6Src 1 1, codes "set(ipv6_src=0:0:0:0:0:0:0:1/0:0:0:0:0:0:0:1)") ∷ []
 
 each_action_has_its_text : map (λ row. dp_action_text row.0) actions_and_their_texts ≡ map (λ row. row.1) actions_and_their_texts

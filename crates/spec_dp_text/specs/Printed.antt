@@ -1,14 +1,13 @@
 -- The one text of a list of datapath actions (ovs-actions(7), ovs-dpctl(8)). That a write has the field's own name, and
 -- its value and mask in the forms of a match, is this profile's.
-use Rattle.std.specs.Prelude.{ℕ, ◌-◌, ◌/◌, ◌%◌, ◌^◌, List, [], ◌∷◌, ◌++◌, map, codes}
-use Rattle.std.specs.List.{join_with_byte}
+use Rattle.std.specs.Prelude.{ℕ, ◌-◌, ◌/◌, ◌%◌, ◌^◌, List, [], ◌∷◌, ◌++◌, codes}
 use Rattle.std.specs.Fmt.{decimal}
 use Rattle.spec_keys.specs.declared.field_id.FieldId.{FieldId}
 use Rattle.spec_actions.specs.declared.action.DpAction.{DpAction}
 use Rattle.spec_actions.specs.declared.action.DpAction.TheVariants.{Output, PopVlan, PushVlan, Set}
-use Rattle.spec_numbers.specs.Characters.{comma, right_parenthesis}
-use Rattle.spec_flow_text.specs.Values.{Bits, bits}
-use Rattle.spec_flow_text.specs.Printed.{Value, shown_text, own_name}
+use Rattle.spec_numbers.specs.Characters.{right_parenthesis}
+use Rattle.spec_flow_text.specs.Values.{Bits, bits, within_mask}
+use Rattle.spec_flow_text.specs.Printed.{Value, shown_text, own_name, list_printed}
 
 -- the content of a tag: its priority in the most significant bits, and its VLAN identifier in the least significant ones
 -- (IEEE 802.1Q, 9.6)
@@ -27,9 +26,9 @@ identifier_of tci = tci % 2 ^ identifier_width
 abbrev pub priority_of : ℕ → ℕ
 priority_of tci = tci / 2 ^ (tag_width - priority_width)
 
--- `NAME=VALUE`, or `NAME=VALUE/MASK` where the mask isn't full
+-- `NAME=VALUE`, or `NAME=VALUE/MASK` where the mask isn't full; bits outside the mask are written as 0
 abbrev pub write_text : FieldId → Bits → List ℕ
-write_text f b = shown_text (Value (own_name f) b)
+write_text f b = shown_text (Value (own_name f) (within_mask b))
 
 abbrev pub dp_action_text : DpAction → List ℕ
 dp_action_text (Output port) = decimal port
@@ -40,5 +39,4 @@ dp_action_text (Set f value mask) = codes "set(" ++ (write_text f (bits value ma
 
 -- the text of a list of datapath actions
 unfoldable pub dp_actions_printed : List DpAction → List ℕ
-dp_actions_printed [] = codes "drop"
-dp_actions_printed (a ∷ actions) = join_with_byte comma (map dp_action_text (a ∷ actions))
+dp_actions_printed actions = list_printed dp_action_text actions

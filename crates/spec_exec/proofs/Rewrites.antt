@@ -1,5 +1,5 @@
 -- Worked rows: what actions make of a frame.
-use Rattle.std.specs.Prelude.{◌≡◌, ℕ, List, [], ◌∷◌, ◌++◌, replicate, refl}
+use Rattle.std.specs.Prelude.{◌≡◌, ℕ, List, [], ◌∷◌, ◌++◌, map, replicate, refl}
 use Rattle.spec_base.specs.Bytes.{big_endian, big_endian_at}
 use Rattle.spec_keys.specs.declared.field_id.FieldId.TheVariants.{InPort, DlDst, VlanTci, NwSrc, NwDst, Ipv6Src, Ipv6Dst, NwTos, NwTtl, ArpSha, ArpTha, TpSrc, TpDst}
 use Rattle.spec_checksum.specs.Checksum.{updated}
@@ -12,7 +12,8 @@ use Rattle.spec_frames.specs.Transport.{transport}
 use Rattle.spec_frames.specs.Layout.{layout_of}
 use Rattle.spec_actions.specs.declared.action.DpAction.{DpAction}
 use Rattle.spec_actions.specs.declared.action.DpAction.TheVariants.{Output, PopVlan, PushVlan, Set}
-use Rattle.spec_exec.specs.Rewriting.{after_word, after_words, corrected, set_field, push_tag, pop_tag, after_action}
+use Rattle.spec_exec.specs.Places.{Plain, Ones, Absent}
+use Rattle.spec_exec.specs.Rewriting.{followed, after_word, after_words, corrected, set_field, push_tag, pop_tag, after_action}
 use Rattle.spec_exec.specs.Sent.{Piece, sent}
 
 abbrev hex : ℕ → ℕ → List ℕ
@@ -73,6 +74,12 @@ without_a_header_nothing_is_written = refl
 a_short_frame_stays : sends (Set DlDst 8 8 ∷ PushVlan 5 ∷ PopVlan ∷ Output 2 ∷ []) (replicate 13 1) ≡ piece 2 (replicate 13 1) ∷ []
 unfolding sends
 a_short_frame_stays = refl
+
+a_frame_of_an_ethernet_header_alone_is_changed :
+    sends (Set DlDst 8 8 ∷ PushVlan 5 ∷ Output 2 ∷ []) (replicate 14 1)
+    ≡ piece 2 (hex 6 0x010101010109 ++ (replicate 6 1 ++ hex 6 0x810000050101)) ∷ []
+unfolding sends
+a_frame_of_an_ethernet_header_alone_is_changed = refl
 
 -- a segment of TCP, with its right checksums
 abbrev segment : ℕ → ℕ → List ℕ
@@ -172,6 +179,51 @@ after_a_routing_header_a_destination_is_in_no_checksum :
 unfolding sends
 after_a_routing_header_a_destination_is_in_no_checksum = refl
 
+-- its source is in the checksum, as without that header
+after_a_routing_header_a_source_is_in_the_checksum :
+    sends (Set Ipv6Src 8 8 ∷ Output 2 ∷ []) (ipv6_from 0x6000000000102b40 1 2 routed)
+    ≡ piece 2 (ipv6_from 0x6000000000102b40 9 2 (hex 16 0x110002000000000003e800350008fbb6)) ∷ []
+unfolding sends
+after_a_routing_header_a_source_is_in_the_checksum = refl
+
+-- a checksum of ICMPv6 may be 0
+a_checksum_of_icmpv6_that_becomes_0_is_sent_as_0 :
+    sends (Set Ipv6Src 0x7fb9 0xffff ∷ Output 2 ∷ []) (ipv6_from 0x6000000000083a40 1 2 (hex 8 0x80007fb800010001))
+    ≡ piece 2 (ipv6_from 0x6000000000083a40 0x7fb9 2 (hex 8 0x8000000000010001)) ∷ []
+unfolding sends
+a_checksum_of_icmpv6_that_becomes_0_is_sent_as_0 = refl
+
+-- that of UDP may not
+over_ipv6_a_checksum_of_udp_that_becomes_0_is_sent_as_all_ones :
+    sends (Set TpSrc 0xffa6 0xffff ∷ Output 2 ∷ []) (datagram6 0x6000000000081140 2 0x03e800350008fbbe)
+    ≡ piece 2 (datagram6 0x6000000000081140 2 0xffa600350008ffff) ∷ []
+unfolding sends
+over_ipv6_a_checksum_of_udp_that_becomes_0_is_sent_as_all_ones = refl
+
+-- over IPv6 a datagram has a checksum always, be it a wrong one of 0
+over_ipv6_a_checksum_of_0_is_updated :
+    sends (Set TpSrc 80 0xffff ∷ Output 2 ∷ []) (datagram6 0x6000000000081140 2 0x03e8003500080000)
+    ≡ piece 2 (datagram6 0x6000000000081140 2 0x0050003500080398) ∷ []
+unfolding sends
+over_ipv6_a_checksum_of_0_is_updated = refl
+
+-- ---- what was there before and what is there now
+
+-- RFC 1071's sum of 1 and 2 is 3, and that of 3 and 2 is 5
+a_checksum_follows_from_what_was_to_what_is :
+    after_words Plain 2 0 (hex 4 0x00010002) (hex 4 0x00030002) 0xfffc ≡ 0xfffa
+unfolding big_endian_at updated after_word after_words
+a_checksum_follows_from_what_was_to_what_is = refl
+
+-- where 0 is a sum, where it can't be one, and where it says that there is none: one of 0 to begin with, one that
+-- becomes 0, and one that stays above 0
+a_checksum_of_0_is_sent_as_its_kind_says :
+    (map (λ zero. followed zero 1 0 (hex 2 1) (hex 2 3) 0) (Plain ∷ Ones ∷ Absent ∷ []) ≡ 0xfffd ∷ 0xfffd ∷ 0 ∷ [])
+    × ((map (λ zero. followed zero 1 0 (hex 2 1) (hex 2 3) 2) (Plain ∷ Ones ∷ Absent ∷ []) ≡ 0 ∷ 0xffff ∷ 0xffff ∷ [])
+    × (map (λ zero. followed zero 1 0 (hex 2 1) (hex 2 3) 9) (Plain ∷ Ones ∷ Absent ∷ []) ≡ 7 ∷ 7 ∷ 7 ∷ []))
+unfolding big_endian_at updated after_word after_words
+a_checksum_of_0_is_sent_as_its_kind_says = (refl, (refl, refl))
+
 -- ---- ARP
 
 -- a request
@@ -208,3 +260,10 @@ no_bit_beyond_the_width_of_a_field_is_written :
     ≡ piece 2 (datagram 0x4500001c000000003f1167cf0a0000010a000002) ∷ []
 unfolding sends
 no_bit_beyond_the_width_of_a_field_is_written = refl
+
+-- the version of IPv6 stands above its traffic class
+no_bit_above_a_traffic_class_is_written :
+    sends (Set NwTos 0x1b8 0x1fc ∷ Output 2 ∷ []) (datagram6 0x6000000000081140 2 0x03e800350008fbbe)
+    ≡ piece 2 (datagram6 0x6b80000000081140 2 0x03e800350008fbbe) ∷ []
+unfolding sends
+no_bit_above_a_traffic_class_is_written = refl

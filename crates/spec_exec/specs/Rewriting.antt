@@ -1,6 +1,6 @@
 -- What a datapath action makes of a frame (ovs-actions(7)), its checksums included (RFC 1624).
 use Rattle.std.specs.Prelude.{ℕ, zero, suc, ◌+◌, ◌-◌, ◌*◌, ◌==◌, nat_lt, if◌then◌else◌, List, [], ◌∷◌, ◌++◌, length, take, drop, Option, Some, None, bit_and}
-use Rattle.spec_base.specs.Bits.{all_bits}
+use Rattle.spec_base.specs.Bits.{all_bits, merged}
 use Rattle.spec_base.specs.Bytes.{big_endian, big_endian_at}
 use Rattle.spec_keys.specs.declared.field_id.FieldId.{FieldId}
 use Rattle.spec_keys.specs.Fields.{width_of}
@@ -10,7 +10,7 @@ use Rattle.spec_frames.specs.Ethernet.{header_size, type_at, type_size, tag_size
 use Rattle.spec_frames.specs.Layout.{layout_of}
 use Rattle.spec_actions.specs.declared.action.DpAction.{DpAction}
 use Rattle.spec_actions.specs.declared.action.DpAction.TheVariants.{Output, PopVlan, PushVlan, Set}
-use Rattle.spec_exec.specs.Writing.{with_number, merged}
+use Rattle.spec_exec.specs.Writing.{with_number}
 use Rattle.spec_exec.specs.Places.{Place, place_in, Zero, Plain, Ones, Absent, Sum, sums_of}
 
 -- ---- checksums

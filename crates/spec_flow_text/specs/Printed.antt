@@ -21,7 +21,7 @@ use Rattle.spec_numbers.specs.Printed.{hexadecimal, hexadecimal4, mac_text, ipv4
 use Rattle.spec_flow_text.specs.declared.shorthand.Shorthand.{Shorthand}
 use Rattle.spec_flow_text.specs.declared.shorthand.Shorthand.TheVariants as short
 use Rattle.spec_flow_text.specs.Names.{name_of, word_of}
-use Rattle.spec_flow_text.specs.Values.{Bits, bits, fragment_words}
+use Rattle.spec_flow_text.specs.Values.{Bits, bits, within_mask, fragment_words}
 
 -- ---- values
 
@@ -84,9 +84,9 @@ abbrev pub shown_text : Shown → List ℕ
 shown_text (Short h) = word_of h
 shown_text (Value f b) = name_of f ++ (equals_sign ∷ value_in_text f b)
 
--- bits are shown where there are any
+-- bits are shown where there are any, and those outside the mask as 0
 abbrev pub shown_bits : NamedField → Bits → List Shown
-shown_bits f b = if b.mask == 0 then [] else Value f (bits (bit_and b.value b.mask) b.mask) ∷ []
+shown_bits f b = if b.mask == 0 then [] else Value f (within_mask b) ∷ []
 
 -- what a match states of a field
 abbrev pub bits_of : Match → FieldId → Bits
@@ -118,7 +118,8 @@ shorthand_of_type kind stated protocol =
 unfoldable pub shorthand_of : Match → Option Shorthand
 shorthand_of m =
     if is_whole key.DlType (bits_of m key.DlType)
-    then shorthand_of_type (keys.value_of m.key key.DlType) (is_whole key.NwProto (bits_of m key.NwProto)) (keys.value_of m.key key.NwProto)
+    then shorthand_of_type (keys.value_of m.key key.DlType)
+    (is_whole key.NwProto (bits_of m key.NwProto)) (keys.value_of m.key key.NwProto)
     else None
 
 -- the names of a field by itself, and after a shorthand
@@ -197,7 +198,8 @@ shown_part f present v = if present == 0 then [] else Value f (bits v (all_bits 
 abbrev pub shown_service : Bits → List Shown
 shown_service b =
     if none_or_all dscp_bits b.mask && none_or_all ecn_bits b.mask
-    then shown_part name.NwTos (bit_and dscp_bits b.mask) (bit_and b.value dscp_bits) ++ shown_part name.NwEcn (bit_and ecn_bits b.mask) (bit_and b.value ecn_bits)
+    then shown_part name.NwTos (bit_and dscp_bits b.mask) (bit_and b.value dscp_bits)
+    ++ shown_part name.NwEcn (bit_and ecn_bits b.mask) (bit_and b.value ecn_bits)
     else shown_bits name.NwTos b
 
 abbrev pub shown_protocol : Option Shorthand → Bits → List Shown
@@ -235,7 +237,8 @@ action_text All = codes "all"
 action_text Flood = codes "flood"
 action_text (Resubmit table) = codes "resubmit(," ++ (decimal table ++ right_parenthesis ∷ [])
 action_text (Goto table) = codes "goto_table:" ++ decimal table
-action_text (Set f value mask) = codes "set_field:" ++ (value_in_text f (bits value mask) ++ (codes "->" ++ name_of f))
+action_text (Set f value mask) =
+    codes "set_field:" ++ (value_in_text f (within_mask (bits value mask)) ++ (codes "->" ++ name_of f))
 action_text (Move source target) = codes "move:" ++ (slice_text source ++ (codes "->" ++ slice_text target))
 action_text DecTtl = codes "dec_ttl"
 action_text PushVlan = codes "push_vlan:0x8100"
@@ -243,7 +246,11 @@ action_text PopVlan = codes "pop_vlan"
 action_text (SetVid vid) = codes "mod_vlan_vid:" ++ decimal vid
 action_text (SetPcp pcp) = codes "mod_vlan_pcp:" ++ decimal pcp
 
+-- items with commas between them, or `drop` where there is none
+abbrev pub list_printed : {A : Type 0} → (A → List ℕ) → List A → List ℕ
+list_printed text [] = codes "drop"
+list_printed text (x ∷ xs) = join_with_byte comma (map text (x ∷ xs))
+
 -- the text of a list of actions
 unfoldable pub actions_printed : List OfAction → List ℕ
-actions_printed [] = codes "drop"
-actions_printed (a ∷ actions) = join_with_byte comma (map action_text (a ∷ actions))
+actions_printed actions = list_printed action_text actions

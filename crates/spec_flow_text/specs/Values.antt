@@ -79,6 +79,10 @@ pub record Bits : Type 0 where
 abbrev pub bits : ℕ → ℕ → Bits
 bits value mask = record { value = value; mask = mask }
 
+-- these bits, of which those outside the mask are 0
+abbrev pub within_mask : Bits → Bits
+within_mask b = bits (bit_and b.value b.mask) b.mask
+
 -- the kinds of fragments: bit 0 says that a packet is one, bit 1 that it isn't the first (ovs-fields(7), ip_frag)
 abbrev pub fragment_words : List (List ℕ × Bits)
 fragment_words =

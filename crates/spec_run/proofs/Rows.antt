@@ -40,7 +40,8 @@ use Rattle.spec_case.specs.Blocks.{ends_after}
 use Rattle.spec_board.specs.Results.{are_same_actions}
 use Rattle.spec_board.specs.Effects.{credited_by}
 use Rattle.spec_board.specs.Decisions.{decisions_from}
-use Rattle.spec_board.specs.Schedules.{finish, finish_board, least_block, with_given_steps}
+use Rattle.spec_board.specs.Schedules.{finish, finish_board, least_block}
+use Rattle.spec_board.specs.GivenSteps.{with_given_steps}
 use Rattle.spec_run.specs.declared.quantity.Quantity.{Quantity}
 use Rattle.spec_run.specs.declared.quantity.Quantity.TheVariants.{EditsBytes, Line, Edits, Syncs, Actions, Changes, TraceBytes, Frames}
 use Rattle.spec_run.specs.Verdict.{Files, Refusal, NotBuilt, Missing, Text, Trace, Limit, TraceFile, Accepted, command_in, script_in, file_in, traces_after, verdict, traces_opened, files_opened}

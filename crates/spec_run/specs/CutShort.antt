@@ -19,7 +19,7 @@ pub record IsCutRun (words : List (List ℕ)) (files : Files) (before now : List
   pub accepted : Accepted
   pub is_verdict : verdict words files ≡ Ok accepted
   pub journals : List Journal
-  pub are_journals : AreJournals accepted.run journals
+  pub are_journals : AreJournals accepted.command.workers accepted.run journals
   pub file : File
   pub cut : IsCutShort (files_of accepted.command.out accepted.run journals) file before now
   pub named : name ≡ file.0

@@ -43,11 +43,11 @@ journal_file out journals = (out ++ codes ".journal", journals_text journals)
 abbrev pub files_of : List ℕ → Run → List Journal → List File
 files_of out run journals = map (port_file out run journals) run.ports ++ journal_file out journals ∷ []
 
--- The words and the files are accepted, and after the files written before exactly those of the run were written, by the
--- journals of its schedule.
+-- The words and the files are accepted, and after the files written before exactly those of the run were written, by its
+-- journals.
 pub record IsDone (words : List (List ℕ)) (files : Files) (before after : List File) : Type 0 where
   pub accepted : Accepted
   pub is_verdict : verdict words files ≡ Ok accepted
   pub journals : List Journal
-  pub are_journals : AreJournals accepted.run journals
+  pub are_journals : AreJournals accepted.command.workers accepted.run journals
   pub written : after ≡ before ++ files_of accepted.command.out accepted.run journals

@@ -9,6 +9,7 @@ use Rattle.spec_tables.specs.declared.edit_word.EditWord.{EditWord}
 use Rattle.spec_tables.specs.declared.edit_word.EditWord.TheVariants.{Add, Modify, ModifyStrict, Delete, DeleteStrict}
 use Rattle.spec_tables.specs.Rules.{Rule, rules_in, winner}
 use Rattle.spec_tables.specs.Edits.{Edit, version}
+use Rattle.spec_tables.specs.Changes.{changes_to}
 use Rattle.spec_tables.specs.Live.{rule_added, rule_numbered, is_live}
 use Rattle.spec_tables.proofs.Packets.{Stated, is, begins, key_of, mask_of, match_of}
 
@@ -203,6 +204,34 @@ no_delete_minds_a_cookie :
     × (live (edit Add port_1 2 ∷ with_cookie 9 (edit DeleteStrict port_1 0) ∷ []) 2 ≡ [])
 unfolding live
 no_delete_minds_a_cookie = (refl, refl)
+
+-- ---- how many rules are changed
+
+unfoldable changes : List Edit → List ℕ → List ℕ
+unfolding none masked same joined key_of mask_of version changes_to
+changes edits versions = map (changes_to edits) versions
+
+-- adds, a loose modify of both rules, a strict delete of one, and an add that replaces the other; beyond the last edit
+-- nothing changes
+each_edit_counts_the_rules_that_it_adds_gives_actions_to_or_removes :
+    changes five_edits (0 ∷ 1 ∷ 2 ∷ 3 ∷ 4 ∷ 5 ∷ 6 ∷ []) ≡ 0 ∷ 1 ∷ 2 ∷ 4 ∷ 5 ∷ 7 ∷ 7 ∷ []
+unfolding changes
+each_edit_counts_the_rules_that_it_adds_gives_actions_to_or_removes = refl
+
+-- of two rules, the match of one of which is more specific than that of the other
+a_loose_word_counts_both_rules_and_a_strict_one_its_own :
+    map (λ word. changes (edit Add port_1 2 ∷ edit Add port_1_to_2 3 ∷ edit word port_1 4 ∷ []) (3 ∷ []))
+    (Add ∷ Modify ∷ ModifyStrict ∷ Delete ∷ DeleteStrict ∷ [])
+    ≡ (4 ∷ []) ∷ (4 ∷ []) ∷ (3 ∷ []) ∷ (4 ∷ []) ∷ (3 ∷ []) ∷ []
+unfolding changes
+a_loose_word_counts_both_rules_and_a_strict_one_its_own = refl
+
+an_edit_that_reaches_no_rule_changes_none :
+    map (λ word. changes (edit Add port_1 2 ∷ edit word (is field.InPort 2 ∷ []) 4 ∷ []) (2 ∷ []))
+    (Add ∷ Modify ∷ ModifyStrict ∷ Delete ∷ DeleteStrict ∷ [])
+    ≡ (2 ∷ []) ∷ (1 ∷ []) ∷ (1 ∷ []) ∷ (1 ∷ []) ∷ (1 ∷ []) ∷ []
+unfolding changes
+an_edit_that_reaches_no_rule_changes_none = refl
 
 -- ---- rules by their numbers
 

@@ -1,6 +1,8 @@
 -- What edits do to the rules, and the versions that they make.
 use Rattle.std.specs.Prelude.{ℕ, zero, suc, Bool, ◌&&◌, not, ◌==◌, if◌then◌else◌, true, List, [], ◌∷◌, ◌++◌, map, filter, slice_get, Option, Some, None, unwrap_or}
+use Rattle.std.specs.List.{list_all}
 use Rattle.spec_actions.specs.declared.action.OfAction.{OfAction}
+use Rattle.spec_actions.specs.Sound.{is_sound}
 use Rattle.spec_tables.specs.declared.edit_word.EditWord.{EditWord}
 use Rattle.spec_tables.specs.declared.edit_word.EditWord.TheVariants.{Add, Modify, ModifyStrict, Delete, DeleteStrict}
 use Rattle.spec_tables.specs.Rules.{Match, Rule, is_same_match, is_within}
@@ -12,6 +14,10 @@ pub record Edit : Type 0 where
   pub cookie : Option ℕ
   pub matching : Match
   pub actions : List OfAction
+
+-- whether the actions of an edit are sound
+abbrev pub has_sound_actions : Edit → Bool
+has_sound_actions e = list_all is_sound e.actions
 
 -- the table of an edit that acts on one alone; without a word it is table 0
 abbrev pub table_of : Edit → ℕ

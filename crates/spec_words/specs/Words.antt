@@ -11,10 +11,12 @@ pub record PortWord : Type 0 where
   pub port : ℕ
   pub file : List ℕ
 
+-- How many workers carry the run out: none where it is carried out without threads, as every command has it so far.
 pub record Command : Type 0 where
   pub edits : List ℕ
   pub out : List ℕ
   pub ports : List PortWord
+  pub workers : ℕ
 
 abbrev pub has_trace : PortWord → Bool
 has_trace w = not (length w.file == 0)
@@ -58,7 +60,7 @@ is_well_formed edits out ports =
     && not (length ports == 0) && nat_le (length ports) most_ports
 
 abbrev pub command_with : List ℕ → List ℕ → List PortWord → Command
-command_with edits out ports = record { edits = edits; out = out; ports = ports }
+command_with edits out ports = record { edits = edits; out = out; ports = ports; workers = 0 }
 
 -- what the words of the command line say
 unfoldable pub command_of : List (List ℕ) → Option Command

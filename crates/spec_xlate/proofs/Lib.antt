@@ -1,2 +1,3 @@
 pub mod Shown
 mod Rows
+mod ConsultedRows

@@ -1,7 +1,8 @@
 -- What the flow tables make of a packet: a plain run of actions and lookups, with no masks and no caches. The actions
 -- are those of ovs-actions(7). The limits, and what a write does to a packet that isn't what it needs, are this profile's.
-use Rattle.std.specs.Prelude.{ℕ, zero, suc, ◌+◌, ◌-◌, ◌*◌, ◌/◌, ◌^◌, Bool, ◌&&◌, not, ◌==◌, nat_le, if◌then◌else◌, List, [], ◌∷◌, ◌++◌, length, set, map, filter, Option, Some, None, bit_and, bit_xor}
+use Rattle.std.specs.Prelude.{ℕ, zero, suc, ◌+◌, ◌-◌, ◌*◌, ◌/◌, ◌^◌, Bool, ◌&&◌, not, ◌==◌, nat_le, if◌then◌else◌, List, [], ◌∷◌, ◌++◌, length, set, map, filter, Option, Some, None, bit_and}
 use Rattle.std.specs.List.{list_any}
+use Rattle.spec_base.specs.Bits.{merged}
 use Rattle.spec_keys.specs.declared.field_id.FieldId.{FieldId}
 use Rattle.spec_keys.specs.declared.field_id.FieldId.TheVariants as field
 use Rattle.spec_keys.specs.Fields.{place_of}
@@ -118,10 +119,6 @@ slice_bits s = 2 ^ (s.high + 1) - 2 ^ s.low
 -- the number that a slice of a key is
 abbrev pub slice_of : List ℕ → Slice → ℕ
 slice_of key s = bit_and (value_of key (named s.name).field) (in_field s.name (slice_bits s)) / in_field s.name (2 ^ s.low)
-
--- a number with the bits of the mask replaced by those of a value
-abbrev pub merged : ℕ → ℕ → ℕ → ℕ
-merged number value mask = bit_xor number (bit_and (bit_xor number value) mask)
 
 -- a key with this number in a field; a content without bit 0x1000 takes the tag away
 abbrev pub with_value : FieldId → ℕ → List ℕ → List ℕ

@@ -1,28 +1,24 @@
 -- That the steps of a board are those of the definition's stages.
-use Rattle.std.proofs.Common.{◌≡◌, ◌⊎◌, inl, inr, ℕ, zero, suc, ◌+◌, ◌≤◌, ◌<◌, min, max, if◌then◌else◌, Bool, false, List, [], ◌∷◌, ◌++◌, length, map, filter, Option, Some, None, slice_index_or, slice_set, take, drop, replicate, count_by, All, refl, sym, ap, ◌∙◌, subst, arith}
+use Rattle.std.proofs.Common.{◌≡◌, ◌⊎◌, inl, inr, ℕ, zero, suc, ◌+◌, ◌-◌, ◌≤◌, ◌<◌, min, if◌then◌else◌, Bool, true, false, List, [], ◌∷◌, ◌++◌, length, map, filter, Option, Some, None, slice_index_or, slice_set, take, drop, refl, sym, ap, ◌∙◌, subst, arith}
 use Rattle.std.specs.List.{fold, range_with_len}
-use Rattle.std.specs.Fn.{iterate}
 use Rattle.std.specs.Option.{option_map}
-use Rattle.std.proofs.lemmas.Bool.{le-ltb, lt-ltb, cond-true, cases_eq, false_from_ne_true}
+use Rattle.std.proofs.lemmas.Bool.{le-ltb, lt-ltb, cond-true, cond-false, cases_eq}
 use Rattle.std.proofs.lemmas.List.{drop_all, take_all, append-nil, get_or_default, get_or-set_same, get_or-set_other}
-use Rattle.std.proofs.lemmas.Simd.{map-map}
-use Rattle.std.proofs.lemmas.List.Sums.{fold-append, sum_by-cons}
-use Rattle.std.proofs.lemmas.List.Elements.{All-tail}
-use Rattle.spec_case.specs.Run.{Run, frames_of}
+use Rattle.std.proofs.lemmas.List.Sums.{fold-append}
+use Rattle.spec_case.specs.Run.{Run}
 use Rattle.spec_case.specs.Blocks.{hi, last_block}
 use Rattle.spec_board.specs.declared.looked.Looked.{Looked}
 use Rattle.spec_board.specs.declared.put_done.PutDone.{PutDone}
 use Rattle.spec_board.specs.Steps.{Step, Look, Settle, Begin, Put, End}
-use Rattle.spec_board.specs.State.{Entry, State, Waiting, place_at, is_pending, pending_count}
+use Rattle.spec_board.specs.State.{Entry, State, place_at, is_pending}
 use Rattle.spec_board.specs.Results.{key_at, looked, settled, entry_of, put_done}
 use Rattle.spec_board.specs.Effects.{effect}
-use Rattle.spec_board.specs.Schedules.{Board, Schedule, with_step, settle_at, settle_if_missed, put_entry, put_at, swept, with_pending_settled, with_sweep_made, decide_next, with_all_decided, with_next_opened, finish_board, least_block, finish_block, finish, new_schedule, with_given_steps, scheduled}
+use Rattle.spec_board.specs.Schedules.{Board, with_step, settle_at, settle_if_missed, put_entry, put_at, swept, with_sweep_ended, with_pending_settled, with_sweep_made, decide_next, with_all_decided, with_next_opened, finish_board, least_block}
 use Rattle.pmd_board.specs.BoardView.{BoardView, Appends, HasSettled, state_of}
 use Rattle.board_laws.proofs.NumberLaws.{entry_of-some}
 use Rattle.board_laws.proofs.Journals.{after_step}
-use Rattle.board_laws.proofs.PlaceLaws.{none_pending}
 use Rattle.step_runner.specs.Progress.{HasPut}
-use Rattle.step_runner.specs.Scheduled.{under_way, schedule_of, with_listed_put, finished_in, IsDue}
+use Rattle.step_runner.specs.Scheduled.{under_way, block_to_finish, with_listed_put, settled_if_pending}
 
 -- ---- steps
 
@@ -81,25 +77,16 @@ first_put run v n others a b was left is =
 pub all_put : (run : Run) (v : ℕ) (b : Board) → b.state.listed ≡ [] → with_listed_put run v b ≡ b
 all_put run v b none = ap (fold (λ (board : Board) (number : ℕ). put_at run v number board) b) none
 
--- ---- stages with nothing to do
+pub no_sweep_ended : (run : Run) (v : ℕ) (b : Board) → b.state.is_sweeping ≡ false → with_sweep_ended run v b ≡ b
+no_sweep_ended run v b rests = rw rests refl
 
-filter_none : (test : ℕ → Bool) (xs : List ℕ) → ((x : ℕ) → test x ≡ false) → filter test xs ≡ []
-filter_none test [] fails = refl
-filter_none test (x ∷ xs) fails = rw (fails x) (filter_none test xs fails)
+pub sweep_ended : (run : Run) (v : ℕ) (b : Board) → b.state.is_sweeping ≡ true → with_sweep_ended run v b ≡ with_step run End (with_listed_put run v b)
+sweep_ended run v b sweeps = rw sweeps refl
 
-pub none_settled : (run : Run) (v : ℕ) (b : Board) → pending_count b.state ≡ 0 → with_pending_settled run v b ≡ b
-none_settled run v b none =
-    ap (fold (λ board place. settle_at run v place board) b)
-    (filter_none (λ place. is_pending (place_at place b.state)) (range_with_len 1 (length b.state.places)) (λ place. false_from_ne_true (is_pending (place_at place b.state)) (none_pending b.state.places place none)))
-
--- a board at rest
-pub at_rest : (run : Run) (v : ℕ) (b : Board) → b.state.is_sweeping ≡ false → pending_count b.state ≡ 0
-    → finish_board run v b ≡ with_next_opened run (with_all_decided run v (with_sweep_made run v b))
+pub finish_board_is : (run : Run) (v : ℕ) (b : Board)
+    → finish_board run v b ≡ with_next_opened run (with_all_decided run v (with_sweep_made run v (with_pending_settled run v (with_sweep_ended run v b))))
 unfolding finish_board
-at_rest run v b rests none =
-    let after : Board → Board = λ x. with_next_opened run (with_all_decided run v (with_sweep_made run v x)) in
-    ap (λ t. after (with_pending_settled run v (if t then swept run v b else b))) rests
-    ∙ ap after (none_settled run v b none)
+finish_board_is run v b = refl
 
 -- ---- folds
 
@@ -115,9 +102,56 @@ fold_more f b a n m i is at =
     ∙ fold-append f b (range_with_len a n) ((a + n) ∷ [])
     ∙ ap (f (fold f b (range_with_len a n))) (sym at)
 
-pub iterate_more : {A : Type 0} (h : A → A) (n : ℕ) (x : A) → iterate h (suc n) x ≡ h (iterate h n x)
-iterate_more h zero x = refl
-iterate_more h (suc n) x = iterate_more h n (h x)
+-- one more item of a list that is sifted
+fold_sifted : {B : Type 0} (f : B → ℕ → B) (test : ℕ → Bool) (b : B) (xs : List ℕ) (x : ℕ)
+    → fold f b (filter test (xs ++ x ∷ [])) ≡ (if test x then f (fold f b (filter test xs)) x else fold f b (filter test xs))
+fold_sifted f test b [] x = by_cases (test x)
+  where
+    by_cases : (t : Bool) → fold f b (if t then x ∷ [] else []) ≡ (if t then f b x else b)
+    by_cases true = refl
+    by_cases false = refl
+fold_sifted f test b (y ∷ xs) x = by_cases (test y) (fold_sifted f test (f b y) xs x) (fold_sifted f test b xs x)
+  where
+    by_cases : (t : Bool) → fold f (f b y) (filter test (xs ++ x ∷ [])) ≡ (if test x then f (fold f (f b y) (filter test xs)) x else fold f (f b y) (filter test xs))
+        → fold f b (filter test (xs ++ x ∷ [])) ≡ (if test x then f (fold f b (filter test xs)) x else fold f b (filter test xs))
+        → fold f b (if t then y ∷ filter test (xs ++ x ∷ []) else filter test (xs ++ x ∷ []))
+        ≡ (if test x then f (fold f b (if t then y ∷ filter test xs else filter test xs)) x else fold f b (if t then y ∷ filter test xs else filter test xs))
+    by_cases true kept dropped = kept
+    by_cases false kept dropped = dropped
+
+pub sifted_more : {B : Type 0} (f : B → ℕ → B) (test : ℕ → Bool) (b : B) (a n m i : ℕ) → m ≡ suc n → i ≡ a + n
+    → fold f b (filter test (range_with_len a m)) ≡ (if test i then f (fold f b (filter test (range_with_len a n))) i else fold f b (filter test (range_with_len a n)))
+sifted_more f test b a n m i is at =
+    ap (λ k. fold f b (filter test (range_with_len a k))) is
+    ∙ ap (λ xs. fold f b (filter test xs)) (range_more a n)
+    ∙ fold_sifted f test b (range_with_len a n) (a + n)
+    ∙ ap (λ k. if test k then f (fold f b (filter test (range_with_len a n))) k else fold f b (filter test (range_with_len a n))) (sym at)
+
+-- those that are sifted out don't count
+sifted_out : {B : Type 0} (f : B → ℕ → B) (test : ℕ → Bool) (b : B) (a n d : ℕ) → ((k : ℕ) → a + n ≤ k → test k ≡ false)
+    → fold f b (filter test (range_with_len a (n + d))) ≡ fold f b (filter test (range_with_len a n))
+sifted_out f test b a n zero none = let e : n + 0 ≡ n = omega arith in ap (λ k. fold f b (filter test (range_with_len a k))) e
+sifted_out f test b a n (suc d) none =
+    sifted_more f test b a (n + d) (n + suc d) (a + (n + d)) (omega arith) refl
+    ∙ cond-false (test (a + (n + d))) _ _ (none (a + (n + d)) (omega arith))
+    ∙ sifted_out f test b a n d none
+
+pub sifted_upto : {B : Type 0} (f : B → ℕ → B) (test : ℕ → Bool) (b : B) (a n m : ℕ) → n ≤ m → ((k : ℕ) → a + n ≤ k → test k ≡ false)
+    → fold f b (filter test (range_with_len a m)) ≡ fold f b (filter test (range_with_len a n))
+sifted_upto f test b a n m order none =
+    let e : m ≡ n + (m - n) = omega (arith, order) in
+    ap (λ k. fold f b (filter test (range_with_len a k))) e ∙ sifted_out f test b a n (m - n) none
+
+-- one more place is settled if it is pending
+pub settled_more : (run : Run) (v place : ℕ) (a b : Board) → 1 ≤ place
+    → b ≡ fold (λ x k. settle_at run v k x) a (filter (λ k. is_pending (place_at k a.state)) (range_with_len 1 (place - 1)))
+    → is_pending (place_at place b.state) ≡ is_pending (place_at place a.state)
+    → settled_if_pending run v place b ≡ fold (λ x k. settle_at run v k x) a (filter (λ k. is_pending (place_at k a.state)) (range_with_len 1 (place + 1 - 1)))
+settled_more run v place a b from is same =
+    let test : ℕ → Bool = λ k. is_pending (place_at k a.state) in
+    ap (λ t. if t then settle_at run v place b else b) same
+    ∙ ap (λ x. if test place then settle_at run v place x else x) is
+    ∙ sym (sifted_more (λ x k. settle_at run v k x) test a 1 (place - 1) (place + 1 - 1) place (omega (arith, from)) (omega (arith, from)))
 
 -- ---- lists of boards
 
@@ -151,50 +185,26 @@ one_more P old items i before after within is others done new k d upto = by_case
         subst (λ j. P (slice_index_or old j d) (slice_index_or (slice_set items i after) j d)) (sym e) here
     by_cases (inr n) = subst (P (slice_index_or old k d)) (sym (get_or-set_other items i k after d n)) (done k d (omega (arith, upto, n)))
 
-none_yet : (n : ℕ) → count_by is_pending (replicate n Waiting) ≡ 0
-none_yet zero = refl
-none_yet (suc n) = sum_by-cons (λ p. if is_pending p then 1 else 0) Waiting (replicate n Waiting) ∙ (let e = none_yet n in omega (arith, e))
-
--- the first block is next for a new board
-pub new_due : (run : Run) (port limit : ℕ) → limit ≡ run.flow_limit → IsDue run 0 (record { port = port; flow_limit = limit; journal = [] })
-new_due run port limit is = record {
-  limit = is;
-  at = λ _. record {
-    in_block = refl;
-    is_next = refl;
-    no_sweep = refl;
-    none_pending = none_yet (length (frames_of run port));
-    decided = λ before from upto. absurd (omega (arith, from, upto));
-  };
-  finished = λ after. absurd (omega (arith, after));
-  planned = λ after. absurd (omega (arith, after));
-  legal = λ after. absurd (omega (arith, after));
-  decided = λ after. absurd (omega (arith, after));
-  lawful = λ after. absurd (omega (arith, after));
-}
-
 -- ---- rounds
 
-least_above : (run : Run) (k : ℕ) (bs : List BoardView) → k ≤ last_block run → All (IsDue run k) bs → k ≤ least_block (last_block run) (map (under_way run) bs)
+pub least_most : (most : ℕ) (bs : List Board) → least_block most bs ≤ most
 unfolding least_block
-least_above run k [] there due = there
-least_above run k (b ∷ bs) there due =
-    let first = ((due 0 b (omega arith)).at there).in_block in
-    omega (arith, first, least_above run k bs there (All-tail (IsDue run k) b bs due))
+least_most most [] = omega arith
+least_most most (b ∷ bs) = omega (arith, least_most most bs)
 
--- the least block is the one whose turn is next
-pub least_due : (run : Run) (k : ℕ) (bs : List BoardView) → k ≤ last_block run → 1 ≤ length bs → All (IsDue run k) bs → least_block (last_block run) (map (under_way run) bs) ≡ k
+pub least_le : (run : Run) (most : ℕ) (bs : List BoardView) (k : ℕ) (d : BoardView) → k < length bs → least_block most (map (under_way run) bs) ≤ (state_of run (slice_index_or bs k d)).block
 unfolding least_block
-least_due run k [] there some due = absurd (omega (arith, some))
-least_due run k (b ∷ bs) there some due =
-    let first = ((due 0 b (omega arith)).at there).in_block in
-    omega (arith, first, least_above run k bs there (All-tail (IsDue run k) b bs due))
+least_le run most [] k d within = absurd (omega (arith, within))
+least_le run most (b ∷ bs) zero d within = omega arith
+least_le run most (b ∷ bs) (suc k) d within = let e = least_le run most bs k d (omega (arith, within)) in omega (arith, e)
 
--- what the least block is, as the program finds it
-pub turn : (run : Run) (round block last : ℕ) (boards seen : List BoardView) → round < last + 1 → last ≡ last_block run → block ≡ least_block (last_block run) (map (under_way run) seen) → seen ≡ boards
-    → 1 ≤ length boards → All (IsDue run round) boards → block ≡ round
-turn run round block last boards seen within is least same some due =
-    least ∙ ap (λ bs. least_block (last_block run) (map (under_way run) bs)) same ∙ least_due run round boards (omega (arith, within, is)) some due
+pub least_above : (run : Run) (most low : ℕ) (bs : List BoardView) → low ≤ most → ((k : ℕ) (d : BoardView) → k < length bs → low ≤ (state_of run (slice_index_or bs k d)).block)
+    → low ≤ least_block most (map (under_way run) bs)
+unfolding least_block
+least_above run most low [] there above = there
+least_above run most low (b ∷ bs) there above =
+    let first = above 0 b (omega arith) in
+    let others = least_above run most low bs there (λ k d within. above (suc k) d (omega (arith, within))) in omega (arith, first, others)
 
 pub least_none : (most : ℕ) → most ≡ least_block most []
 unfolding least_block
@@ -205,16 +215,5 @@ unfolding least_block
 least_more most [] b = omega arith
 least_more most (c ∷ bs) b = let e = least_more most bs b in omega (arith, e)
 
--- a round is the definition's
-pub round_made : (run : Run) (newest block v : ℕ) (old new : List BoardView) → block ≡ least_block (last_block run) (map (under_way run) old) → v ≡ max newest (hi run block)
-    → map (under_way run) new ≡ map (λ b. finished_in run block v (under_way run b)) old → schedule_of run v new ≡ finish_block run (schedule_of run newest old)
-round_made run newest block v old new least is made =
-    let boards = map (under_way run) old in
-    let at : ℕ → ℕ → Schedule = λ k w. record { newest = w; boards = map (finished_in run k w) boards; unmet = 0 } in
-    ap (λ bs. record { newest = v; boards = bs; unmet = 0 }) (made ∙ sym (map-map (finished_in run block v) (under_way run) old))
-    ∙ ap (at block) is ∙ ap (λ k. at k (max newest (hi run k))) least
-
--- all rounds are, where no step is given
-pub all_made : (run : Run) (s : Schedule) → run.steps ≡ [] → s ≡ iterate (finish_block run) (last_block run + 1) (new_schedule run) → s.boards ≡ (scheduled run).boards
-unfolding finish with_given_steps
-all_made run s none made = ap (λ (x : Schedule). x.boards) (made ∙ ap (λ steps. finish run (with_given_steps run steps (new_schedule run))) (sym none))
+pub least_there : (run : Run) (bs : List BoardView) → block_to_finish run bs ≤ last_block run
+least_there run bs = least_most (last_block run) (map (under_way run) bs)

@@ -1,2 +1,4 @@
 pub mod Progress
 pub mod Scheduled
+pub mod Boards
+pub mod Finished

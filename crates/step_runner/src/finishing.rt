@@ -1,101 +1,39 @@
-ghost use Rattle.std.specs.Prelude.{◌≡◌, ◌+◌, ◌≤◌, [], None, All, IsTrue, OnOk, IfOk, map, length};
+//! Blocks: the boards of a run are carried through them.
+ghost use Rattle.std.specs.Prelude.{◌≡◌, ℕ, ◌+◌, ◌≤◌, ◌<◌, [], All, IsTrue, OnOk, IfOk};
 ghost use Rattle.std.specs.List.{list_all};
-ghost use Rattle.spec_case.specs.Blocks.{hi, last_block, last_place};
-ghost use Rattle.spec_board.specs.Journals.{IsLegal, IsFinished};
+ghost use Rattle.spec_case.specs.Run.{last_version};
+ghost use Rattle.spec_case.specs.Blocks.{AreInOrder, hi, last_block, last_place};
 ghost use Rattle.spec_board.specs.Schedules as schedules;
-ghost use Rattle.run_blocks.specs.Places.{HasPlace, IsInBlock, place_before};
-ghost use Rattle.spec_board.specs.Refusals.{settle_fault};
-ghost use Rattle.pmd_board.specs.BoardView.{HasSettled, IsLawful, state_of};
-ghost use Rattle.pipe_model.specs.Runnable.{has_sound_actions};
-ghost use Rattle.step_runner.specs.Progress.{ArePlanned, AreDecided, IsAt, IsSwept, IsSameBoard};
-ghost use Rattle.step_runner.specs.Scheduled.{under_way, schedule_of, finished_in, IsDue};
+ghost use Rattle.pmd_board.specs.BoardView.{state_of};
+ghost use Rattle.spec_tables.specs.Edits.{has_sound_actions};
+ghost use Rattle.spec_run.specs.Journals.{AreJournals};
+ghost use Rattle.step_runner.specs.Progress.{IsPast, IsSameBoard, IsSwept, OnlyPlans};
+ghost use Rattle.step_runner.specs.Scheduled.{under_way, schedule_of, block_to_finish, HasDone, AreOnlyPlanned, TookTurn, TookTurns};
+ghost use Rattle.step_runner.specs.Finished.{AreFinished, journals_in};
 
+use crate::boards::Boards;
+use crate::deciding::{decide_all, settle_pending};
+use crate::finished::{Finished, recall_laws};
 use crate::steps;
-use crate::sweeping::sweep;
-use pipe_model::Plain;
-use pmd_board::{Board, Looked};
-use run_case::{Case, Keyed, RunData};
+use crate::sweeping::{end_sweep, sweep};
+use pmd_board::Board;
+use run_case::{Case, RunData};
 use run_edits::RunEdits;
 use run_tables::Tables;
 use std::alloc::{AllocError, Global};
 
-// Decides a frame that no megaflow covers: its key is translated, and it is settled by that.
-fn upcall<C: Case>(
-    alloc: Global,
-    run: &RunData<C>,
-    tables: &Tables<C>,
-    board: &mut Board<C>,
-    at: &Keyed<C>,
-) -> Result<(), AllocError>
-    requires port { at.now.port ≡ board.old.port }
-    requires may { settle_fault C.run (state_of C.run board.old) at.now.place tables.now ≡ None }
-    ensures { OnOk result (HasSettled C.run board.old at.now.place tables.now board.new) }
-{
-    let made = tables.translate(run, &at.key, Plain::empty(alloc))?;
-    steps::settle(board, at, made)
-}
+// ---- one board
 
-// Looks up the next frame of a board. A megaflow decides it, or it is settled at once, under the last version of its
-// block either way.
-fn decide_next<C: Case>(
-    alloc: Global,
-    run: &RunData<C>,
-    tables: &Tables<C>,
-    board: &mut Board<C>,
-    block: u32,
-    place: u32,
-) -> Result<(), AllocError>
-    requires version { tables.now ≡ hi C.run block }
-    requires limit { board.old.flow_limit ≡ C.run.flow_limit }
-    requires swept { IsSwept C.run board.old.port (state_of C.run board.old) block place }
-    requires place { HasPlace C.run board.old.port place }
-    requires in_block { IsInBlock C.run board.old.port block place }
-    ensures port { OnOk result (IsSameBoard board.old board.new) }
-    ensures decided { OnOk result (IsSwept C.run board.old.port (state_of C.run board.new) block (place + 1)) }
-    ensures scheduled { OnOk result (under_way C.run board.new ≡ schedules.decide_next C.run tables.now (under_way C.run board.old) place) }
-{
-    prove!(board.next() == place);
-    let _ = board.journal();
-    let at = run.keyed(board.port(), place);
-    match steps::look(board, &at) {
-        Looked::Exact(_) | Looked::Mega(_) => Ok(()),
-        Looked::Miss => upcall(alloc, run, tables, board, &at),
-    }
-}
-
-// Decides the frames that are left of the block that a board is in.
-fn decide_all<C: Case>(
-    alloc: Global,
-    run: &RunData<C>,
-    tables: &Tables<C>,
-    board: &mut Board<C>,
-    block: u32,
-) -> Result<(), AllocError>
-    requires version { tables.now ≡ hi C.run block }
-    requires limit { board.old.flow_limit ≡ C.run.flow_limit }
-    requires there { block ≤ last_block C.run }
-    requires at { IsSwept C.run board.old.port (state_of C.run board.old) block (place_before C.run board.old.port block + 1) }
-    ensures port { OnOk result (IsSameBoard board.old board.new) }
-    ensures finished { OnOk result (IsSwept C.run board.old.port (state_of C.run board.new) block (last_place C.run board.old.port block + 1)) }
-    ensures scheduled { OnOk result (under_way C.run board.new ≡ schedules.with_all_decided C.run tables.now (under_way C.run board.old)) }
-{
-    let next = board.next();
-    let _ = run.frames(board.port());
-    let end = run.last_place(board.port(), block);
-    'places: for place in next..end + 1 {
-        decide_next(alloc, run, tables, board, block, place)?;
-    }
-    Ok(())
-}
-
-// Opens the next block of a board that finished its block, if there is one.
+// Opens the next block of a board that decided all frames of its block, if there is one.
 fn open_next<C: Case>(run: &RunData<C>, board: &mut Board<C>, block: u32)
-    requires limit { board.old.flow_limit ≡ C.run.flow_limit }
-    requires swept { IsSwept C.run board.old.port (state_of C.run board.old) block (last_place C.run board.old.port block + 1) }
+    requires swept { IsSwept C.run (state_of C.run board.old) block }
+    requires all { last_place C.run board.old.port block < (state_of C.run board.old).next }
     requires there { block ≤ last_block C.run }
     ensures port { IsSameBoard board.old board.new }
-    ensures due { IsDue C.run (block + 1) board.new }
-    ensures scheduled { under_way C.run board.new ≡ schedules.with_next_opened C.run (under_way C.run board.old) }
+    ensures past { IsPast C.run (state_of C.run board.new) block }
+    ensures only_plans { OnlyPlans C.run board.old.port (state_of C.run board.old) (state_of C.run board.new) }
+    ensures scheduled { under_way C.run board.new
+        ≡ schedules.with_next_opened C.run (under_way C.run board.old) }
 {
     let last = run.last_block();
     let _ = board.journal();
@@ -104,7 +42,7 @@ fn open_next<C: Case>(run: &RunData<C>, board: &mut Board<C>, block: u32)
     }
 }
 
-// Finishes the block that a board is in, and opens the next.
+// Finishes the block that a board is in, whatever was done of it, and opens the next.
 fn finish_board<C: Case>(
     alloc: Global,
     run: &RunData<C>,
@@ -113,41 +51,46 @@ fn finish_board<C: Case>(
     block: u32,
 ) -> Result<(), AllocError>
     requires version { tables.now ≡ hi C.run block }
+    requires limit { board.old.flow_limit ≡ C.run.flow_limit }
     requires there { block ≤ last_block C.run }
-    requires due { IsDue C.run block board.old }
+    requires in_block { (state_of C.run board.old).block ≡ block }
     ensures port { OnOk result (IsSameBoard board.old board.new) }
-    ensures due { OnOk result (IsDue C.run (block + 1) board.new) }
-    ensures scheduled { OnOk result (under_way C.run board.new ≡ finished_in C.run block tables.now (under_way C.run board.old)) }
+    ensures past { OnOk result (IsPast C.run (state_of C.run board.new) block) }
+    ensures only_plans { OnOk result
+        (OnlyPlans C.run board.old.port (state_of C.run board.old) (state_of C.run board.new)) }
+    ensures scheduled { OnOk result (under_way C.run board.new
+        ≡ schedules.finish_board C.run tables.now (under_way C.run board.old)) }
 {
+    end_sweep(alloc, run, tables, board)?;
+    settle_pending(alloc, run, tables, board, block)?;
     sweep(alloc, run, tables, board, block)?;
     decide_all(alloc, run, tables, board, block)?;
     open_next(run, board, block);
     Ok(())
 }
 
-// A new board of each port.
-fn new_boards<C: Case>(
+// A board finishes a block if it is in that block.
+fn take_turn<C: Case>(
     alloc: Global,
     run: &RunData<C>,
-    flow_limit: u32,
-) -> Result<Vec<Board<C>>, AllocError>
-    requires limit { flow_limit ≡ C.run.flow_limit }
-    ensures some { IfOk result (λ boards. 1 ≤ length boards.items) }
-    ensures ports { IfOk result (λ boards. map (λ b. b.port) boards.items ≡ C.run.ports) }
-    ensures due { IfOk result (λ boards. All (IsDue C.run 0) boards.items) }
-    ensures scheduled { IfOk result (λ boards. schedule_of C.run 0 boards.items ≡ schedules.new_schedule C.run) }
+    tables: &Tables<C>,
+    board: &mut Board<C>,
+    block: u32,
+) -> Result<(), AllocError>
+    requires version { tables.now ≡ hi C.run block }
+    requires limit { board.old.flow_limit ≡ C.run.flow_limit }
+    ensures { OnOk result (TookTurn C.run block tables.now board.old board.new) }
 {
-    let _ = run.ports().len();
-    let mut boards = Vec::new(alloc);
-    'ports: for port in run.ports().as_slice() {
-        let board = Board::new(alloc, run, *port, flow_limit)?;
-        boards.push(board)?;
+    if board.block() == block {
+        finish_board(alloc, run, tables, board, block)?;
     }
-    Ok(boards)
+    Ok(())
 }
 
+// ---- all boards
+
 // Each board that is in a block finishes it.
-fn finish_block<C: Case>(
+fn finish_boards<C: Case>(
     alloc: Global,
     run: &RunData<C>,
     tables: &Tables<C>,
@@ -155,21 +98,20 @@ fn finish_block<C: Case>(
     block: u32,
 ) -> Result<(), AllocError>
     requires version { tables.now ≡ hi C.run block }
-    requires there { block ≤ last_block C.run }
-    requires due { All (IsDue C.run block) boards.old.items }
-    ensures due { OnOk result (All (IsDue C.run (block + 1)) boards.new.items) }
-    ensures ports { OnOk result (map (λ b. b.port) boards.new.items ≡ map (λ b. b.port) boards.old.items) }
-    ensures scheduled { OnOk result (map (under_way C.run) boards.new.items ≡ map (λ b. finished_in C.run block tables.now (under_way C.run b)) boards.old.items) }
+    requires limits { All (λ b. b.flow_limit ≡ C.run.flow_limit) boards.old.items }
+    ensures { OnOk result (TookTurns C.run block tables.now boards.old.items boards.new.items) }
 {
     'boards: for board in boards.iter_mut() {
-        finish_board(alloc, run, tables, board, block)?;
+        take_turn(alloc, run, tables, board, block)?;
     }
     Ok(())
 }
 
 // The least block that a board is in.
 fn least_block<C: Case>(run: &RunData<C>, boards: &[Board<C>]) -> u32
-    ensures { result ≡ schedules.least_block (last_block C.run) (map (under_way C.run) boards.now) }
+    ensures least { result ≡ block_to_finish C.run boards.now }
+    ensures there { result ≤ last_block C.run }
+    ensures in_order { AreInOrder C.run.syncs (last_version C.run) }
 {
     let mut least = run.last_block();
     'boards: for board in boards {
@@ -178,39 +120,97 @@ fn least_block<C: Case>(run: &RunData<C>, boards: &[Board<C>]) -> u32
     least
 }
 
-/// The boards of a run that no steps are given of, carried from new ones to the end, in the order of the words.
+/// Finishes the least block that a board is in: all of its edits are published, and each board in it is carried to its
+/// end, whatever was done of it before. A sweep that runs is ended, frames that are pending are settled, a sweep of the
+/// block's last version is made where none was completed, the frames that are left are decided, and the next block is
+/// opened.
 ///
-/// For each block a board makes a sweep of the block's last version, where none was completed: each of its megaflows is
-/// revalidated. Then it looks up each frame of the block, and what its megaflows miss is settled at once under that
-/// version. The tables follow the edits of the run as blocks are opened.
+/// It takes memory; where there is none, the boards are given up, and the tables are left on the way.
+pub fn finish_block<C: Case>(
+    alloc: Global,
+    run: &RunData<C>,
+    edits: &RunEdits<C>,
+    boards: Boards<C>,
+    tables: &mut Tables<C>,
+) -> Result<Boards<C>, AllocError>
+    requires { tables.old ≤ hi C.run (block_to_finish C.run boards) }
+    ensures published { OnOk result (tables.new ≡ hi C.run (block_to_finish C.run boards)) }
+    ensures version { IfOk result (λ left. tables.new ≤ hi C.run (block_to_finish C.run left)) }
+    ensures done { IfOk result (λ left. (blocks : ℕ) → blocks ≤ last_block C.run
+        → All (HasDone C.run blocks) boards → All (HasDone C.run (blocks + 1)) left) }
+    ensures only_plans { IfOk result (AreOnlyPlanned C.run boards) }
+    ensures scheduled { IfOk result (λ left. schedule_of C.run tables.new left
+        ≡ schedules.finish_block C.run (schedule_of C.run tables.old boards)) }
+{
+    let mut left = boards.into_vec();
+    let block = least_block(run, &left);
+    tables.follow(edits, run.hi(block))?;
+    finish_boards(alloc, run, tables, &mut left, block)?;
+    Ok(Boards { boards: left })
+}
+
+// Finishes all blocks, one after the other, whatever was done of them before.
+pub(crate) fn finish_blocks<C: Case>(
+    alloc: Global,
+    run: &RunData<C>,
+    edits: &RunEdits<C>,
+    boards: Boards<C>,
+    tables: &mut Tables<C>,
+) -> Result<Boards<C>, AllocError>
+    requires { tables.old ≤ hi C.run (block_to_finish C.run boards) }
+    ensures finished { IfOk result (AreFinished C.run) }
+    ensures only_plans { IfOk result (AreOnlyPlanned C.run boards) }
+    ensures scheduled { IfOk result (λ left. schedule_of C.run tables.new left
+        ≡ schedules.finish C.run (schedule_of C.run tables.old boards)) }
+{
+    let last = run.last_block();
+    let mut left = boards;
+    'rounds: for round in 0..last + 1 {
+        left = finish_block(alloc, run, edits, left, tables)?;
+    }
+    Ok(left)
+}
+
+/// Finishes all blocks, one after the other, whatever was done of them before. Then nothing is left to be done.
 ///
-/// It takes memory for the boards and the tables; there may be none.
+/// The journals are those of the schedule that goes on from these boards and tables.
+///
+/// It takes memory, also for the arrivals of all frames; where there is none, the boards are given up, and the tables are
+/// left on the way.
 pub fn finish<C: Case>(
     alloc: Global,
     run: &RunData<C>,
     edits: &RunEdits<C>,
+    boards: Boards<C>,
+    tables: &mut Tables<C>,
+) -> Result<Finished<C>, AllocError>
+    requires { tables.old ≤ hi C.run (block_to_finish C.run boards) }
+    ensures { IfOk result (λ done. done
+        ≡ journals_in (schedules.finish C.run (schedule_of C.run tables.old boards))) }
+{
+    let left = finish_blocks(alloc, run, edits, boards, tables)?;
+    let done = Finished::new(alloc, run, left)?;
+    Ok(done)
+}
+
+/// Carries new boards of a run that no steps are given of to the end. The journals are those of the run's schedule.
+///
+/// It takes memory for the boards, the tables and the arrivals of all frames; there may be none.
+pub fn finish_from_new<C: Case>(
+    alloc: Global,
+    run: &RunData<C>,
+    edits: &RunEdits<C>,
     flow_limit: u32,
-) -> Result<Vec<Board<C>>, AllocError>
+) -> Result<Finished<C>, AllocError>
     requires sound { IsTrue (list_all has_sound_actions C.run.edits) }
     requires limit { flow_limit ≡ C.run.flow_limit }
     requires steps { C.run.steps ≡ [] }
-    ensures ports { IfOk result (λ boards. map (λ b. b.port) boards.items ≡ C.run.ports) }
-    ensures limit { IfOk result (λ boards. All (λ b. b.flow_limit ≡ C.run.flow_limit) boards.items) }
-    ensures finished { IfOk result (λ boards. All (λ b. IsFinished C.run (state_of C.run b)) boards.items) }
-    ensures planned { IfOk result (λ boards. All (ArePlanned C.run) boards.items) }
-    ensures legal { IfOk result (λ boards. All (λ b. IsLegal C.run b.port b.flow_limit b.journal) boards.items) }
-    ensures decided { IfOk result (λ boards. All (AreDecided C.run) boards.items) }
-    ensures lawful { IfOk result (λ boards. All (IsLawful C.run) boards.items) }
-    ensures scheduled { IfOk result (λ boards. map (under_way C.run) boards.items ≡ (schedules.scheduled C.run).boards) }
+    ensures { IfOk result (AreJournals 0 C.run) }
 {
-    let mut boards = new_boards(alloc, run, flow_limit)?;
+    let boards = Boards::new(alloc, run, flow_limit)?;
     let mut tables = Tables::new(alloc);
-    let last = run.last_block();
-    'rounds: for round in 0..last + 1 {
-        let block = least_block(run, &boards);
-        let newest = tables.version().max(run.hi(block));
-        tables.follow(edits, newest)?;
-        finish_block(alloc, run, &tables, &mut boards, block)?;
-    }
-    Ok(boards)
+    let left = finish_blocks(alloc, run, edits, boards, &mut tables)?;
+    recall_laws(left.as_slice());
+    let done = Finished::new(alloc, run, left)?;
+    Ok(done)
 }

@@ -2,38 +2,57 @@
 //!
 //! # What?
 //!
-//! A board refuses what isn't legal and chooses nothing. `finish` chooses: it makes a board for each port and carries
-//! it through the blocks of the run, until every frame is decided.
+//! A board refuses what isn't legal and chooses nothing. Here is chosen. The *boards of a run* (`Boards`) are carried
+//! through its blocks, whatever was done of them before, until every frame is decided; then they are *finished*
+//! (`Finished`).
 //!
 //! # What is promised
 //!
-//! `finish` gives the boards of the run's schedule, as `spec_board` defines it: step by step its journals, in the order
-//! of the words. So each is finished: the last block is open, every frame is decided, no sweep runs, and a sweep of the
-//! last version was completed. Each frame was decided under the last version of its block, whether it was translated or a
-//! megaflow had its answer. Their journals are legal, and the laws of boards hold of them: each frame is decided once and
-//! within its window, and each rule is credited with or owed what it is due.
+//! - `Boards` is a list with one board for each port of the run, in the order of the words, each with the run's flow
+//!   limit. It is made anew, or of a list that is tested.
+//! - `finish_block` and `finish` take the steps of the schedule that `spec_board` defines, from the boards and the
+//!   version at which they find them. `finish_from_new` gives the journals of the run's whole schedule, in which each
+//!   frame was decided under the last version of its block.
+//! - `Finished` is seen as its journals, and they are whole (`spec_run`): there is one for each port, each is legal and
+//!   complete, each frame is decided once and within its window, and each rule is credited with or owed what it is due.
+//!   It lends the boards, the arrivals in their order, and each arrived frame with the actions that were decided for
+//!   it.
+//! - `close_phase` ends what workers did of a block. It asks nothing of the boards that they leave: those that fit
+//!   finish the block, and in the place of others new ones are carried through the whole run. It says which of these it
+//!   was.
 //!
 //! # How
 //!
-//! All boards go through a block before one goes through the next: the least block of all boards is finished in turn. The
-//! tables follow the edits of the run up to the last version of the block, once for all boards (`run_tables`). In each
-//! block a board makes a sweep of that version, where none was completed: it puts each megaflow that is listed, in rising
-//! order, by the translation of its key (`sweeping`). Each translation is made in the memory of lists that the put before
-//! it gave back. Then the board looks up each frame of the block. What no megaflow covers is translated, and settled at
-//! once.
+//! All boards go through a block before one goes through the next: the least block of all boards is finished in turn.
+//! The tables follow the edits of the run up to the last version of the block, once for all boards (`run_tables`). In
+//! each block a board ends the sweep that runs, settles the frames that are pending, and makes a sweep of that version,
+//! where none was completed: it puts each megaflow that is listed, in rising order, by the translation of its key
+//! (`sweeping`). Each translation is made in the memory of lists that the put before it gave back. Then the board looks
+//! up each frame that is left of the block. What no megaflow covers is translated, and settled at once (`deciding`).
 //!
 //! Where a megaflow decides a frame, it was translated under the last version of the block: none older is left by the
-//! sweep, and none newer may come before the block ends (`proofs/Frames`). A megaflow that isn't idle, nor stale, stays
-//! from block to block, with its mask. No call of a board can be refused here, which is proved call by call (`steps`).
+//! sweep, and none newer may come before the block ends (`proofs/Frames`). So a frame is as far as it was, or decided
+//! as planned, at every moment (`OnlyPlans`), which goes on from step to step. A megaflow that isn't idle, nor stale,
+//! stays from block to block, with its mask. No call of a board can be refused here, which is proved call by call
+//! (`steps`).
 //!
 //! # What is left to others
 //!
-//! Given schedules of steps, and tables that are published to threads: neither is built yet. What is written of the boards,
+//! Given schedules of steps, and the threads of workers: neither is built yet. What is written of finished boards,
 //! `egress_capture` and `flow_dump` write; what datapath actions make of a frame is `action_exec`'s.
 #![tactic(auto)]
 
+mod boards;
+mod closing;
+mod decided_frame;
+mod deciding;
+mod finished;
 mod finishing;
 mod steps;
 mod sweeping;
 
-pub use finishing::finish;
+pub use boards::Boards;
+pub use closing::close_phase;
+pub use decided_frame::DecidedFrame;
+pub use finished::Finished;
+pub use finishing::{finish, finish_block, finish_from_new};

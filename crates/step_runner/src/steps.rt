@@ -8,7 +8,7 @@ ghost use Rattle.spec_board.specs.Effects.{key_of_entry};
 ghost use Rattle.pmd_board.specs.BoardView.{Appends, HasSettled, state_of};
 ghost use Rattle.step_runner.specs.Progress.{HasPut};
 
-use pipe_model::Plain;
+use pipe_model::SpareLists;
 use pmd_board::{BeginFault, Board, Looked, SettleFault, Xlated};
 use run_case::{Case, Keyed};
 use std::alloc::AllocError;
@@ -63,7 +63,7 @@ pub fn begin<C: Case>(board: &mut Board<C>, version: u32) -> Result<(), AllocErr
 }
 
 // Answers lists that aren't needed any more.
-pub fn put<C: Case>(board: &mut Board<C>, number: u32, made: Xlated<C>) -> Plain
+pub fn put<C: Case>(board: &mut Board<C>, number: u32, made: Xlated<C>) -> SpareLists
     requires key { made.key ≡ key_of_entry (entry_of number (state_of C.run board.old).entries) }
     requires may { put_fault C.run (state_of C.run board.old) number made.version ≡ None }
     ensures { HasPut C.run board.old number made.version board.new }

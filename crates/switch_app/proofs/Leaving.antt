@@ -35,7 +35,7 @@ leaves_reading words old new in_use input.OutOfMemory why opened named told = to
 
 -- a run that was accepted
 module _ (words : List (List ℕ)) (old mid : Told) (accepted : Accepted) (is_verdict : verdict words old.holds ≡ Ok accepted) (before : OnlyRead old mid) where
-  pub done_is : (now : List File) → Writes accepted.run accepted.command.out mid.done now → IsDone words old.holds old.done now
+  pub done_is : (now : List File) → Writes accepted.command.workers accepted.run accepted.command.out mid.done now → IsDone words old.holds old.done now
   done_is now writes = record {
     accepted = accepted;
     is_verdict = is_verdict;
@@ -44,7 +44,7 @@ module _ (words : List (List ℕ)) (old mid : Told) (accepted : Accepted) (is_ve
     written = writes.made ∙ ap (λ (w : Told). w.done ++ files_of accepted.command.out accepted.run writes.journals) before;
   }
 
-  stopped : (now : List File) (r : WriteRefusal) (name : List ℕ) (stops : StopsIn accepted.run accepted.command.out mid.done now r) → name ≡ stops.cut.file.0
+  stopped : (now : List File) (r : WriteRefusal) (name : List ℕ) (stops : StopsIn accepted.command.workers accepted.run accepted.command.out mid.done now r) → name ≡ stops.cut.file.0
       → IsCutRun words old.holds old.done now name
   stopped now r name stops named = record {
     accepted = accepted;
@@ -56,7 +56,7 @@ module _ (words : List (List ℕ)) (old mid : Told) (accepted : Accepted) (is_ve
     named = named;
   }
 
-  stopped_leaves : (new : Told) (in_use : InUse) (r : WriteRefusal) → StopsIn accepted.run accepted.command.out mid.done (written in_use new) r
+  stopped_leaves : (new : Told) (in_use : InUse) (r : WriteRefusal) → StopsIn accepted.command.workers accepted.run accepted.command.out mid.done (written in_use new) r
       → IfWriteFault r (λ name. new.last ≡ name) → Leaves words old new in_use (Writing r)
   stopped_leaves new in_use (WriteFault name) stops named = (stopped (written in_use new) (WriteFault name) new.last stops (named ∙ stops.cut.named), named)
   stopped_leaves new in_use OutOfMemory stops named = inr (stops.cut.file.0, stopped (written in_use new) OutOfMemory stops.cut.file.0 stops refl)
@@ -64,7 +64,7 @@ module _ (words : List (List ℕ)) (old mid : Told) (accepted : Accepted) (is_ve
   unwritten_leaves : (new : Told) (in_use : InUse) (r : WriteRefusal) → r ≡ OutOfMemory → new ≡ mid → Leaves words old new in_use (Writing r)
   unwritten_leaves new in_use r is same = rw (is, same) (inl before)
 
-  pub leaves_writing : (new : Told) (in_use : InUse) (r : WriteRefusal) → (r ≡ OutOfMemory) × (new ≡ mid) ⊎ StopsIn accepted.run accepted.command.out mid.done (written in_use new) r
+  pub leaves_writing : (new : Told) (in_use : InUse) (r : WriteRefusal) → (r ≡ OutOfMemory) × (new ≡ mid) ⊎ StopsIn accepted.command.workers accepted.run accepted.command.out mid.done (written in_use new) r
       → IfWriteFault r (λ name. new.last ≡ name) → Leaves words old new in_use (Writing r)
   leaves_writing new in_use r (inl none) named = unwritten_leaves new in_use r none.0 none.1
   leaves_writing new in_use r (inr stops) named = stopped_leaves new in_use r stops named

@@ -1,4 +1,3 @@
-pub mod Lists
 pub mod Journals
 pub mod Leaving
 pub mod Texts

@@ -22,15 +22,15 @@ use Rattle.switch_output.specs.Refused as writing
 use Rattle.switch_output.specs.Refused.{IsCutIn}
 
 -- After the files before, exactly those of the run were written, by its journals.
-pub record Writes (run : Run) (out : List ℕ) (before after : List File) : Type 0 where
+pub record Writes (workers : ℕ) (run : Run) (out : List ℕ) (before after : List File) : Type 0 where
   pub journals : List Journal
-  pub are_journals : AreJournals run journals
+  pub are_journals : AreJournals workers run journals
   pub made : after ≡ before ++ files_of out run journals
 
 -- The files of the run, by its journals, were cut short at one of them.
-pub record StopsIn (run : Run) (out : List ℕ) (before now : List File) (r : WriteRefusal) : Type 0 where
+pub record StopsIn (workers : ℕ) (run : Run) (out : List ℕ) (before now : List File) (r : WriteRefusal) : Type 0 where
   pub journals : List Journal
-  pub are_journals : AreJournals run journals
+  pub are_journals : AreJournals workers run journals
   pub cut : IsCutIn (files_of out run journals) before now r
 
 -- What stands after a refusal, and why it came.
@@ -44,6 +44,6 @@ Leaves words before now in_use (Writing (WriteFault name)) =
 Leaves words before now in_use (Writing OutOfMemory) = OnlyRead before now ⊎ IsPartOfRun words before.holds before.done (written in_use now)
 
 -- Only a fault changes the counts of the shelf.
-abbrev pub HasCause : Counts → Counts → Refusal → Type 0
-HasCause before now (Reading r) = reading.HasCause before now r
-HasCause before now (Writing r) = writing.HasCause before now r
+abbrev pub HasRunCause : Counts → Counts → Refusal → Type 0
+HasRunCause before now (Reading r) = reading.HasReadCause before now r
+HasRunCause before now (Writing r) = writing.HasWriteCause before now r

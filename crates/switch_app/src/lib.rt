@@ -34,16 +34,21 @@
 //! Reading comes first and whole (`switch_input`). What was read is one run, and `decide_and_write` has it as its type
 //! parameter: every board, and every fact of a board, speaks of it.
 //!
-//! Each port's board is run to its end, which decides every frame; it keeps 8,192 megaflows at most. The tables follow the
-//! edits meanwhile (`step_runner`). Only then files are written (`switch_output`). So what takes memory by the size of the
-//! run is taken before the first file: between files there is but a name, and a line of the journal. Why a run was refused
-//! is told without memory (`switch_refusals`).
+//! Each port's board is run to its end, which decides every frame; it keeps 8,192 megaflows at most. The tables
+//! follow the edits meanwhile (`step_runner`). Only then files are written (`switch_output`), of boards whose type
+//! says that they are finished. So what takes memory by the size of the run is taken before the first file, but for 4
+//! bytes a frame: between files there is but a name, and a line of the journal. Why a run was refused is told without
+//! memory (`switch_refusals`).
+//!
+//! `run_switch` is handed a runtime and a gate for workers, which aren't built yet, and a call that may wait need not
+//! return. So all that a run does without workers, which every run is so far, is a call of its own without a runtime
+//! (`run_alone`), with every clause of `run_switch`, and that it returns is a part of its proof.
 //!
 //! # What is left to others
 //!
-//! Words, files and the rules of the edits to `switch_input`, the edits under the run's name to `run_edits`, the run and
-//! its blocks to `run_case`, boards to `pmd_board` and `step_runner`, the order of arrivals to `frame_arrivals`, the files
-//! to `switch_output`, texts and statuses to `switch_refusals`, and all that touches the system to `edge_io`.
+//! Words, files and the rules of the edits to `switch_input`, the edits under the run's name to `run_edits`, the run
+//! and its blocks to `run_case`, boards to `step_runner`, the files to `switch_output`, texts and statuses to
+//! `switch_refusals`, and all that touches the system to `edge_io`.
 #![tactic(auto)]
 
 mod refusal;

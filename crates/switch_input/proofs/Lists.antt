@@ -3,6 +3,8 @@ use Rattle.std.proofs.Common.{◌≡◌, Bool, List, [], ◌∷◌, map, refl, a
 use Rattle.std.specs.Prelude.{◌||◌}
 use Rattle.std.specs.List.{list_any, list_all}
 use Rattle.std.proofs.lemmas.List.Folds.{list_all-map}
+use Rattle.switch_input.specs.declared.words.PortWord.{PortWord}
+use Rattle.switch_input.specs.WordViews.{ports_view, ports_said}
 
 pub any_in_view : {X : Type 0} (p : X → Bool) → {Y : Type 0} (view : Y → X) (ys : List Y) → list_any p (map view ys) ≡ list_any (λ y. p (view y)) ys
 any_in_view p view [] = refl
@@ -10,3 +12,8 @@ any_in_view p view (y ∷ ys) = ap (λ b. p (view y) || b) (any_in_view p view y
 
 pub all_in_view : {X : Type 0} (p : X → Bool) → {Y : Type 0} (view : Y → X) (ys : List Y) → list_all p (map view ys) ≡ list_all (λ y. p (view y)) ys
 all_in_view p view ys = list_all-map p view ys
+
+-- the ports of words, without their view
+pub ports_in_view : (ports : List PortWord) → ports_said (ports_view ports) ≡ map (λ (w : PortWord). w.port) ports
+ports_in_view [] = refl
+ports_in_view (w ∷ ports) = ap (λ ps. w.port ∷ ps) (ports_in_view ports)

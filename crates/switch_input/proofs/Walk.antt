@@ -65,7 +65,7 @@ module _ (files : Files) (bytes_left frames_left : ℕ) (ports : List PortWord) 
 -- ---- what was read so far
 
 pub only_read-trans : (a b c : Told) → OnlyRead a b → OnlyRead b c → OnlyRead a c
-only_read-trans a b c first second = second ∙ ap (λ (w : Told). let x : Told = record w { left = c.left; last = c.last } in x) first
+only_read-trans a b c first second = second ∙ ap (λ (w : Told). let x : Told = record w { left = c.left; last = c.last; opened = c.opened } in x) first
 
 pub holds_kept : (a b : Told) → OnlyRead a b → b.holds ≡ a.holds
 holds_kept a b told = ap (λ (w : Told). w.holds) told

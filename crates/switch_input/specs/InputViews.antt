@@ -6,7 +6,7 @@ use Rattle.spec_case.specs.Blocks.{AreInOrder}
 use Rattle.spec_script.specs.Script.{most_edits, most_syncs}
 use Rattle.spec_run.specs.Limits.{most_frames}
 use Rattle.spec_run.specs.Verdict as verdicts
-use Rattle.edit_script.specs.Plain.{has_sound_actions}
+use Rattle.spec_tables.specs.Edits.{has_sound_actions}
 use Rattle.edit_script.specs.ScriptViews.{script_view}
 use Rattle.switch_input.specs.declared.inputs.Inputs.{Inputs}
 use Rattle.switch_input.specs.declared.reading.TraceFile.{TraceFile}

@@ -19,4 +19,4 @@ abbrev pub ports_said : List words.PortWord → List ℕ
 ports_said ports = map (λ (w : words.PortWord). w.port) ports
 
 abbrev pub command_view : Command → words.Command
-command_view c = record { edits = c.edits.now; out = c.out.now; ports = ports_view c.ports.items }
+command_view c = record { edits = c.edits.now; out = c.out.now; ports = ports_view c.ports.items; workers = c.workers }

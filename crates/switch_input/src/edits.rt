@@ -10,10 +10,10 @@ ghost use Rattle.spec_script.specs.Script.{most_edits, most_syncs};
 ghost use Rattle.spec_script.specs.declared.fault.ScriptFault.TheVariants as script;
 ghost use Rattle.spec_run.specs.Limits.{most_edits_bytes};
 ghost use Rattle.spec_run.specs.Verdict.{refused_script, script_within, with_few_changes, script_in};
-ghost use Rattle.edit_script.specs.Plain.{has_sound_actions};
+ghost use Rattle.spec_tables.specs.Edits.{has_sound_actions};
 ghost use Rattle.edit_script.specs.ScriptViews.{script_view};
 ghost use Rattle.switch_input.specs.EditsViews.{script_in_bytes};
-ghost use Rattle.switch_refusals.specs.Refused.{fault_view, IfInput, IfReadFault, Explains, HasCause};
+ghost use Rattle.switch_refusals.specs.Refused.{fault_view, IfInput, IfReadFault, Explains, HasReadCause};
 
 use crate::reading::read_file;
 use crate::rules::rules_of;
@@ -111,7 +111,7 @@ pub fn read_edits<'a, S: Shelf>(
     ensures named { IsTrue S.tells → IfErr result (λ r. IfReadFault r (λ n. (S.told shelf.new).last ≡ n)) }
     ensures told { IsTrue S.tells → OnlyRead (S.told shelf.old) (S.told shelf.new) }
     ensures counts { OnOk result (S.counts shelf.new ≡ S.counts shelf.old) }
-    ensures cause { IfErr result (HasCause (S.counts shelf.old) (S.counts shelf.new)) }
+    ensures cause { IfErr result (HasReadCause (S.counts shelf.old) (S.counts shelf.new)) }
 {
     let too_long = InputFault::Limit(Quantity::EditsBytes);
     let bytes = read_file(alloc, shelf, name, MOST_EDITS_BYTES, too_long)?;

@@ -4,7 +4,7 @@ ghost use Rattle.edge_io.specs.ReadAll.{OnlyRead};
 ghost use Rattle.spec_run.specs.Verdict.{verdict, files_opened};
 ghost use Rattle.switch_input.specs.WordViews.{texts};
 ghost use Rattle.switch_input.specs.InputViews.{accepted_view, IsBuilt};
-ghost use Rattle.switch_refusals.specs.Refused.{IfReadFault, Explains, HasCause};
+ghost use Rattle.switch_refusals.specs.Refused.{IfReadFault, Explains, HasReadCause};
 
 use crate::edits::read_edits;
 use crate::reading::read_traces;
@@ -47,7 +47,7 @@ pub fn read_inputs<'a, S: Shelf>(
         → IfErr result (λ r. IfReadFault r (Contains (files_opened (texts words.now) (S.told shelf.old).holds))) }
     ensures read_fault_name { IsTrue S.tells
         → IfErr result (λ r. IfReadFault r (λ name. (S.told shelf.new).last ≡ name)) }
-    ensures cause { IfErr result (HasCause (S.counts shelf.old) (S.counts shelf.new)) }
+    ensures cause { IfErr result (HasReadCause (S.counts shelf.old) (S.counts shelf.new)) }
 
     ensures only_read { IsTrue S.tells → OnlyRead (S.told shelf.old) (S.told shelf.new) }
 {

@@ -44,4 +44,4 @@ mod words;
 
 pub use inputs::{Inputs, read_inputs};
 pub use switch_refusals::{InputFault, InputRefusal};
-pub use words::{Command, PortWord};
+pub use words::{Command, PortWord, ports_of};

@@ -6,7 +6,7 @@ ghost use Rattle.spec_run.specs.Limits.{most_trace_bytes, most_frames};
 ghost use Rattle.spec_run.specs.Verdict.{refused_trace, file_in, trace_in, traces_in, trace_names, traces_opened};
 ghost use Rattle.switch_input.specs.WordViews.{port_view, ports_view};
 ghost use Rattle.switch_input.specs.InputViews.{trace_view};
-ghost use Rattle.switch_refusals.specs.Refused.{fault_view, IfInput, IfReadFault, Explains, HasCause};
+ghost use Rattle.switch_refusals.specs.Refused.{fault_view, IfInput, IfReadFault, Explains, HasReadCause};
 
 use crate::words::PortWord;
 use edge_io::{ReadFault, Shelf, read_all};
@@ -34,7 +34,7 @@ pub fn read_file<'a, S: Shelf>(
     ensures named { IsTrue S.tells → IfErr result (λ r. IfReadFault r (λ n. (S.told shelf.new).last ≡ n)) }
     ensures told { IsTrue S.tells → OnlyRead (S.told shelf.old) (S.told shelf.new) }
     ensures counts { OnOk result (S.counts shelf.new ≡ S.counts shelf.old) }
-    ensures cause { IfErr result (HasCause (S.counts shelf.old) (S.counts shelf.new)) }
+    ensures cause { IfErr result (HasReadCause (S.counts shelf.old) (S.counts shelf.new)) }
 {
     match read_all(alloc, shelf, name, most) {
         Ok(bytes) => Ok(bytes),
@@ -84,7 +84,7 @@ fn read_trace_file<'a, S: Shelf>(
     ensures named { IsTrue S.tells → IfErr result (λ r. IfReadFault r (λ n. (S.told shelf.new).last ≡ n)) }
     ensures told { IsTrue S.tells → OnlyRead (S.told shelf.old) (S.told shelf.new) }
     ensures counts { OnOk result (S.counts shelf.new ≡ S.counts shelf.old) }
-    ensures cause { IfErr result (HasCause (S.counts shelf.old) (S.counts shelf.new)) }
+    ensures cause { IfErr result (HasReadCause (S.counts shelf.old) (S.counts shelf.new)) }
 {
     let too_long = InputFault::Limit(Quantity::TraceBytes);
     let bytes = read_file(alloc, shelf, name, bytes_left, too_long)?;
@@ -115,7 +115,7 @@ fn read_port_trace<'a, S: Shelf>(
     ensures named { IsTrue S.tells → IfErr result (λ r. IfReadFault r (λ n. (S.told shelf.new).last ≡ n)) }
     ensures told { IsTrue S.tells → OnlyRead (S.told shelf.old) (S.told shelf.new) }
     ensures counts { OnOk result (S.counts shelf.new ≡ S.counts shelf.old) }
-    ensures cause { IfErr result (HasCause (S.counts shelf.old) (S.counts shelf.new)) }
+    ensures cause { IfErr result (HasReadCause (S.counts shelf.old) (S.counts shelf.new)) }
 {
     if w.file.is_empty() {
         return Ok(TraceFile {
@@ -145,7 +145,7 @@ pub fn read_traces<'a, S: Shelf>(
     ensures named { IsTrue S.tells → IfErr result (λ r. IfReadFault r (λ n. (S.told shelf.new).last ≡ n)) }
     ensures told { IsTrue S.tells → OnlyRead (S.told shelf.old) (S.told shelf.new) }
     ensures counts { OnOk result (S.counts shelf.new ≡ S.counts shelf.old) }
-    ensures cause { IfErr result (HasCause (S.counts shelf.old) (S.counts shelf.new)) }
+    ensures cause { IfErr result (HasReadCause (S.counts shelf.old) (S.counts shelf.new)) }
 {
     let mut traces = Vec::new(alloc);
     let mut bytes_left = MOST_TRACE_BYTES;

@@ -8,6 +8,7 @@ ghost use Rattle.spec_run.specs.Verdict.{command_in};
 ghost use Rattle.switch_input.specs.WordViews.{texts, port_view, ports_view, ports_said, command_view};
 ghost use Rattle.switch_refusals.specs.Refused.{Explains, IfReadFault};
 
+use run_blocks::Ports;
 use std::alloc::{AllocError, Global};
 use switch_refusals::{InputFault, InputRefusal};
 use text_numbers::{LAST_PORT, as_port, read_decimal};
@@ -31,6 +32,8 @@ pub struct Command<'a> {
     pub edits: &'a str,
     pub out: &'a str,
     pub ports: Vec<PortWord<'a>>,
+    /// How many workers carry the run out: none, as no word asks for one yet.
+    pub workers: u8,
 }
 
 #[tactic(auto, unfolding(spec_words::specs::Words::port_number))]
@@ -137,6 +140,7 @@ fn read_words(alloc: Global, words: &[String]) -> Result<Option<Command<'_>>, Al
             edits: edits.as_str(),
             out: out.as_str(),
             ports,
+            workers: 0,
         })),
     }
 }
@@ -154,4 +158,15 @@ pub fn read_command(alloc: Global, words: &[String]) -> Result<Command<'_>, Inpu
         Some(command) => Ok(command),
         None => Err(InputRefusal::Input(InputFault::NotBuilt { what: WORDS })),
     }
+}
+
+/// The ports of words, in their order.
+#[tactic(auto, using(crate::proofs::Lists::ports_in_view))]
+pub fn ports_of(alloc: Global, words: &[PortWord<'_>]) -> Result<Ports, AllocError>
+    requires some { 1 ≤ length words.now }
+    requires distinct { IsDistinct nat_eq (ports_said (ports_view words.now)) }
+    ensures { IfOk result (λ ports. ports ≡ ports_said (ports_view words.now)) }
+{
+    let list = words.iter().map(|w| w.port).collect(alloc)?;
+    Ok(Ports::new(list))
 }

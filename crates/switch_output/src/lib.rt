@@ -21,7 +21,7 @@
 //!
 //! # What is left to others
 //!
-//! That all frames are decided, the order of arrivals (`frame_arrivals`), and what a refusal is told as.
+//! That all frames are decided (`step_runner`, whose `Finished` has it as its type), and what a refusal is told as.
 #![tactic(auto)]
 
 mod refusal;

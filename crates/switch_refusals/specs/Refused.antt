@@ -31,7 +31,7 @@ abbrev pub Explains : {A : Type 0} → Result A verdicts.Refusal → InputRefusa
 Explains stage r = IfInput r (λ fault. stage ≡ Err (fault_view fault))
 
 -- Only a fault in reading changes the counts of the shelf, and it comes only where the one of reading rose.
-abbrev pub HasCause : Counts → Counts → InputRefusal → Type 0
-HasCause before now (Input fault) = now ≡ before
-HasCause before now (ReadFault name) = ReadFailed before now
-HasCause before now OutOfMemory = now ≡ before
+abbrev pub HasReadCause : Counts → Counts → InputRefusal → Type 0
+HasReadCause before now (Input fault) = now ≡ before
+HasReadCause before now (ReadFault name) = ReadFailed before now
+HasReadCause before now OutOfMemory = now ≡ before

@@ -6,7 +6,7 @@ ghost use Rattle.pipe_model.specs.Runnable.{AreRunnable};
 
 use dp_actions::{ActionList, DpAction};
 use ovs_fields::{FieldId, Key};
-use pipe_model::{Plain, Translating, Visits, plain};
+use pipe_model::{Plain, SpareLists, Translating, Visits, plain};
 use rule_tables::{Actions, Edit, EditWord, Match, OfAction, VersionedRules};
 use std::alloc::{AllocError, Global};
 use std::test::Fail;
@@ -122,48 +122,48 @@ fn a_translation_emits_128_actions(rt: HostRuntime) -> Result<(), Fail> {
 }
 
 /// What comes of a packet that visits a rule and is sent to all these ports but the first one.
-fn sent_to(lists: Plain, ports: &[u16]) -> Result<Plain, AllocError> {
+fn sent_to(lists: SpareLists, ports: &[u16]) -> Result<Plain, AllocError> {
     let mut state = Translating::start(lists, &ipv4_key(64));
     state.visit(7)?;
     state.step(ports, OfAction::All)?;
     Ok(state.finish())
 }
 
-/// The lists again, and for how many actions and visits they have room.
-fn room_of(lists: Plain) -> (Plain, (usize, usize)) {
-    let actions = lists.actions.into_vec();
-    let visits = lists.visits.into_vec();
+/// The lists for another translation, and for how many actions and visits they have room.
+fn room_of(made: Plain) -> (SpareLists, (usize, usize)) {
+    let actions = made.actions.into_vec();
+    let visits = made.visits.into_vec();
     let room = (actions.capacity(), visits.capacity());
-    let lists = Plain {
+    let made = Plain {
         actions: ActionList::new(actions),
         visits: Visits::new(visits),
     };
-    (lists, room)
+    (made.into_spare(), room)
 }
 
 #[test]
 fn lists_that_are_handed_in_are_used_again(rt: HostRuntime) -> Result<(), Fail> {
-    let many = sent_to(Plain::empty(rt.alloc()), &[9, 8, 7, 6, 5, 4, 3, 2, 1])?;
+    let many = sent_to(SpareLists::new(rt.alloc()), &[9, 8, 7, 6, 5, 4, 3, 2, 1])?;
     assert_eq!(rt; many.actions.len(), 8);
     let (many, room) = room_of(many);
     let few = sent_to(many, &PORTS)?;
     assert_eq!(rt; few.actions.as_slice(), [DpAction::Output(2)].as_slice());
     assert_eq!(rt; few.visits.as_slice(), [7].as_slice());
-    let (few, room_after) = room_of(few);
-    assert_eq!(rt; room_after, room);
-    let fresh = sent_to(Plain::empty(rt.alloc()), &PORTS)?;
+    let fresh = sent_to(SpareLists::new(rt.alloc()), &PORTS)?;
     assert_eq!(rt; fresh.actions.as_slice(), few.actions.as_slice());
     assert_eq!(rt; fresh.visits.as_slice(), few.visits.as_slice());
+    let (_, room_after) = room_of(few);
+    assert_eq!(rt; room_after, room);
     Ok(())
 }
 
 // Ports in any order, one of them twice and the first one left out.
 #[test]
 fn a_flood_goes_out_in_rising_order(rt: HostRuntime) -> Result<(), Fail> {
-    let sent = sent_to(Plain::empty(rt.alloc()), &[65535, 2, 1, 3, 0, 2])?;
+    let sent = sent_to(SpareLists::new(rt.alloc()), &[65535, 2, 1, 3, 0, 2])?;
     let rising = [0, 2, 2, 3, 65535].map(DpAction::Output);
     assert_eq!(rt; sent.actions.as_slice(), rising.as_slice());
-    let nowhere = sent_to(Plain::empty(rt.alloc()), &[1, 1])?;
+    let nowhere = sent_to(SpareLists::new(rt.alloc()), &[1, 1])?;
     assert_eq!(rt; nowhere.actions.len(), 0);
     Ok(())
 }

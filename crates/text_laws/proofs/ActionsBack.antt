@@ -1,5 +1,5 @@
 -- A printed action is read as that action, of whatever kind.
-use Rattle.std.proofs.Common.{◌≡◌, ℕ, ◌+◌, ◌-◌, ◌<◌, ◌≤◌, ◌^◌, Bool, true, false, cond, List, [], ◌∷◌, ◌++◌, length, refl, sym, subst, ap, ◌∙◌, arith, Some, None, eqb-true}
+use Rattle.std.proofs.Common.{Ok, ◌≡◌, ℕ, ◌+◌, ◌-◌, ◌<◌, ◌≤◌, ◌^◌, Bool, true, false, cond, List, [], ◌∷◌, ◌++◌, length, refl, sym, subst, ap, ◌∙◌, arith, Some, None, eqb-true}
 use Rattle.std.specs.Prelude.{◌&&◌, ◌||◌, ◌==◌, codes, nat_lt, nat_le, bit_and}
 use Rattle.std.specs.List.{list_all, fold}
 use Rattle.std.proofs.lemmas.Bool.{and_parts, both_ways, ltb-true, leb-true}
@@ -19,7 +19,7 @@ use Rattle.spec_flow_text.specs.declared.names.ActionName.TheVariants as action
 use Rattle.spec_flow_text.specs.Names.{name_of, action_named, reserved_port_named}
 use Rattle.spec_flow_text.specs.Values.{Bits, bits, form_of, most_of, value_in, whole_value, value_of}
 use Rattle.spec_flow_text.specs.Actions.{open_after, is_closed, argument_of, set_field, has_tag_bit, is_respellable, actions_of_item}
-use Rattle.spec_flow_text.specs.Printed.{printed_form, value_text, masked_text, mask_text, value_in_text, action_text}
+use Rattle.spec_flow_text.specs.Printed.{printed_form, value_text, masked_text, mask_text, value_in_text}
 use Rattle.text_laws.specs.Spelled.{is_spellable, is_goto}
 use Rattle.text_laws.proofs.ValuesBack.{ReadValues, AreAlike, Fits, IsSpelled, value_has, masked_has, mask_has, no_word, read_as_value, bits_back}
 use Rattle.text_laws.proofs.ItemTexts.{NumberTexts, IsQuiet, quiet, quiet_append, quiet_lacks, quiet_over, quiet_end, item_at, IsReadBack, IsWideEnough, name_quiet, name_there, arrow_there, ends_back, arrow_argument-from, written_back, output_back, output_field_back, in_port_back, all_back, flood_back, resubmit_back, goto_back, move_back, dec_ttl_back, push_vlan_back, pop_vlan_back, set_vid_back, set_pcp_back}
@@ -83,13 +83,16 @@ set_argument at text h = rw h refl
 set_closed : (text : List ℕ) (f : NamedField) → IsQuiet text → fold open_after [] (text ++ hyphen ∷ greater_than ∷ name_of f) ≡ []
 set_closed text f q = quiet_over [] text (hyphen ∷ greater_than ∷ name_of f) refl q ∙ quiet_end (name_of f) (name_quiet f)
 
-set_back : ReadValues → (only last : Bool) (f : NamedField) (b : Bits) → IsSpelled f b → is_written f ≡ true → has_tag_bit f b ≡ true → bit_and b.value b.mask ≡ b.value
-    → IsReadBack only last (Set f b.value b.mask)
+abbrev set_text : NamedField → Bits → List ℕ
+set_text f b = codes "set_field:" ++ (value_in_text f b ++ (codes "->" ++ name_of f))
+
+set_read : ReadValues → (only last : Bool) (f : NamedField) (b : Bits) → IsSpelled f b → is_written f ≡ true → has_tag_bit f b ≡ true → bit_and b.value b.mask ≡ b.value
+    → (at : ℕ) → actions_of_item only last (item_at at (set_text f b)) ≡ Ok (Set f b.value b.mask ∷ [])
 unfolding actions_of_item is_closed set_field
-set_back r only last f b h written tagged inside at =
+set_read r only last f b h written tagged inside at =
     let q = value_quiet r f b h in
     let text = value_in_text f b in
-    let w = item_at at (action_text (Set f b.value b.mask)) in
+    let w = item_at at (set_text f b) in
     let back = at + 9 + 1 + (length text + 2) in
     let there = value_there f b h.alike text (bits_back r f b h) in
     let ends = arrow_argument-from w (item_at (at + 9 + 1) (text ++ hyphen ∷ greater_than ∷ name_of f)) (item_at (at + 9 + 1) text, item_at back (name_of f)) (set_argument at (text ++ hyphen ∷ greater_than ∷ name_of f) (arrow_there text (name_of f))) (ends_back (at + 9 + 1) text (name_of f) (quiet_lacks hyphen text refl q) there (name_there f)) in
@@ -102,6 +105,11 @@ set_back r only last f b h written tagged inside at =
       tagged,
       inside,
     ) refl
+
+set_back : ReadValues → (only last : Bool) (f : NamedField) (b : Bits) → IsSpelled f b → is_written f ≡ true → has_tag_bit f b ≡ true → bit_and b.value b.mask ≡ b.value
+    → IsReadBack only last (Set f b.value b.mask)
+set_back r only last f b h written tagged inside at =
+    ap (λ v. actions_of_item only last (item_at at (set_text f (bits v b.mask)))) inside ∙ set_read r only last f b h written tagged inside at
 
 -- ---- all kinds
 

@@ -1,5 +1,5 @@
 -- A printed list of actions is read as that list.
-use Rattle.std.proofs.Common.{◌≡◌, ℕ, suc, ◌+◌, ◌≤◌, Bool, true, false, cond, List, [], ◌∷◌, ◌++◌, length, drop, refl, sym, subst, ap, ◌∙◌, arith, None, Ok, decimal, append_assoc, append-nil, length-append}
+use Rattle.std.proofs.Common.{eqb-true, ◌≡◌, ℕ, suc, ◌+◌, ◌≤◌, Bool, true, false, cond, List, [], ◌∷◌, ◌++◌, length, drop, refl, sym, subst, ap, ◌∙◌, arith, None, Ok, decimal, append_assoc, append-nil, length-append}
 use Rattle.std.specs.Prelude.{not, ◌&&◌, ◌==◌, codes, nat_le, bit_and, map, position}
 use Rattle.std.specs.List.{list_all, fold, join_with_byte}
 use Rattle.std.specs.Char.{is_ascii}
@@ -15,7 +15,7 @@ use Rattle.spec_numbers.specs.Characters.{comma, number_sign, dot, hyphen, great
 use Rattle.spec_flow_text.specs.Names.{name_of, action_named, reserved_port_named}
 use Rattle.spec_flow_text.specs.Matches.{uncommented}
 use Rattle.spec_flow_text.specs.Items.{Word, is_separator}
-use Rattle.spec_flow_text.specs.Values.{bits}
+use Rattle.spec_flow_text.specs.Values.{bits, within_mask}
 use Rattle.spec_flow_text.specs.Actions.{open_after, ends_item, up_to_end, items, is_closed, actions_of_item, most_actions, is_last, is_respellable, drop_item, read_items, read_actions}
 use Rattle.spec_flow_text.specs.Printed.{value_in_text, slice_text, action_text, actions_printed}
 use Rattle.text_laws.specs.Texts.{is_plain_character}
@@ -125,7 +125,7 @@ slice_stays_end s = ap (stays []) (sym (append-nil (slice_text s))) ∙ slice_st
 
 -- the value of a write is quiet
 abbrev HasQuietValue : OfAction → Type 0
-HasQuietValue (Set f value mask) = IsQuiet (value_in_text f (bits value mask))
+HasQuietValue (Set f value mask) = IsQuiet (value_in_text f (within_mask (bits value mask)))
 HasQuietValue a = Unit {0}
 
 action_stays : (a : OfAction) → HasQuietValue a → stays [] (action_text a) ≡ true
@@ -137,7 +137,7 @@ action_stays Flood q = refl
 action_stays (Resubmit table) q = stays_over (right_parenthesis ∷ []) (decimal table) (right_parenthesis ∷ []) refl (decimal_quiet table)
 action_stays (Goto table) q = stays_end (decimal table) (decimal_quiet table)
 action_stays (Set f value mask) q =
-    stays_over [] (value_in_text f (bits value mask)) (hyphen ∷ greater_than ∷ name_of f) refl q ∙ stays_end (name_of f) (name_quiet f)
+    stays_over [] (value_in_text f (within_mask (bits value mask))) (hyphen ∷ greater_than ∷ name_of f) refl q ∙ stays_end (name_of f) (name_quiet f)
 action_stays (Move source target) q = slice_stays source (hyphen ∷ greater_than ∷ slice_text target) ∙ slice_stays_end target
 action_stays DecTtl q = refl
 action_stays PushVlan q = refl
@@ -164,7 +164,8 @@ action_there (SetPcp pcp) = grind (arith, nat_tests)
 spelled_quiet : ReadValues → (a : OfAction) → is_spellable a ≡ true → HasQuietValue a
 spelled_quiet r (Set f value mask) h =
     let p = and_parts (is_sound (Set f value mask)) (is_respellable (Set f value mask) && (bit_and value mask == value)) h in
-    value_quiet r f (bits value mask) (set_spelled f value mask p.0 (and_parts (is_respellable (Set f value mask)) (bit_and value mask == value) p.1).0)
+    let q = and_parts (is_respellable (Set f value mask)) (bit_and value mask == value) p.1 in
+    subst (λ v. IsQuiet (value_in_text f (bits v mask))) (sym (eqb-true (bit_and value mask) value q.1)) (value_quiet r f (bits value mask) (set_spelled f value mask p.0 q.0))
 spelled_quiet r a h = tt
 
 spelled_stays : ReadValues → (a : OfAction) → is_spellable a ≡ true → stays [] (action_text a) ≡ true

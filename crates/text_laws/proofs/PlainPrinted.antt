@@ -22,7 +22,7 @@ use Rattle.spec_numbers.specs.Characters.{dot, equals_sign, left_bracket, right_
 use Rattle.spec_flow_text.specs.declared.shorthand.Shorthand.{Shorthand}
 use Rattle.spec_flow_text.specs.declared.shorthand.Shorthand.TheVariants as short
 use Rattle.spec_flow_text.specs.Names.{name_of}
-use Rattle.spec_flow_text.specs.Values.{Bits, bits}
+use Rattle.spec_flow_text.specs.Values.{Bits, bits, within_mask}
 use Rattle.spec_flow_text.specs.Printed.{printed_form, value_in_text, Shown, Short, Value, shown_text, shown_bits, bits_of, shorthand_of, own_name, name_after_arp, name_after_icmp, name_after, says_protocol, ecn_bits, none_or_all, shown_part, shown_service, shown_type, shown_field, shown, match_printed, slice_text, action_text, actions_printed}
 use Rattle.text_laws.specs.Texts.{is_plain}
 use Rattle.text_laws.proofs.PlainValues.{ValueTexts, IsPlain, plain_append, decimal_plain, IsWithin, AreWithin, value_in_text_plain, name_plain, named_within, joined_plain}
@@ -45,10 +45,12 @@ action_plain v (Resubmit table) h = plain_append (codes "resubmit(,") (decimal t
 action_plain v (Goto table) h = plain_append (codes "goto_table:") (decimal table) refl (decimal_plain table)
 action_plain v (Set f value mask) h =
     let fits = and_parts (fits_name f value) (fits_name f mask) (and_parts (is_written f) (fits_name f value && fits_name f mask) h).1 in
-    let within : AreWithin (printed_form f) (bits value mask) =
-    (named_within f value (ltb-true value (2 ^ (named f).bits) fits.0), named_within f mask (ltb-true mask (2 ^ (named f).bits) fits.1)) in
-    plain_append (codes "set_field:") (value_in_text f (bits value mask) ++ (codes "->" ++ name_of f)) refl (
-    plain_append (value_in_text f (bits value mask)) (codes "->" ++ name_of f) (value_in_text_plain v f (bits value mask) within) (plain_append (codes "->") (name_of f) refl (name_plain f))
+    let below : bit_and value mask < 2 ^ (named f).bits = omega (arith, ltb-true value (2 ^ (named f).bits) fits.0, and_le_l value mask) in
+    let b = within_mask (bits value mask) in
+    let within : AreWithin (printed_form f) b =
+    (named_within f (bit_and value mask) below, named_within f mask (ltb-true mask (2 ^ (named f).bits) fits.1)) in
+    plain_append (codes "set_field:") (value_in_text f b ++ (codes "->" ++ name_of f)) refl (
+    plain_append (value_in_text f b) (codes "->" ++ name_of f) (value_in_text_plain v f b within) (plain_append (codes "->") (name_of f) refl (name_plain f))
     )
 action_plain v (Move source target) h =
     plain_append (codes "move:") (slice_text source ++ (codes "->" ++ slice_text target)) refl (

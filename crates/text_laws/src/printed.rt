@@ -13,7 +13,8 @@ use value_laws::{
 /// What is printed of a sound list of actions is part of one line: it has visible ASCII alone, without white space and
 /// without a number sign, which would begin a comment.
 pub fn printed_actions_are_one_line()
-    ensures { (actions : List OfAction) → AreSound actions → IsTrue (is_plain (actions_printed actions)) }
+    ensures { (actions : List OfAction) → AreSound actions
+        → IsTrue (is_plain (actions_printed actions)) }
 {
     numbers_have_value_characters();
     addresses_have_value_characters();

@@ -17,7 +17,8 @@ pub fn printed_action_reads_back()
     ensures { (only last : Bool) (place : ℕ) (action : OfAction)
         → IsTrue (is_spellable action)
         → (IsTrue (is_goto action) → IsTrue last)
-        → actions_of_item only last (record { at = place; text = action_text action }) ≡ Ok (action ∷ []) }
+        → actions_of_item only last (record { at = place; text = action_text action })
+        ≡ Ok (action ∷ []) }
 {
     numbers_have_value_characters();
     addresses_have_value_characters();

@@ -17,9 +17,11 @@ pub fn separators_at_the_end_change_nothing()
         → read_match word at line ≡ Ok m → read_match word at (line ++ separator ∷ []) ≡ Ok m }
     ensures actions { (at : ℕ) (line : List ℕ) (separator : ℕ) (actions : List OfAction)
         → IsTrue (is_separator separator)
-        → read_actions at line ≡ Ok actions → read_actions at (line ++ separator ∷ []) ≡ Ok actions }
+        → read_actions at line ≡ Ok actions
+        → read_actions at (line ++ separator ∷ []) ≡ Ok actions }
     ensures edit { (line : List ℕ) (white : ℕ) (edit : Edit)
-        → IsTrue (is_white white) → edit_in line ≡ Ok edit → edit_in (line ++ white ∷ []) ≡ Ok edit }
+        → IsTrue (is_white white) → edit_in line ≡ Ok edit
+        → edit_in (line ++ white ∷ []) ≡ Ok edit }
 {}
 
 /// A separator in front of a match or of a list of actions changes nothing: it is read alike from the place of the
@@ -35,10 +37,13 @@ pub fn separators_in_front_change_nothing()
 
 /// Two separators between words are as good as one, and one at the end is as good as none, whatever separates.
 pub fn words_have_separators_between_them()
-    ensures between { (separates : ℕ → Bool) (fresh : Bool) (at : ℕ) (front back : List ℕ) (one other : ℕ)
+    ensures between { (separates : ℕ → Bool) (fresh : Bool) (at : ℕ)
+        (front back : List ℕ) (one other : ℕ)
         → IsTrue (separates one) → IsTrue (separates other)
-        → texts_of (words separates fresh at (front ++ one ∷ other ∷ back)) ≡ texts_of (words separates fresh at (front ++ one ∷ back)) }
-    ensures at_the_end { (separates : ℕ → Bool) (fresh : Bool) (at : ℕ) (text : List ℕ) (separator : ℕ)
+        → texts_of (words separates fresh at (front ++ one ∷ other ∷ back))
+        ≡ texts_of (words separates fresh at (front ++ one ∷ back)) }
+    ensures at_the_end { (separates : ℕ → Bool) (fresh : Bool) (at : ℕ)
+        (text : List ℕ) (separator : ℕ)
         → IsTrue (separates separator)
         → words separates fresh at (text ++ separator ∷ []) ≡ words separates fresh at text }
 {}

@@ -33,7 +33,8 @@ spelled_enough (suc j) (suc k) n acc p q = elim (cases_lt n 16) [
   | inr le ↦ spelled_next (suc j) n acc le ∙ spelled_enough j k (n / 16) (last_glyph n ∷ acc) (omega arith) (omega arith) ∙ sym (spelled_next (suc k) n acc le)
 ]
 
-digits_step : (n : ℕ) → 16 ≤ n → n < 2 ^ 128 → digits 16 false n ≡ digits 16 false (n / 16) ++ (digit_char (n % 16) ∷ [])
+-- the digits of the rest of a number, and then its last one
+pub digits_step : (n : ℕ) → 16 ≤ n → n < 2 ^ 128 → digits 16 false n ≡ digits 16 false (n / 16) ++ (digit_char (n % 16) ∷ [])
 unfolding digits
 digits_step n le small =
     spelled_next 63 n [] le ∙ spelled_enough 62 63 (n / 16) (last_glyph n ∷ []) (omega arith) (omega arith) ∙ spelled-append 64 (n / 16) (last_glyph n ∷ [])
@@ -41,9 +42,3 @@ digits_step n le small =
 pub digits_last : (n : ℕ) → n < 16 → digits 16 false n ≡ digit_char n ∷ []
 unfolding digits
 digits_last n lt = let same : n % 16 ≡ n = omega arith in spelled_last 63 n [] lt ∙ ap (λ d. digit_char d ∷ []) same
-
--- the digits of the rest of a number, and then its last one
-pub last_digit_after : (n : ℕ) (old mid new : List ℕ) → 16 ≤ n → n < 2 ^ 128 → mid ≡ old ++ digits 16 false (n / 16) → new ≡ mid ++ (digit_char (n % 16) ∷ []) → new ≡ old ++ digits 16 false n
-last_digit_after n old mid new le small front last =
-    last ∙ ap (λ t. t ++ (digit_char (n % 16) ∷ [])) front ∙ append_assoc old (digits 16 false (n / 16)) (digit_char (n % 16) ∷ [])
-    ∙ ap (λ t. old ++ t) (sym (digits_step n le small))

@@ -33,5 +33,5 @@ pub use numbers::{
 };
 pub use printing::{
     print_decimal, print_hexadecimal, print_hexadecimal4, print_ipv4, print_ipv4_mask, print_ipv6,
-    print_ipv6_mask, print_mac,
+    print_ipv6_mask, print_mac, print_word,
 };

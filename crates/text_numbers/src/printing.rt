@@ -3,16 +3,22 @@ ghost use Rattle.std.specs.Char.{digit_char};
 ghost use Rattle.std.specs.Fmt.{decimal};
 ghost use Rattle.spec_numbers.specs.Characters.{dot, colon};
 ghost use Rattle.spec_numbers.specs.Printed.{hexadecimal_digits, hexadecimal, octet_digits, hexadecimal4, mac_text, ipv4_text, group_at, ipv6_text, prefix_length_of, ipv4_mask_text, ipv6_mask_text};
-ghost use Rattle.text_numbers.specs.Prefix.{IsPrefix};
+ghost use Rattle.text_numbers.specs.Added.{Adds};
 
 use crate::addresses::{GROUP_BASE, ipv4_prefix, ipv6_prefix};
 use itoa::Buffer;
 use std::alloc::AllocError;
 
+/// Adds a word.
+pub fn print_word(out: &mut String, word: &str) -> Result<(), AllocError>
+    ensures { Adds out.old out.new word.now result }
+{
+    out.push_str(word)
+}
+
 /// Adds a number in decimal.
 pub fn print_decimal(out: &mut String, number: u128) -> Result<(), AllocError>
-    ensures text { OnOk result (string_bytes out.new ≡ string_bytes out.old ++ decimal number) }
-    ensures kept { OnErr result (IsPrefix (string_bytes out.old) (string_bytes out.new)) }
+    ensures { Adds out.old out.new (decimal number) result }
 {
     let mut buffer = Buffer::new();
     out.push_str(buffer.format(number))
@@ -20,16 +26,14 @@ pub fn print_decimal(out: &mut String, number: u128) -> Result<(), AllocError>
 
 fn print_digit(out: &mut String, digit: u32) -> Result<(), AllocError>
     requires { digit < 16 }
-    ensures text { OnOk result (string_bytes out.new ≡ string_bytes out.old ++ digit_char digit ∷ []) }
-    ensures kept { OnErr result (IsPrefix (string_bytes out.old) (string_bytes out.new)) }
+    ensures { Adds out.old out.new (digit_char digit ∷ []) result }
 {
     out.push(char::from_digit(digit, 16).unwrap())
 }
 
 #[tactic(auto, using(crate::proofs::HexadecimalDigits::digits_last))]
 fn print_hexadecimal_digits(out: &mut String, number: u128) -> Result<(), AllocError>
-    ensures text { OnOk result (string_bytes out.new ≡ string_bytes out.old ++ hexadecimal_digits number) }
-    ensures kept { OnErr result (IsPrefix (string_bytes out.old) (string_bytes out.new)) }
+    ensures { Adds out.old out.new (hexadecimal_digits number) result }
 {
     if number < 16 {
         return print_digit(out, number as u32);
@@ -41,16 +45,14 @@ fn print_hexadecimal_digits(out: &mut String, number: u128) -> Result<(), AllocE
 /// Adds `0x` and the hexadecimal digits of a number, in lower case and without leading zeros.
 #[tactic(auto, unfolding(spec_numbers::specs::Printed::hexadecimal))]
 pub fn print_hexadecimal(out: &mut String, number: u128) -> Result<(), AllocError>
-    ensures text { OnOk result (string_bytes out.new ≡ string_bytes out.old ++ hexadecimal number) }
-    ensures kept { OnErr result (IsPrefix (string_bytes out.old) (string_bytes out.new)) }
+    ensures { Adds out.old out.new (hexadecimal number) result }
 {
-    out.push_str("0x")?;
+    print_word(out, "0x")?;
     print_hexadecimal_digits(out, number)
 }
 
 fn print_octet_digits(out: &mut String, octet: u8) -> Result<(), AllocError>
-    ensures text { OnOk result (string_bytes out.new ≡ string_bytes out.old ++ octet_digits octet) }
-    ensures kept { OnErr result (IsPrefix (string_bytes out.old) (string_bytes out.new)) }
+    ensures { Adds out.old out.new (octet_digits octet) result }
 {
     print_digit(out, u32::from(octet / 16))?;
     print_digit(out, u32::from(octet % 16))
@@ -59,19 +61,17 @@ fn print_octet_digits(out: &mut String, octet: u8) -> Result<(), AllocError>
 /// Adds `0x` and the four hexadecimal digits of a number, in lower case.
 #[tactic(auto, unfolding(spec_numbers::specs::Printed::hexadecimal4))]
 pub fn print_hexadecimal4(out: &mut String, number: u16) -> Result<(), AllocError>
-    ensures text { OnOk result (string_bytes out.new ≡ string_bytes out.old ++ hexadecimal4 number) }
-    ensures kept { OnErr result (IsPrefix (string_bytes out.old) (string_bytes out.new)) }
+    ensures { Adds out.old out.new (hexadecimal4 number) result }
 {
-    out.push_str("0x")?;
+    print_word(out, "0x")?;
     print_octet_digits(out, (number / 256) as u8)?;
     print_octet_digits(out, (number % 256) as u8)
 }
 
 fn print_octet_after_colon(out: &mut String, octet: u8) -> Result<(), AllocError>
-    ensures text { OnOk result (string_bytes out.new ≡ string_bytes out.old ++ colon ∷ octet_digits octet) }
-    ensures kept { OnErr result (IsPrefix (string_bytes out.old) (string_bytes out.new)) }
+    ensures { Adds out.old out.new (colon ∷ octet_digits octet) result }
 {
-    out.push(':')?;
+    print_word(out, ":")?;
     print_octet_digits(out, octet)
 }
 
@@ -79,8 +79,7 @@ fn print_octet_after_colon(out: &mut String, octet: u8) -> Result<(), AllocError
 /// colons between them.
 #[tactic(auto, unfolding(spec_numbers::specs::Printed::mac_text))]
 pub fn print_mac(out: &mut String, address: u64) -> Result<(), AllocError>
-    ensures text { OnOk result (string_bytes out.new ≡ string_bytes out.old ++ mac_text address) }
-    ensures kept { OnErr result (IsPrefix (string_bytes out.old) (string_bytes out.new)) }
+    ensures { Adds out.old out.new (mac_text address) result }
 {
     let [_, _, a, b, c, d, e, f] = address.to_be_bytes();
     print_octet_digits(out, a)?;
@@ -92,18 +91,16 @@ pub fn print_mac(out: &mut String, address: u64) -> Result<(), AllocError>
 }
 
 fn print_octet_after_dot(out: &mut String, octet: u8) -> Result<(), AllocError>
-    ensures text { OnOk result (string_bytes out.new ≡ string_bytes out.old ++ dot ∷ decimal octet) }
-    ensures kept { OnErr result (IsPrefix (string_bytes out.old) (string_bytes out.new)) }
+    ensures { Adds out.old out.new (dot ∷ decimal octet) result }
 {
-    out.push('.')?;
+    print_word(out, ".")?;
     print_decimal(out, u128::from(octet))
 }
 
 /// Adds an IPv4 address in dotted decimal.
 #[tactic(auto, unfolding(spec_numbers::specs::Printed::ipv4_text))]
 pub fn print_ipv4(out: &mut String, address: u32) -> Result<(), AllocError>
-    ensures text { OnOk result (string_bytes out.new ≡ string_bytes out.old ++ ipv4_text address) }
-    ensures kept { OnErr result (IsPrefix (string_bytes out.old) (string_bytes out.new)) }
+    ensures { Adds out.old out.new (ipv4_text address) result }
 {
     let [a, b, c, d] = address.to_be_bytes();
     print_decimal(out, u128::from(a))?;
@@ -115,20 +112,16 @@ pub fn print_ipv4(out: &mut String, address: u32) -> Result<(), AllocError>
 // A group of an IPv6 address, counted from the last one.
 fn print_group(out: &mut String, address: u128, place: u32) -> Result<(), AllocError>
     requires { place < 8 }
-    ensures text { OnOk result
-        (string_bytes out.new ≡ string_bytes out.old ++ hexadecimal_digits (group_at place address)) }
-    ensures kept { OnErr result (IsPrefix (string_bytes out.old) (string_bytes out.new)) }
+    ensures { Adds out.old out.new (hexadecimal_digits (group_at place address)) result }
 {
     print_hexadecimal_digits(out, address / GROUP_BASE.pow(place) % GROUP_BASE)
 }
 
 fn print_group_after_colon(out: &mut String, address: u128, place: u32) -> Result<(), AllocError>
     requires { place < 8 }
-    ensures text { OnOk result
-        (string_bytes out.new ≡ string_bytes out.old ++ colon ∷ hexadecimal_digits (group_at place address)) }
-    ensures kept { OnErr result (IsPrefix (string_bytes out.old) (string_bytes out.new)) }
+    ensures { Adds out.old out.new (colon ∷ hexadecimal_digits (group_at place address)) result }
 {
-    out.push(':')?;
+    print_word(out, ":")?;
     print_group(out, address, place)
 }
 
@@ -136,8 +129,7 @@ fn print_group_after_colon(out: &mut String, address: u128, place: u32) -> Resul
 /// them. No `::` is written.
 #[tactic(auto, unfolding(spec_numbers::specs::Printed::ipv6_text))]
 pub fn print_ipv6(out: &mut String, address: u128) -> Result<(), AllocError>
-    ensures text { OnOk result (string_bytes out.new ≡ string_bytes out.old ++ ipv6_text address) }
-    ensures kept { OnErr result (IsPrefix (string_bytes out.old) (string_bytes out.new)) }
+    ensures { Adds out.old out.new (ipv6_text address) result }
 {
     print_group(out, address, 7)?;
     print_group_after_colon(out, address, 6)?;
@@ -179,8 +171,7 @@ fn ipv6_prefix_length(mask: u128) -> Option<u32>
 /// Adds a mask of an IPv4 address: the length where it is that of a prefix, and else an address.
 #[tactic(auto, unfolding(spec_numbers::specs::Printed::ipv4_mask_text))]
 pub fn print_ipv4_mask(out: &mut String, mask: u32) -> Result<(), AllocError>
-    ensures text { OnOk result (string_bytes out.new ≡ string_bytes out.old ++ ipv4_mask_text mask) }
-    ensures kept { OnErr result (IsPrefix (string_bytes out.old) (string_bytes out.new)) }
+    ensures { Adds out.old out.new (ipv4_mask_text mask) result }
 {
     match ipv4_prefix_length(mask) {
         Some(length) => print_decimal(out, u128::from(length)),
@@ -191,8 +182,7 @@ pub fn print_ipv4_mask(out: &mut String, mask: u32) -> Result<(), AllocError>
 /// Adds a mask of an IPv6 address: the length where it is that of a prefix, and else an address.
 #[tactic(auto, unfolding(spec_numbers::specs::Printed::ipv6_mask_text))]
 pub fn print_ipv6_mask(out: &mut String, mask: u128) -> Result<(), AllocError>
-    ensures text { OnOk result (string_bytes out.new ≡ string_bytes out.old ++ ipv6_mask_text mask) }
-    ensures kept { OnErr result (IsPrefix (string_bytes out.old) (string_bytes out.new)) }
+    ensures { Adds out.old out.new (ipv6_mask_text mask) result }
 {
     match ipv6_prefix_length(mask) {
         Some(length) => print_decimal(out, u128::from(length)),

@@ -31,6 +31,19 @@ fn actions_of_a_line_and_their_text(rt: HostRuntime) -> Result<(), Fail> {
 }
 
 #[test]
+fn bits_of_a_write_outside_its_mask_are_printed_as_0(rt: HostRuntime) -> Result<(), Fail> {
+    let write = OfAction::Set {
+        name: NamedField::Reg0,
+        value: 5,
+        mask: 3,
+    };
+    let mut text = String::new(rt.alloc());
+    print_actions(&[write], &mut text)?;
+    assert_eq!(rt; text.as_str(), "set_field:0x1/0x3->reg0");
+    Ok(())
+}
+
+#[test]
 fn a_fault_has_its_column_in_the_line(rt: HostRuntime) -> Result<(), Fail> {
     let line = b"actions=1,set_field:1->foo";
     match read_actions(rt.alloc(), line, 8) {

@@ -35,11 +35,17 @@ fn datapath_actions_have_their_texts(rt: HostRuntime) -> Result<(), Fail> {
             mask: 0xff,
         },
         DpAction::Output(3),
+        DpAction::Set {
+            field: FieldId::Reg0,
+            value: 5,
+            mask: 3,
+        },
     ];
     print_dp_actions(&written, &mut text)?;
     let expected = "drop\npush_vlan(vid=5,pcp=0),2\n\
         set(dl_dst=00:00:00:00:00:00/00:00:00:00:00:05),pop_vlan,set(nw_src=0.0.0.8/0.0.0.8),\
-        set(nw_ttl=0x3f/0x7f),2,set(nw_ttl=255),3";
+        set(nw_ttl=0x3f/0x7f),2,set(nw_ttl=255),3,\
+        set(reg0=0x1/0x3)";
     assert_eq!(rt; text.as_str(), expected);
     Ok(())
 }

@@ -1,26 +1,15 @@
 //! A run, carried out several times.
-ghost use Rattle.std.specs.Prelude.{◌≡◌, ◌≤◌, length, map, nat_eq, IfOk};
-ghost use Rattle.std.specs.List.{IsDistinct};
+ghost use Rattle.std.specs.Prelude.{◌≡◌};
 ghost use Rattle.switch_input.specs.InputViews.{accepted_view, IsBuilt};
 
 use crate::counts::Counts;
 use crate::words::Command;
-use run_case::{Case, Ports, RunData};
+use run_case::{Case, RunData};
 use run_edits::RunEdits;
 use std::alloc::{AllocError, Global};
 use std::marker::Brand;
-use step_runner::finish;
-use switch_input::{Inputs, PortWord};
-
-/// The ports of words, in their order.
-fn ports_of(alloc: Global, words: &[PortWord<'_>]) -> Result<Ports, AllocError>
-    requires some { 1 ≤ length words.now }
-    requires distinct { IsDistinct nat_eq (map (λ w. w.port) words.now) }
-    ensures { IfOk result (λ ports. ports ≡ map (λ w. w.port) words.now) }
-{
-    let list = words.iter().map(|w| w.port).collect(alloc)?;
-    Ok(Ports::new(list))
-}
+use step_runner::finish_from_new;
+use switch_input::{Inputs, ports_of};
 
 /// What becomes of the frames of a run under a name, in so many rounds together.
 fn counts_in_rounds<C: Case>(
@@ -42,7 +31,8 @@ fn counts_in_rounds<C: Case>(
     let run = RunData::<C>::new(alloc, ports, edits.count(), script.syncs, traces)?;
     let mut counts = Counts::new();
     'rounds: for _ in 0..rounds {
-        for board in &finish(alloc, &run, &edits, flow_limit)? {
+        let finished = finish_from_new(alloc, &run, &edits, flow_limit)?;
+        for board in finished.boards() {
             counts.add_board(&run, board);
         }
     }

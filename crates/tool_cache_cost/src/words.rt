@@ -4,8 +4,8 @@ ghost use Rattle.switch_input.specs.InputViews.{IsBuilt};
 
 use anyhow::{Result, anyhow};
 use edge_real::RealShelf;
-use tool_input::{number_of, split_rounds};
 use switch_input::{Inputs, read_inputs};
+use tool_input::{number_of, split_rounds};
 
 /// What the words of the command line say, and what their files have.
 #[derive(Drop)]

@@ -7,15 +7,15 @@
 
 ghost use Rattle.std.specs.Prelude.{IsTrue};
 ghost use Rattle.std.specs.List.{list_all};
-ghost use Rattle.edit_script.specs.Plain.{has_sound_actions};
+ghost use Rattle.spec_tables.specs.Edits.{has_sound_actions};
 
 use action_text::print_actions;
 use anyhow::{Result, bail};
 use edit_script::Edit;
 use match_text::print_match;
-use tool_input::read_edits;
 use std::alloc::AllocError;
 use std::env;
+use tool_input::read_edits;
 
 /// Adds the line of an edit.
 fn print_edit(edit: &Edit, text: &mut String) -> Result<(), AllocError>

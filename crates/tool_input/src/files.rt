@@ -1,7 +1,7 @@
 //! Files read whole.
 ghost use Rattle.std.specs.Prelude.{◌^◌, ◌≤◌, length, IfOk, IsTrue};
 ghost use Rattle.std.specs.List.{list_all};
-ghost use Rattle.edit_script.specs.Plain.{has_sound_actions};
+ghost use Rattle.spec_tables.specs.Edits.{has_sound_actions};
 ghost use Rattle.spec_script.specs.Script.{most_edits};
 
 use anyhow::{Result, anyhow};

@@ -11,11 +11,11 @@ ghost use Rattle.std.specs.Prelude.{◌^◌, ◌≤◌, length};
 
 use anyhow::{Result, bail};
 use frame_keys::key_of;
-use tool_input::{number_of, read_capture};
 use ovs_fields::{FieldId, Key, all_fields};
 use pcap_reader::Trace;
 use std::alloc::Global;
 use std::env;
+use tool_input::{number_of, read_capture};
 
 /// The port at which all frames come in.
 const PORT: u16 = 1;

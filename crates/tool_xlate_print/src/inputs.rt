@@ -1,7 +1,7 @@
 //! What the files of the command have: the tables that edits make, and the keys of frames.
 ghost use Rattle.std.specs.Prelude.{◌≤◌, ◌^◌, length, IfOk, IsTrue};
 ghost use Rattle.std.specs.List.{list_all};
-ghost use Rattle.edit_script.specs.Plain.{has_sound_actions};
+ghost use Rattle.spec_tables.specs.Edits.{has_sound_actions};
 ghost use Rattle.spec_script.specs.Script.{most_edits};
 ghost use Rattle.pipe_model.specs.Runnable.{AreRunnable};
 

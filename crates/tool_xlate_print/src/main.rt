@@ -20,8 +20,8 @@ use crate::inputs::{keys_of, tables_of};
 use crate::translations::{text_of, visits_in_rounds};
 use crate::words::read_command;
 use anyhow::Result;
-use tool_input::{read_capture, read_edits};
 use std::env;
+use tool_input::{read_capture, read_edits};
 
 fn main(rt: HostRuntime) -> Result<()> {
     let words: Vec<String> = env::args(&rt)?.skip(1).collect(rt.alloc())?;

@@ -5,11 +5,11 @@ ghost use Rattle.pipe_model.specs.Runnable.{AreRunnable};
 
 use dp_text::{print_dp_actions, translation_is_within_fields};
 use ovs_fields::{Key, Mask, all_fields};
-use pipe_model::Plain;
+use pipe_model::{SpareLists, Translated};
 use std::alloc::{AllocError, Global};
 use std::fmt::Write;
 use tuple_classifier::Tables;
-use xlate_pipeline::{Translated, translate};
+use xlate_pipeline::translate;
 
 /// The translation of a packet, whose actions can be printed.
 fn translated(
@@ -22,7 +22,7 @@ fn translated(
     ensures { IfOk result (λ x. AreWithinFields x.translation.actions) }
 {
     translation_is_within_fields();
-    let made = translate(Plain::empty(alloc), tables, ports, key)?;
+    let made = translate(SpareLists::new(alloc), tables, ports, key)?;
     Ok(made)
 }
 
@@ -78,7 +78,7 @@ pub fn text_of(
 /// The lists of the last translation, and how many rules were visited so far.
 #[derive(Drop)]
 struct Visiting {
-    lists: Plain,
+    lists: SpareLists,
     visits: u64,
 }
 
@@ -98,7 +98,8 @@ fn visit_round(
     for key in keys {
         let made = translate(lists, tables, ports, key)?;
         visits = visits.saturating_add(made.visits().as_slice().len() as u64);
-        lists = made.into_plain();
+        let (made, _) = made.into_parts();
+        lists = made.into_spare();
     }
     Ok(Visiting { lists, visits })
 }
@@ -117,7 +118,7 @@ pub fn visits_in_rounds(
     requires { AreRunnable tables.now.rules }
 {
     let mut so_far = Visiting {
-        lists: Plain::empty(alloc),
+        lists: SpareLists::new(alloc),
         visits: 0,
     };
     for _ in 0..rounds {

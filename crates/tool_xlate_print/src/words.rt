@@ -1,7 +1,7 @@
 //! The words of the command line.
 use anyhow::{Result, anyhow, bail};
-use tool_input::split_rounds;
 use std::alloc::Global;
+use tool_input::split_rounds;
 
 const USE: &str = "use: tool_xlate_print EDITS TRACE PORT PORTS.. [--rounds=N]";
 

@@ -16,7 +16,8 @@ use Rattle.spec_keys.specs.Protocols.{tag_bit}
 use Rattle.spec_xlate.specs.Tags.{tag_fields, is_tag, is_tag_field, tagged, is_full}
 use Rattle.spec_keys.specs.Protocols.{ipv4_type, ipv6_type, arp_type, icmp_protocol, tcp_protocol, udp_protocol, icmp6_protocol}
 use Rattle.spec_xlate.specs.Needs.{is_met, fields_needed}
-use Rattle.spec_xlate.specs.Translation.{Switch, State, Mode, in_field, slice_bits, slice_of, merged, written, written_bits, write, vid_bits, pcp_bits, pcp_unit, write_tag, lower_ttl, act}
+use Rattle.spec_base.specs.Bits.{merged}
+use Rattle.spec_xlate.specs.Translation.{Switch, State, Mode, in_field, slice_bits, slice_of, written, written_bits, write, vid_bits, pcp_bits, pcp_unit, write_tag, lower_ttl, act}
 use Rattle.spec_xlate.specs.Lookup.{when}
 use Rattle.spec_xlate.specs.Consulted.{whole, bits_written, slice_read, under, write_bits, act_bits}
 use Rattle.translation_laws.proofs.KeyLaws.{SameBits, and_zero, only_at-same, SameBits-append}

@@ -12,7 +12,7 @@ use Rattle.spec_actions.specs.declared.action.DpAction.{DpAction}
 use Rattle.spec_actions.specs.declared.action.DpAction.TheVariants.{Set, PopVlan, PushVlan}
 use Rattle.spec_xlate.specs.Tags.{VlanTag, tag_fields, tags_of, is_tag, outer_tags, commit_tags}
 use Rattle.spec_xlate.specs.Commit.{fields_before_tags, fields_after_tags, commit, commit_field, commit_fields}
-use Rattle.spec_xlate.specs.Translation.{merged}
+use Rattle.spec_base.specs.Bits.{merged}
 use Rattle.translation_laws.proofs.KeyLaws.{SameBits, masked_from-places, places_from-masked}
 
 -- ---- the invariant

@@ -1,10 +1,7 @@
--- Elements of lists, by recursion.
+-- Elements of lists.
 use Rattle.std.proofs.Common.{◌≡◌, ℕ, zero, suc, ◌<◌, Bool, true, false, ◌||◌, if◌then◌else◌, List, [], ◌∷◌, ◌++◌, length, get_or, Contains, All, map, filter, ◌⊎◌, inl, inr, refl, sym, ap, ◌∙◌, subst, arith}
 use Rattle.std.specs.List.{flat_map, list_any}
-
-abbrev pub Among : {X : Type 0} → X → List X → Type 0
-Among x [] = ⊥
-Among x (y ∷ ys) = (x ≡ y) ⊎ Among x ys
+pub use Rattle.translation_laws.specs.Members.{Among}
 
 pub Among_from-Contains : {X : Type 0} (xs : List X) (x : X) → Contains xs x → Among x xs
 Among_from-Contains {X} xs x h = at xs h.0 h.1 h.2

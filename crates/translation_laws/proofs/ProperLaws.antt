@@ -16,7 +16,8 @@ use Rattle.spec_keys.specs.Protocols.{tag_bit}
 use Rattle.spec_xlate.specs.Tags.{is_tag, is_tag_field, tagged, is_full}
 use Rattle.spec_xlate.specs.Needs.{is_met}
 use Rattle.spec_xlate.specs.Commit.{commit}
-use Rattle.spec_xlate.specs.Translation.{Switch, State, Mode, action_limit, emit, emit_all, committed, in_port_of, is_other_port, other_ports, output, output_all, slice_bits, slice_of, merged, written, in_field, written_bits, write, vid_bits, pcp_bits, pcp_unit, write_tag, lower_ttl, act, in_mode, run, visited, follow, with_lookups_left, enter, look}
+use Rattle.spec_base.specs.Bits.{merged}
+use Rattle.spec_xlate.specs.Translation.{Switch, State, Mode, action_limit, emit, emit_all, committed, in_port_of, is_other_port, other_ports, output, output_all, slice_bits, slice_of, written, in_field, written_bits, write, vid_bits, pcp_bits, pcp_unit, write_tag, lower_ttl, act, in_mode, run, visited, follow, with_lookups_left, enter, look}
 use Rattle.spec_xlate.specs.Translation.Mode.{Going, ListEnded, Stopped}
 use Rattle.translation_laws.specs.Applied.{is_proper, HasProperTags}
 use Rattle.translation_laws.proofs.KeysAlike.{set-beyond, eqb-false}

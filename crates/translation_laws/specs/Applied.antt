@@ -9,7 +9,8 @@ use Rattle.spec_actions.specs.declared.action.DpAction.{DpAction}
 use Rattle.spec_actions.specs.declared.action.DpAction.TheVariants.{Output, PopVlan, PushVlan, Set}
 use Rattle.spec_xlate.specs.Tags.{is_tag, tag_fields, tagged, popped}
 use Rattle.spec_xlate.specs.Commit.{fields_before_tags, fields_after_tags}
-use Rattle.spec_xlate.specs.Translation.{State, merged}
+use Rattle.spec_base.specs.Bits.{merged}
+use Rattle.spec_xlate.specs.Translation.{State}
 
 -- the key of a frame after a datapath action
 abbrev pub after_action : List ℕ → DpAction → List ℕ

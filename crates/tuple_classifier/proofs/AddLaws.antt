@@ -19,7 +19,7 @@ use Rattle.tuple_classifier.specs.declared.subtable.Subtable.{Subtable}
 use Rattle.tuple_classifier.specs.ByTable.{AreClassified, CountMoreRules}
 use Rattle.tuple_classifier.specs.Live.{live_view, live_rules, plain_rule, plain_rules, IsRising, AreIdentified}
 use Rattle.tuple_classifier.specs.Parts.{of_mask}
-use Rattle.tuple_classifier.specs.Sound.{AreSound}
+use Rattle.tuple_classifier.specs.Held.{AreTablesOf}
 use Rattle.tuple_classifier.specs.Stages.{IsStage, CountsFewer}
 use Rattle.tuple_classifier.proofs.EditLaws.{is_unnamed, unnamed_rules, last_list, more_lists}
 use Rattle.tuple_classifier.proofs.LiveLaws.{plain_rising, seen_rising, rising_kept}
@@ -62,7 +62,7 @@ counts_more rules ts is few table i s at =
       network = counts_fewer s.indexes.network _ _ _ _ of.indexed.network fewer;
     }
 
-pub few_rules : (version : ℕ) (live : List LiveRule) (lists : List (List OfAction)) (ts : List (Vec Subtable Global)) → AreSound version live lists ts → version + 1 < 2 ^ 32 → length (plain_rules live) < 2 ^ 63
+pub few_rules : (version : ℕ) (live : List LiveRule) (lists : List (List OfAction)) (ts : List (Vec Subtable Global)) → AreTablesOf version live lists ts → version + 1 < 2 ^ 32 → length (plain_rules live) < 2 ^ 63
 few_rules version live lists ts is room =
     let few = few_from (live_rules lists live) 0 version (omega arith) is.of_version.rising (λ r m. omega arith) is.of_version.numbered in
     let a = length-map live (live_view lists) in
@@ -88,7 +88,7 @@ match_turned m n is =
 pub plain_more : (live : List LiveRule) (l : LiveRule) → plain_rules (live ++ l ∷ []) ≡ plain_rules live ++ plain_rule l ∷ []
 plain_more live l = map-append plain_rule live (l ∷ [])
 
-module _ (e : Edit) (version : ℕ) (live : List LiveRule) (lists : List (List OfAction)) (ts : List (Vec Subtable Global)) (is : AreSound version live lists ts) (l : LiveRule)
+module _ (e : Edit) (version : ℕ) (live : List LiveRule) (lists : List (List OfAction)) (ts : List (Vec Subtable Global)) (is : AreTablesOf version live lists ts) (l : LiveRule)
     (view : (actions : List OfAction) → rule_view l.rule actions ≡ record (rule_of (version + 1) e) { actions = actions }) where
   pub number_is : l.rule.number ≡ version + 1
   number_is = ap (λ (r : Rule). r.number) (view [])
@@ -141,10 +141,10 @@ module _ (e : Edit) (version : ℕ) (live : List LiveRule) (lists : List (List O
 
   module _ (x : List OfAction) (given : l.given ≡ length lists) where
     pub sound_added : (live' : List LiveRule) (lists' : List (List OfAction)) (ts' : List (Vec Subtable Global)) → live' ≡ filter (is_unnamed e) live ++ l ∷ [] → lists' ≡ lists ++ x ∷ []
-        → AreClassified ts' (plain_rules live') → AreSound (version + 1) live' lists' ts'
+        → AreClassified ts' (plain_rules live') → AreTablesOf (version + 1) live' lists' ts'
     sound_added live' lists' ts' is_live is_lists classified =
-        subst (λ (k : List LiveRule). AreClassified ts' (plain_rules k) → AreSound (version + 1) k lists' ts') (sym is_live)
-        (λ c. subst (λ (k : List (List OfAction)). AreSound (version + 1) (filter (is_unnamed e) live ++ l ∷ []) k ts') (sym is_lists) (record {
+        subst (λ (k : List LiveRule). AreClassified ts' (plain_rules k) → AreTablesOf (version + 1) k lists' ts') (sym is_live)
+        (λ c. subst (λ (k : List (List OfAction)). AreTablesOf (version + 1) (filter (is_unnamed e) live ++ l ∷ []) k ts') (sym is_lists) (record {
           of_version = record { rising = rising; numbered = numbered; identified = identified };
           given = given_all;
           few_lists = (let few = is.few_lists in let n = length-append lists (x ∷ []) in omega (arith, few, n));

@@ -14,7 +14,7 @@ use Rattle.translation_laws.proofs.MemberLaws.{Among, All-Among, All_from-Among}
 use Rattle.tuple_classifier.specs.declared.sorted.Counted.{Counted}
 use Rattle.tuple_classifier.specs.Numbers.{times, numbers_in, entry_numbers, entry_counts}
 use Rattle.tuple_classifier.proofs.FieldLaws.{stands, stood}
-use Rattle.tuple_classifier.proofs.Nearest.{IsPlace, IsBeyond, stands_before}
+use Rattle.tuple_classifier.proofs.Nearest.{IsBeyond, stands_before}
 use Rattle.tuple_classifier.proofs.Members.{any-append, any_among, any_from}
 
 -- ---- how often a number stands among them
@@ -137,13 +137,6 @@ counted_inserted cs i e within some counted k d lt = by (cases_lt k i) (cases_lt
         rw (at, get_or-insert_above cs i e d (k - 1) (omega (arith, b)) within) (counted (k - 1) d (omega (arith, b, l, lt)))
 
 -- ---- places among them
-
-pub is_place : (x : ℕ) (cs ds : List Counted) (i : ℕ) → ds ≡ cs → i ≤ length ds → ((k : ℕ) → k < i → get_or (entry_numbers ds) k 0 < x)
-    → ((k : ℕ) → i ≤ k → k < length ds → x ≤ get_or (entry_numbers ds) k 0) → IsPlace x (entry_numbers cs) i
-is_place x cs ds i same within below from =
-    let l = length-map ds (λ (c : Counted). c.number) in
-    subst (λ (es : List Counted). IsPlace x (entry_numbers es) i) same
-    (record { within = omega (arith, l, within); below = below; from = λ k le lt. from k le (omega (arith, l, lt)) })
 
 pub is_beyond : (x : ℕ) (cs ds : List Counted) (i : ℕ) → ds ≡ cs → i ≤ length ds → ((k : ℕ) → k < i → get_or (entry_numbers ds) k 0 ≤ x)
     → ((k : ℕ) → i ≤ k → k < length ds → x < get_or (entry_numbers ds) k 0) → IsBeyond x (entry_numbers cs) i

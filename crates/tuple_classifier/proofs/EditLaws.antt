@@ -22,7 +22,7 @@ use Rattle.tuple_classifier.specs.declared.live.LiveRule.{LiveRule}
 use Rattle.tuple_classifier.specs.declared.subtable.Subtable.{Subtable}
 use Rattle.tuple_classifier.specs.ByTable.{AreClassified}
 use Rattle.tuple_classifier.specs.Live.{live_view, live_rules, plain_rule, plain_rules, is_kept, is_unlike, given_by, IsRising, AreIdentified, AreOfVersion}
-use Rattle.tuple_classifier.specs.Sound.{AreSound}
+use Rattle.tuple_classifier.specs.Held.{AreTablesOf}
 use Rattle.tuple_classifier.proofs.Lengths.{not_equal}
 use Rattle.tuple_classifier.proofs.LiveLaws.{rising_kept, plain_rising, seen_rising, map_filter, rising_distinct}
 use Rattle.tuple_classifier.proofs.Members.{among_map, same_tests}
@@ -31,9 +31,9 @@ use Rattle.tuple_classifier.proofs.WinnerLaws.{one_of_number}
 -- ---- the parts moved
 
 pub sound_moved : (version : ℕ) (live live' : List LiveRule) (lists lists' : List (List OfAction)) (ts ts' : List (Vec Subtable Global)) → live' ≡ live → lists' ≡ lists
-    → AreClassified ts' (plain_rules live) → AreSound version live lists ts → AreSound version live' lists' ts'
+    → AreClassified ts' (plain_rules live) → AreTablesOf version live lists ts → AreTablesOf version live' lists' ts'
 sound_moved version live live' lists lists' ts ts' is_live is_lists classified is =
-    subst (λ (k : List LiveRule). AreSound version k lists' ts') (sym is_live) (subst (λ (k : List (List OfAction)). AreSound version live k ts') (sym is_lists)
+    subst (λ (k : List LiveRule). AreTablesOf version k lists' ts') (sym is_live) (subst (λ (k : List (List OfAction)). AreTablesOf version live k ts') (sym is_lists)
     (record { of_version = is.of_version; given = is.given; few_lists = is.few_lists; classified = classified }))
 
 -- ---- some rules go
@@ -58,9 +58,9 @@ later_version : (rs : List Rule) (version : ℕ) → AreOfVersion rs version →
 later_version rs version is = record { rising = is.rising; numbered = λ r m. (let h = is.numbered r m in omega (arith, h)); identified = is.identified }
 
 pub sound_filter : (version : ℕ) (live live' : List LiveRule) (lists : List (List OfAction)) (ts ts' : List (Vec Subtable Global)) (p : LiveRule → Bool) → live' ≡ filter p live
-    → AreClassified ts' (plain_rules live') → AreSound version live lists ts → AreSound (version + 1) live' lists ts'
+    → AreClassified ts' (plain_rules live') → AreTablesOf version live lists ts → AreTablesOf (version + 1) live' lists ts'
 sound_filter version live live' lists ts ts' p is_live classified is =
-    subst (λ (k : List LiveRule). AreClassified ts' (plain_rules k) → AreSound (version + 1) k lists ts') (sym is_live)
+    subst (λ (k : List LiveRule). AreClassified ts' (plain_rules k) → AreTablesOf (version + 1) k lists ts') (sym is_live)
     (λ (c : AreClassified ts' (plain_rules (filter p live))). record {
       of_version = later_version (live_rules lists (filter p live)) version (of_version_filter lists p live version is.of_version);
       given = λ l m. is.given l (Among-filter p l live m).0;
@@ -248,9 +248,9 @@ modified_all e lists lists' x live live' number word is given is_lists is_live =
     ap₂ live_rules is_lists is_live ∙ modified_rules e lists x live is given ∙ modifies e.word e number (live_rules lists live) word
 
 pub sound_modified : (e : Edit) (version : ℕ) (live live' : List LiveRule) (lists lists' : List (List OfAction)) (x : List OfAction) (ts : List (Vec Subtable Global))
-    → lists' ≡ lists ++ x ∷ [] → live' ≡ map (given_by e (length lists)) live → AreSound version live lists ts → AreSound (version + 1) live' lists' ts
+    → lists' ≡ lists ++ x ∷ [] → live' ≡ map (given_by e (length lists)) live → AreTablesOf version live lists ts → AreTablesOf (version + 1) live' lists' ts
 sound_modified e version live live' lists lists' x ts is_lists is_live is =
-    subst (λ (k : List LiveRule). AreSound (version + 1) k lists' ts) (sym is_live) (subst (λ (k : List (List OfAction)). AreSound (version + 1) (map (given_by e (length lists)) live) k ts) (sym is_lists)
+    subst (λ (k : List LiveRule). AreTablesOf (version + 1) k lists' ts) (sym is_live) (subst (λ (k : List (List OfAction)). AreTablesOf (version + 1) (map (given_by e (length lists)) live) k ts) (sym is_lists)
     (record {
       of_version = record { rising = rising; numbered = numbered; identified = identified };
       given = given;

@@ -61,16 +61,16 @@ alike-from_above w x a b n fx fa fb ba xb h =
 
 -- ---- the numbers beside a place
 
--- the place of a number among sorted ones
-pub record IsPlace (x : ℕ) (xs : List ℕ) (place : ℕ) : Type 0 where
+-- where the numbers that are more than a number begin
+pub record IsBeyond (x : ℕ) (xs : List ℕ) (place : ℕ) : Type 0 where
   pub within : place ≤ length xs
-  pub below : (k : ℕ) → k < place → get_or xs k 0 < x
-  pub from : (k : ℕ) → place ≤ k → k < length xs → x ≤ get_or xs k 0
+  pub up_to : (k : ℕ) → k < place → get_or xs k 0 ≤ x
+  pub beyond : (k : ℕ) → place ≤ k → k < length xs → x < get_or xs k 0
 
 fits_at : (w : ℕ) (xs : List ℕ) (k : ℕ) → All (λ v. v < 2 ^ w) xs → k < length xs → get_or xs k 0 < 2 ^ w
 fits_at w xs k fit within = fit k 0 within
 
-module _ (w x : ℕ) (xs : List ℕ) (place : ℕ) (fx : x < 2 ^ w) (fit : All (λ v. v < 2 ^ w) xs) (rising : IsNonDecreasing xs) (is : IsPlace x xs place) where
+module _ (w x : ℕ) (xs : List ℕ) (place : ℕ) (fx : x < 2 ^ w) (fit : All (λ v. v < 2 ^ w) xs) (rising : IsNonDecreasing xs) (is : IsBeyond x xs place) where
   -- what stands at k starts alike, so does what stands beside the place on its side
   nearer : (k : ℕ) → k < length xs
       → ((place < length xs) × ((j : ℕ) → starts_alike w x (get_or xs k 0) j ≡ true → starts_alike w x (get_or xs place 0) j ≡ true))
@@ -84,14 +84,14 @@ module _ (w x : ℕ) (xs : List ℕ) (place : ℕ) (fx : x < 2 ^ w) (fit : All (
           let top = is.within in
           let last : place - 1 < length xs = omega arith in
           let less : place - 1 < place = omega arith in
-          let b = is.below (place - 1) less in
+          let b = is.up_to (place - 1) less in
           let up = rising k (place - 1) 0 (omega arith) last in
           inr (omega arith, last, λ j h. alike-from_below w x (get_or xs k 0) (get_or xs (place - 1) 0) j fx (fits_at w xs k fit within) (fits_at w xs (place - 1) fit last) up (omega (arith, b)) h)
       by (inr le) =
           let here : place < length xs = omega arith in
-          let f = is.from place (le_refl place) here in
+          let f = is.beyond place (le_refl place) here in
           let up = rising place k 0 le within in
-          inl (here, λ j h. alike-from_above w x (get_or xs k 0) (get_or xs place 0) j fx (fits_at w xs k fit within) (fits_at w xs place fit here) up f h)
+          inl (here, λ j h. alike-from_above w x (get_or xs k 0) (get_or xs place 0) j fx (fits_at w xs k fit within) (fits_at w xs place fit here) up (omega (arith, f)) h)
 
   alike_one : (n k : ℕ) (t : Bool) → t ≡ (nat_lt k (length xs) && starts_alike w x (get_or xs k 0) n) → t ≡ true → list_any (λ v. starts_alike w x v n) xs ≡ true
   alike_one n k t e h = by (nat_lt k (length xs)) refl (sym e ∙ h)
@@ -166,12 +166,6 @@ reached floor xs n greatest rising all some is = same_tests (nat_le floor greate
         let high : floor ≤ get_or xs p.0 greatest = nat_le_true floor (get_or xs p.0 greatest) (ap (nat_le floor) (sym (p.2 greatest)) ∙ m.2) in
         let up = rising p.0 (n - 1) greatest (omega (arith, here, all)) (omega (arith, some, all)) in
         true_nat_le floor greatest (omega (arith, high, up, is))
-
--- where the numbers that are more than a number begin
-pub record IsBeyond (x : ℕ) (xs : List ℕ) (place : ℕ) : Type 0 where
-  pub within : place ≤ length xs
-  pub up_to : (k : ℕ) → k < place → get_or xs k 0 ≤ x
-  pub beyond : (k : ℕ) → place ≤ k → k < length xs → x < get_or xs k 0
 
 -- in front of that the number stands, if it stands anywhere
 pub stands_before : (x : ℕ) (xs : List ℕ) (place : ℕ) → IsBeyond x xs place → IsNonDecreasing xs → 0 < times x xs → (0 < place) × (place - 1 < length xs) × (get_or xs (place - 1) 0 ≡ x)

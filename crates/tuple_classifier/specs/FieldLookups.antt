@@ -7,7 +7,7 @@ use Rattle.spec_keys.specs.Keys.{value_of}
 use Rattle.spec_tables.specs.Rules.{Rule}
 use Rattle.spec_xlate.specs.Lookup.{prefixes, some_begins, deciding}
 use Rattle.tuple_classifier.specs.declared.field_lookup.FieldLookup.{FieldLookup}
-use Rattle.tuple_classifier.specs.declared.field_lookup.Told.{Told}
+use Rattle.tuple_classifier.specs.declared.field_lookup.LengthLookup.{LengthLookup}
 use Rattle.tuple_classifier.specs.declared.lookup.FieldLookups.{FieldLookups}
 
 -- it is what the prefixes of a field that these rules state tell of a key
@@ -16,7 +16,7 @@ pub record IsFieldLookup (l : FieldLookup) (f : FieldId) (key : List ℕ) (rs : 
   pub decided : l.deciding ≡ deciding (width_of f) (value_of key f) (prefixes f rs)
 
 -- it is what they tell for those of this length
-pub record IsTold (t : Told) (n : ℕ) (f : FieldId) (key : List ℕ) (rs : List Rule) : Type 0 where
+pub record IsLengthLookup (t : LengthLookup) (n : ℕ) (f : FieldId) (key : List ℕ) (rs : List Rule) : Type 0 where
   pub matched : 0 < n → t.is_matched ≡ some_begins (width_of f) (value_of key f) n (prefixes f rs)
   pub decided : t.deciding ≡ deciding (width_of f) (value_of key f) (prefixes f rs)
 

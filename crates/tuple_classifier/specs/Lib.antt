@@ -2,6 +2,7 @@ pub mod ByTable
 pub mod Counts
 pub mod FieldLookups
 pub mod FieldPrefixes
+pub mod Held
 pub mod Indexes
 pub mod Live
 pub mod Numbered
@@ -9,7 +10,6 @@ pub mod Numbers
 pub mod Parts
 pub mod Prefixes
 pub mod Ranks
-pub mod Sound
 pub mod Stages
 pub mod Subtables
 pub mod Tracked

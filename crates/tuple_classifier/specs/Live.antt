@@ -4,7 +4,7 @@ use Rattle.std.specs.declared.alloc.Global.{Global}
 use Rattle.spec_actions.specs.declared.action.OfAction.{OfAction}
 use Rattle.spec_tables.specs.Rules.{Rule, is_same_match}
 use Rattle.spec_tables.specs.Edits.{Edit}
-use Rattle.translation_laws.proofs.MemberLaws.{Among}
+use Rattle.translation_laws.specs.Members.{Among}
 use Rattle.rule_tables.specs.Views.{match_view, rule_view}
 use Rattle.rule_tables.specs.Stored.{picks}
 use Rattle.tuple_classifier.specs.declared.live.LiveRule.{LiveRule}

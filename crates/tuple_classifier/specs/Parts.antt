@@ -6,7 +6,7 @@ use Rattle.spec_keys.specs.Fields.{width_of}
 use Rattle.spec_keys.specs.Keys.{same, value_of}
 use Rattle.spec_tables.specs.Rules.{Rule}
 use Rattle.spec_xlate.specs.Lookup.{prefix_length, deciding, probe}
-use Rattle.translation_laws.proofs.MemberLaws.{Among}
+use Rattle.translation_laws.specs.Members.{Among}
 use Rattle.ovs_fields.specs.Packed.{bits}
 use Rattle.rule_tables.specs.declared.matching.Match.{Match}
 use Rattle.rule_tables.specs.Views.{match_view}

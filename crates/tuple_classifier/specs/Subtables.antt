@@ -3,7 +3,7 @@ use Rattle.std.specs.Prelude.{◌≡◌, ℕ, List, length, map, filter}
 use Rattle.spec_keys.specs.Fields.{field_count}
 use Rattle.spec_keys.specs.Keys.{masked, same}
 use Rattle.spec_tables.specs.Rules.{Rule}
-use Rattle.translation_laws.proofs.MemberLaws.{Among}
+use Rattle.translation_laws.specs.Members.{Among}
 use Rattle.ovs_fields.specs.Packed.{bits}
 use Rattle.tuple_classifier.specs.declared.rank.Rank.{Rank}
 use Rattle.tuple_classifier.specs.declared.subtable.Subtable.{Subtable}

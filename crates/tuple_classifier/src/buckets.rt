@@ -22,7 +22,10 @@ pub(crate) fn add_rank(
     key: Key,
     rank: Rank,
 ) -> Result<(), AllocError>
-    ensures ok { OnOk result ((q : List ℕ) → ranks_at buckets.new q ≡ ranks_at buckets.old q ++ (if same q (numbers key) then rank ∷ [] else [])) }
+    ensures ok { OnOk result
+        ((q : List ℕ)
+        → ranks_at buckets.new q
+        ≡ ranks_at buckets.old q ++ (if same q (numbers key) then rank ∷ [] else [])) }
     ensures err { OnErr result ((q : List ℕ) → ranks_at buckets.new q ≡ ranks_at buckets.old q) }
 {
     if let Some(bucket) = buckets.get_mut(&key) {
@@ -37,7 +40,10 @@ pub(crate) fn add_rank(
 
 /// Takes the rank of a number out of those at a key.
 pub(crate) fn take_rank(buckets: &mut Buckets, key: &Key, number: u32)
-    ensures { (q : List ℕ) → ranks_at buckets.new q ≡ (if same q (numbers key.now) then filter (is_other number) (ranks_at buckets.old q) else ranks_at buckets.old q) }
+    ensures { (q : List ℕ)
+        → ranks_at buckets.new q
+        ≡ (if same q (numbers key.now) then filter (is_other number)
+        (ranks_at buckets.old q) else ranks_at buckets.old q) }
 {
     if forget_rank(buckets, key, number) {
         buckets.swap_remove(key);
@@ -45,7 +51,8 @@ pub(crate) fn take_rank(buckets: &mut Buckets, key: &Key, number: u32)
 }
 
 fn push_rank(ranks: &mut Vec<Rank>, rank: Rank) -> Result<(), AllocError>
-    ensures { ranks.new.items ≡ (if is_ok result then ranks.old.items ++ rank ∷ [] else ranks.old.items) }
+    ensures { ranks.new.items
+        ≡ (if is_ok result then ranks.old.items ++ rank ∷ [] else ranks.old.items) }
 {
     ranks.push(rank)?;
     Ok(())
@@ -61,7 +68,10 @@ fn one_rank(alloc: Global, rank: Rank) -> Result<Vec<Rank>, AllocError>
 
 /// Takes the rank of a number out of those at a key, and tells whether none is left.
 fn forget_rank(buckets: &mut Buckets, key: &Key, number: u32) -> bool
-    ensures ranks { (q : List ℕ) → ranks_at buckets.new q ≡ (if same q (numbers key.now) then filter (is_other number) (ranks_at buckets.old q) else ranks_at buckets.old q) }
+    ensures ranks { (q : List ℕ)
+        → ranks_at buckets.new q
+        ≡ (if same q (numbers key.now) then filter (is_other number)
+        (ranks_at buckets.old q) else ranks_at buckets.old q) }
     ensures emptied { IsTrue result → ranks_at buckets.new (numbers key.now) ≡ [] }
 {
     match buckets.get_mut(key) {

@@ -13,7 +13,7 @@ ghost use Rattle.tuple_classifier.specs.Indexes.{HaveRule};
 ghost use Rattle.tuple_classifier.specs.Numbered.{AreDistinct, without};
 ghost use Rattle.tuple_classifier.specs.Ranks.{rank_of};
 ghost use Rattle.tuple_classifier.specs.declared.subtable.Subtable.{Subtable};
-ghost use Rattle.translation_laws.proofs.MemberLaws.{Among};
+ghost use Rattle.translation_laws.specs.Members.{Among};
 
 use crate::rank::Rank;
 use crate::subtable::Subtable;
@@ -33,8 +33,13 @@ pub(crate) fn insert_in(
     rank: Rank,
 ) -> Result<(), AllocError>
     requires { CountMoreRules tables.old.items }
-    ensures ok { OnOk result ((rules : List Rule) (r : Rule) → AreClassified tables.old.items rules → r.table ≡ table → r.matching ≡ match_view matching.now → rank_of r ≡ rank → AreClassified tables.new.items (rules ++ r ∷ [])) }
-    ensures err { OnErr result ((rules : List Rule) → AreClassified tables.old.items rules → AreClassified tables.new.items rules) }
+    ensures ok { OnOk result
+        ((rules : List Rule) (r : Rule) → AreClassified tables.old.items rules → r.table ≡ table
+        → r.matching ≡ match_view matching.now → rank_of r ≡ rank
+        → AreClassified tables.new.items (rules ++ r ∷ [])) }
+    ensures err { OnErr result
+        ((rules : List Rule) → AreClassified tables.old.items rules
+        → AreClassified tables.new.items rules) }
 {
     grow(alloc, tables, table)?;
     insert_rule(alloc, &mut tables[table as usize], matching, rank)
@@ -53,8 +58,12 @@ fn grow(alloc: Global, tables: &mut Vec<Table>, table: u8) -> Result<(), AllocEr
 
 /// Takes a rule out of a table. It takes no memory.
 pub(crate) fn take_from(tables: &mut Vec<Table>, table: u8, matching: &Match, rank: Rank)
-    requires { (i : ℕ) (s : Subtable) → slice_get (subtables_at tables.old.items table) i ≡ Some s → same (bits s.mask) (bits matching.now.mask) ≡ true → HaveRule s.indexes (numbers matching.now.key) rank.priority }
-    ensures { (rules : List Rule) (r : Rule) → AreClassified tables.old.items rules → AreDistinct rules → Among r rules → r.table ≡ table → r.matching ≡ match_view matching.now → rank_of r ≡ rank → AreClassified tables.new.items (without r.number rules) }
+    requires { (i : ℕ) (s : Subtable) → slice_get (subtables_at tables.old.items table) i ≡ Some s
+        → same (bits s.mask) (bits matching.now.mask) ≡ true
+        → HaveRule s.indexes (numbers matching.now.key) rank.priority }
+    ensures { (rules : List Rule) (r : Rule) → AreClassified tables.old.items rules
+        → AreDistinct rules → Among r rules → r.table ≡ table → r.matching ≡ match_view matching.now
+        → rank_of r ≡ rank → AreClassified tables.new.items (without r.number rules) }
 {
     let table = table as usize;
     if table < tables.len() {
@@ -64,7 +73,8 @@ pub(crate) fn take_from(tables: &mut Vec<Table>, table: u8, matching: &Match, ra
 
 /// The number of the rule with the table, priority and match of an edit.
 pub(crate) fn find_named(tables: &[Table], edit: &Edit) -> Option<u32>
-    ensures { (rules : List Rule) → AreClassified tables.now rules → result ≡ option_map (λ r. r.number) (find (is_named_by edit.now) rules) }
+    ensures { (rules : List Rule) → AreClassified tables.now rules
+        → result ≡ option_map (λ r. r.number) (find (is_named_by edit.now) rules) }
 {
     find_in(
         tables,
@@ -76,7 +86,10 @@ pub(crate) fn find_named(tables: &[Table], edit: &Edit) -> Option<u32>
 
 /// The number of the rule of a table with this match and priority.
 fn find_in(tables: &[Table], table: u8, matching: &Match, priority: u16) -> Option<u32>
-    ensures { (rules : List Rule) → AreClassified tables.now rules → result ≡ option_map (λ r. r.number) (find (λ r. (r.table == table) && ((r.priority == priority) && is_same_match r.matching (match_view matching.now))) rules) }
+    ensures { (rules : List Rule) → AreClassified tables.now rules
+        → result ≡ option_map (λ r. r.number)
+        (find (λ r. (r.table == table) &&
+        ((r.priority == priority) && is_same_match r.matching (match_view matching.now))) rules) }
 {
     if (table as usize) < tables.len() {
         find_rule(&tables[table as usize], matching, priority)

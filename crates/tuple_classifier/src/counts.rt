@@ -25,7 +25,8 @@ pub(crate) fn reserve_count(counts: &mut KeyCounts) -> Result<(), AllocError>
 pub(crate) fn add_count(counts: &mut KeyCounts, key: Key)
     requires room { 0 < spare counts.old }
     requires small { count_at counts.old (numbers key) < 2 ^ 63 }
-    ensures { (q : List ℕ) → count_at counts.new q ≡ count_at counts.old q + (if same q (numbers key) then 1 else 0) }
+    ensures { (q : List ℕ)
+        → count_at counts.new q ≡ count_at counts.old q + (if same q (numbers key) then 1 else 0) }
 {
     let count = count_of(counts, &key);
     let Ok(_) = counts.insert(key, count + 1) else {
@@ -36,7 +37,9 @@ pub(crate) fn add_count(counts: &mut KeyCounts, key: Key)
 /// Counts a key that was counted once less.
 pub(crate) fn take_count(counts: &mut KeyCounts, key: &Key)
     requires { 0 < count_at counts.old (numbers key.now) }
-    ensures { (q : List ℕ) → count_at counts.new q + (if same q (numbers key.now) then 1 else 0) ≡ count_at counts.old q }
+    ensures { (q : List ℕ)
+        → count_at counts.new q + (if same q (numbers key.now) then 1 else 0)
+        ≡ count_at counts.old q }
 {
     if decrease(counts, key) {
         counts.swap_remove(key);
@@ -67,7 +70,9 @@ fn count_of_only(counts: &KeyCounts, key: &Key) -> usize
 /// Counts a key once less, and tells whether none is left.
 fn decrease(counts: &mut KeyCounts, key: &Key) -> bool
     requires { 0 < count_at counts.old (numbers key.now) }
-    ensures counts { (q : List ℕ) → count_at counts.new q + (if same q (numbers key.now) then 1 else 0) ≡ count_at counts.old q }
+    ensures counts { (q : List ℕ)
+        → count_at counts.new q + (if same q (numbers key.now) then 1 else 0)
+        ≡ count_at counts.old q }
     ensures emptied { IsTrue result → count_at counts.new (numbers key.now) ≡ 0 }
 {
     match counts.get_mut(key) {

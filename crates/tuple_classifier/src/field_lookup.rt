@@ -28,7 +28,7 @@ pub(crate) struct FieldLookup {
 
 /// What the prefixes of a field tell of a key, as far as it takes for those of one length.
 #[derive(Clone, Copy)]
-pub(crate) struct Told {
+pub(crate) struct LengthLookup {
     /// Whether the key begins with one of those that have the length.
     pub(crate) is_matched: bool,
     /// How many leading bits of the key decide that for the prefixes of all lengths.
@@ -52,8 +52,15 @@ impl FieldLookup {
     /// Adds what the prefixes tell that the rules of one mask state.
     #[tactic(auto, using(crate::proofs::Widths::width_within))]
     fn add(&mut self, prefixes: &FieldPrefixes, key: &Key)
-        ensures matched { (f : FieldId) (mask : List ℕ) (rs : List Rule) → IsOfField prefixes.now f mask rs → (n : ℕ) → 0 < n → n ≤ 128 → get_or self.new.matched n false ≡ (begins_in f (value_of (numbers key.now) f) n mask rs || get_or self.old.matched n false) }
-        ensures deciding { (f : FieldId) (mask : List ℕ) (rs : List Rule) → IsOfField prefixes.now f mask rs → self.new.deciding ≡ max (deciding_in f (value_of (numbers key.now) f) mask rs) self.old.deciding }
+        ensures matched { (f : FieldId) (mask : List ℕ) (rs : List Rule)
+            → IsOfField prefixes.now f mask rs → (n : ℕ) → 0 < n → n ≤ 128
+            → get_or self.new.matched n false
+            ≡ (begins_in f
+            (value_of (numbers key.now) f) n mask rs || get_or self.old.matched n false) }
+        ensures deciding { (f : FieldId) (mask : List ℕ) (rs : List Rule)
+            → IsOfField prefixes.now f mask rs
+            → self.new.deciding
+            ≡ max (deciding_in f (value_of (numbers key.now) f) mask rs) self.old.deciding }
     {
         let length = prefixes.length;
         if length == 0 {
@@ -68,7 +75,8 @@ impl FieldLookup {
 
     /// What the prefixes of a field in all subtables of a table tell of a key.
     pub(crate) fn new(subtables: &[Subtable], tracked: TrackedField, key: &Key) -> FieldLookup
-        ensures { (rs : List Rule) → AreSubtablesOf subtables.now rs → IsFieldLookup result (field_of tracked) (numbers key.now) rs }
+        ensures { (rs : List Rule) → AreSubtablesOf subtables.now rs
+            → IsFieldLookup result (field_of tracked) (numbers key.now) rs }
     {
         let mut lookup = FieldLookup::of_none();
         'subtables: for i in (0..subtables.len()).rev() {
@@ -79,12 +87,12 @@ impl FieldLookup {
     }
 
     /// What is told of the prefixes of a length.
-    pub(crate) fn told(&self, length: u32) -> Told
+    pub(crate) fn told(&self, length: u32) -> LengthLookup
         requires { length ≤ 128 }
         ensures matched { result.is_matched ≡ get_or self.now.matched length false }
         ensures deciding { result.deciding ≡ self.now.deciding }
     {
-        Told {
+        LengthLookup {
             is_matched: self.matched[length as usize],
             deciding: self.deciding,
         }

@@ -3,7 +3,7 @@ ghost use Rattle.std.specs.List.{list_any};
 ghost use Rattle.spec_tables.specs.Rules.{Rule};
 ghost use Rattle.ovs_fields.specs.Packed.{numbers, bits};
 ghost use Rattle.tuple_classifier.specs.Numbered.{AreDistinct, without};
-ghost use Rattle.translation_laws.proofs.MemberLaws.{Among};
+ghost use Rattle.translation_laws.specs.Members.{Among};
 
 use crate::prefixes::FieldPrefixes;
 use crate::sorted::SortedNumbers;
@@ -51,7 +51,8 @@ impl Indexes {
 
     /// Makes room for one more rule. Where it lacks memory they are those of the same rules.
     pub(crate) fn reserve(&mut self) -> Result<(), AllocError>
-        ensures same { (mask : List ℕ) (rs : List Rule) → AreIndexes self.old mask rs → AreIndexes self.new mask rs }
+        ensures same { (mask : List ℕ) (rs : List Rule) → AreIndexes self.old mask rs
+            → AreIndexes self.new mask rs }
         ensures few { CountMore self.old → CountMore self.new }
         ensures room { OnOk result (HaveRoom self.new) }
     {
@@ -69,7 +70,9 @@ impl Indexes {
     pub(crate) fn add(&mut self, key: &Key, priority: u16)
         requires room { HaveRoom self.old }
         requires few { CountMore self.old }
-        ensures { (mask : List ℕ) (rs : List Rule) (r : Rule) → AreIndexes self.old mask rs → r.matching.key ≡ numbers key.now → r.priority ≡ priority → AreIndexes self.new mask (rs ++ r ∷ []) }
+        ensures { (mask : List ℕ) (rs : List Rule) (r : Rule) → AreIndexes self.old mask rs
+            → r.matching.key ≡ numbers key.now → r.priority ≡ priority
+            → AreIndexes self.new mask (rs ++ r ∷ []) }
     {
         self.metadata.add(key);
         self.ethernet.add(key);
@@ -84,7 +87,9 @@ impl Indexes {
     /// Takes a rule with this key and priority out.
     pub(crate) fn take(&mut self, key: &Key, priority: u16)
         requires { HaveRule self.old (numbers key.now) priority }
-        ensures { (mask : List ℕ) (rs : List Rule) (r : Rule) → AreIndexes self.old mask rs → AreDistinct rs → Among r rs → r.matching.key ≡ numbers key.now → r.priority ≡ priority → AreIndexes self.new mask (without r.number rs) }
+        ensures { (mask : List ℕ) (rs : List Rule) (r : Rule) → AreIndexes self.old mask rs
+            → AreDistinct rs → Among r rs → r.matching.key ≡ numbers key.now → r.priority ≡ priority
+            → AreIndexes self.new mask (without r.number rs) }
     {
         self.metadata.take(key);
         self.ethernet.take(key);
@@ -98,7 +103,8 @@ impl Indexes {
 
     /// The prefixes of a tracked field.
     pub(crate) fn prefixes(&self, tracked: TrackedField) -> &FieldPrefixes
-        ensures { (mask : List ℕ) (rs : List Rule) → AreIndexes self.now mask rs → IsOfField result.now (field_of tracked) mask rs }
+        ensures { (mask : List ℕ) (rs : List Rule) → AreIndexes self.now mask rs
+            → IsOfField result.now (field_of tracked) mask rs }
     {
         match tracked {
             TrackedField::NwSrc => &self.nw_src,
@@ -110,14 +116,16 @@ impl Indexes {
 
     /// Whether there are no rules.
     pub(crate) fn is_empty(&self) -> bool
-        ensures { IsTrue result → (mask : List ℕ) (rs : List Rule) → AreIndexes self.now mask rs → rs ≡ [] }
+        ensures { IsTrue result → (mask : List ℕ) (rs : List Rule) → AreIndexes self.now mask rs
+            → rs ≡ [] }
     {
         self.priorities.is_empty()
     }
 
     /// Whether one of the rules has at least this priority.
     pub(crate) fn reaches(&self, floor: u16) -> bool
-        ensures { (mask : List ℕ) (rs : List Rule) → AreIndexes self.now mask rs → result ≡ list_any (λ r. nat_le floor r.priority) rs }
+        ensures { (mask : List ℕ) (rs : List Rule) → AreIndexes self.now mask rs
+            → result ≡ list_any (λ r. nat_le floor r.priority) rs }
     {
         self.priorities.reaches(u128::from(floor))
     }

@@ -1,6 +1,6 @@
 ghost use Rattle.std.specs.Prelude.{◌≡◌, ℕ, ◌<◌, ◌≤◌, ◌+◌, ◌-◌, ◌++◌, ◌∷◌, [], get_or, List, OnOk, OnErr, vec_len, vec_capacity, filter, map, length, slice_get, Some, IfSome, IfOk, IsNone};
 ghost use Rattle.std.specs.List.Sorted.{IsNonDecreasingBy};
-ghost use Rattle.translation_laws.proofs.MemberLaws.{Among};
+ghost use Rattle.translation_laws.specs.Members.{Among};
 ghost use Rattle.std.specs.Option.{option_map_or};
 ghost use Rattle.spec_actions.specs.declared.action.OfAction.{OfAction};
 ghost use Rattle.spec_tables.specs.declared.edit_word.EditWord.TheVariants.{ModifyStrict};
@@ -32,7 +32,9 @@ impl LiveRule {
 
     /// The rule that an edit adds, with its actions at a place.
     fn new(number: u32, edit: &Edit, given: u32) -> LiveRule
-        ensures rule { (actions : List OfAction) → rule_view result.rule actions ≡ record (rule_of number edit.now) { actions = actions } }
+        ensures rule { (actions : List OfAction)
+            → rule_view result.rule actions
+            ≡ record (rule_of number edit.now) { actions = actions } }
         ensures given { result.given ≡ given }
     {
         LiveRule {
@@ -54,7 +56,10 @@ impl LiveRule {
         edit: &Edit,
         given: u32,
     ) -> Result<Box<LiveRule>, AllocError>
-        ensures rule { IfOk result (λ b. (actions : List OfAction) → rule_view b.value.rule actions ≡ record (rule_of number edit.now) { actions = actions }) }
+        ensures rule { IfOk result
+            (λ b. (actions : List OfAction)
+            → rule_view b.value.rule actions
+            ≡ record (rule_of number edit.now) { actions = actions }) }
         ensures given { IfOk result (λ b. b.value.given ≡ given) }
     {
         Ok(Box::new(alloc, LiveRule::new(number, edit, given))?)
@@ -84,8 +89,11 @@ impl LiveRule {
 /// The place of the live rule of a number, which rise along the rules.
 pub(crate) fn place_of(live: &[Box<LiveRule>], number: u32) -> Option<usize>
     requires { IsNonDecreasingBy (λ l. l.rule.number) (unboxed live.now) }
-    ensures some { IfSome result (λ i. (i < length live.now) × ((l : LiveRule) → slice_get (unboxed live.now) i ≡ Some l → l.rule.number ≡ number)) }
-    ensures none { IsNone result → (l : LiveRule) → Among l (unboxed live.now) → l.rule.number ≡ number → ⊥ }
+    ensures some { IfSome result
+        (λ i. (i < length live.now)
+        × ((l : LiveRule) → slice_get (unboxed live.now) i ≡ Some l → l.rule.number ≡ number)) }
+    ensures none { IsNone result → (l : LiveRule) → Among l (unboxed live.now)
+        → l.rule.number ≡ number → ⊥ }
 {
     let place = live.partition_point(|l| l.rule.number < number);
     if place >= live.len() {
@@ -118,7 +126,8 @@ fn give_all(live: &mut [Box<LiveRule>], edit: &Edit, given: u32)
 /// Writes where the actions of all live rules are.
 fn place_all(live: &[Box<LiveRule>], places: &mut Vec<u32>)
     requires rising { IsRising (plain_rules (unboxed live.now)) }
-    requires within { (l : LiveRule) → Among l (unboxed live.now) → IsWithinPlaces l places.old.items }
+    requires within { (l : LiveRule) → Among l (unboxed live.now)
+        → IsWithinPlaces l places.old.items }
     ensures placed { ArePlaced (unboxed live.now) places.new.items }
     ensures length { length places.new.items ≡ length places.old.items }
 {
@@ -160,7 +169,10 @@ fn give_named(
     requires rising { IsRising (plain_rules (unboxed live.old)) }
     requires placed { ArePlaced (unboxed live.old) places.old.items }
     requires word { edit.now.word ≡ ModifyStrict }
-    ensures live { (lists : List (List OfAction)) (version : ℕ) → AreOfVersion (live_rules lists (unboxed live.old)) version → AreClassified tables.now (plain_rules (unboxed live.old)) → unboxed live.new ≡ map (given_by edit.now given) (unboxed live.old) }
+    ensures live { (lists : List (List OfAction)) (version : ℕ)
+        → AreOfVersion (live_rules lists (unboxed live.old)) version
+        → AreClassified tables.now (plain_rules (unboxed live.old))
+        → unboxed live.new ≡ map (given_by edit.now given) (unboxed live.old) }
     ensures placed { ArePlaced (unboxed live.new) places.new.items }
     ensures length { length places.new.items ≡ length places.old.items }
 {
@@ -179,7 +191,10 @@ pub(crate) fn give(
 )
     requires rising { IsRising (plain_rules (unboxed live.old)) }
     requires placed { ArePlaced (unboxed live.old) places.old.items }
-    ensures live { (lists : List (List OfAction)) (version : ℕ) → AreOfVersion (live_rules lists (unboxed live.old)) version → AreClassified tables.now (plain_rules (unboxed live.old)) → unboxed live.new ≡ map (given_by edit.now given) (unboxed live.old) }
+    ensures live { (lists : List (List OfAction)) (version : ℕ)
+        → AreOfVersion (live_rules lists (unboxed live.old)) version
+        → AreClassified tables.now (plain_rules (unboxed live.old))
+        → unboxed live.new ≡ map (given_by edit.now given) (unboxed live.old) }
     ensures placed { ArePlaced (unboxed live.new) places.new.items }
     ensures length { length places.new.items ≡ length places.old.items }
 {
@@ -196,7 +211,8 @@ pub(crate) fn give(
 pub(crate) fn take_picked(tables: &mut Vec<Table>, live: &[Box<LiveRule>], edit: &Edit)
     requires rising { IsRising (plain_rules (unboxed live.now)) }
     requires classified { AreClassified tables.old.items (plain_rules (unboxed live.now)) }
-    ensures { AreClassified tables.new.items (plain_rules (filter (is_kept edit.now) (unboxed live.now))) }
+    ensures { AreClassified tables.new.items
+        (plain_rules (filter (is_kept edit.now) (unboxed live.now))) }
 {
     'live: for i in 0..live.len() {
         let l = rule_at(live, i);
@@ -228,7 +244,9 @@ pub(crate) fn take_replaced(
 )
     requires rising { IsRising (plain_rules (unboxed live.old.items)) }
     requires classified { AreClassified tables.old.items (plain_rules (unboxed live.old.items)) }
-    ensures live { unboxed live.new.items ≡ option_map_or (λ n. filter (is_unlike n) (unboxed live.old.items)) replaced (unboxed live.old.items) }
+    ensures live { unboxed live.new.items
+        ≡ option_map_or (λ n. filter (is_unlike n) (unboxed live.old.items)) replaced
+        (unboxed live.old.items) }
     ensures classified { AreClassified tables.new.items (plain_rules (unboxed live.new.items)) }
 {
     if let Some(number) = replaced {
@@ -243,8 +261,12 @@ pub(crate) fn insert_live(
     l: &LiveRule,
 ) -> Result<(), AllocError>
     requires { CountMoreRules tables.old.items }
-    ensures ok { OnOk result ((rules : List seen.Rule) → AreClassified tables.old.items rules → AreClassified tables.new.items (rules ++ plain_rule l.now ∷ [])) }
-    ensures err { OnErr result ((rules : List seen.Rule) → AreClassified tables.old.items rules → AreClassified tables.new.items rules) }
+    ensures ok { OnOk result
+        ((rules : List seen.Rule) → AreClassified tables.old.items rules
+        → AreClassified tables.new.items (rules ++ plain_rule l.now ∷ [])) }
+    ensures err { OnErr result
+        ((rules : List seen.Rule) → AreClassified tables.old.items rules
+        → AreClassified tables.new.items rules) }
 {
     insert_in(alloc, tables, l.rule.table, &l.rule.matching, l.rank())
 }
@@ -275,7 +297,8 @@ pub(crate) fn push_place(places: &mut Vec<u32>, number: u32, place: u32)
     requires room { number ≤ vec_capacity places.old }
     ensures length { length places.new.items ≡ number }
     ensures place { get_or places.new.items (number - 1) 0 ≡ place }
-    ensures others { (i : ℕ) → i < length places.old.items → get_or places.new.items i 0 ≡ get_or places.old.items i 0 }
+    ensures others { (i : ℕ) → i < length places.old.items
+        → get_or places.new.items i 0 ≡ get_or places.old.items i 0 }
 {
     let Ok(()) = places.resize(number as usize, place) else {
         unreachable!()

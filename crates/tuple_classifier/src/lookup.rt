@@ -10,7 +10,7 @@ ghost use Rattle.spec_tables.specs.Rules.{Rule, winner};
 ghost use Rattle.spec_xlate.specs.Lookup as xlate;
 ghost use Rattle.spec_xlate.specs.Lookup.{added, when, consults};
 ghost use Rattle.ovs_fields.specs.Packed.{numbers, bits};
-ghost use Rattle.tuple_classifier.specs.FieldLookups.{IsTold, IsKnown, AreKnown};
+ghost use Rattle.tuple_classifier.specs.FieldLookups.{IsLengthLookup, IsKnown, AreKnown};
 ghost use Rattle.tuple_classifier.specs.FieldPrefixes.{IsOfField};
 ghost use Rattle.tuple_classifier.specs.Indexes.{AreIndexes};
 ghost use Rattle.tuple_classifier.specs.Numbered.{AreDistinct};
@@ -20,9 +20,9 @@ ghost use Rattle.tuple_classifier.specs.Stages.{IsStage, stage_masks};
 ghost use Rattle.tuple_classifier.specs.Subtables.{IsSubtableOf};
 ghost use Rattle.tuple_classifier.specs.Tracked.{field_of};
 ghost use Rattle.tuple_classifier.specs.declared.subtable.Subtable.{Subtable};
-ghost use Rattle.translation_laws.proofs.MemberLaws.{Among};
+ghost use Rattle.translation_laws.specs.Members.{Among};
 
-use crate::field_lookup::{FieldLookup, Told};
+use crate::field_lookup::{FieldLookup, LengthLookup};
 use crate::indexes::Indexes;
 use crate::prefix::leading;
 use crate::prefixes::FieldPrefixes;
@@ -58,8 +58,10 @@ impl FieldLookups {
 
 /// The number of the winner for a key. The bits that the lookup consults are added.
 pub(crate) fn look(subtables: &[Subtable], key: &Key, consulted: &mut Mask) -> Option<u32>
-    ensures winner { (rs : List Rule) → AreSubtablesOf subtables.now rs → AreDistinct rs → result ≡ option_map (λ r. r.number) (winner rs (numbers key.now)) }
-    ensures consulted { (rs : List Rule) → AreSubtablesOf subtables.now rs → AreDistinct rs → bits consulted.new ≡ added (bits consulted.old) (consults rs (numbers key.now)) }
+    ensures winner { (rs : List Rule) → AreSubtablesOf subtables.now rs → AreDistinct rs
+        → result ≡ option_map (λ r. r.number) (winner rs (numbers key.now)) }
+    ensures consulted { (rs : List Rule) → AreSubtablesOf subtables.now rs → AreDistinct rs
+        → bits consulted.new ≡ added (bits consulted.old) (consults rs (numbers key.now)) }
 {
     let mut known = FieldLookups::none();
     let best = winner_of(subtables, key, &mut known);
@@ -75,8 +77,11 @@ pub(crate) fn look(subtables: &[Subtable], key: &Key, consulted: &mut Mask) -> O
 
 /// The best rank of the rules that a key matches.
 fn winner_of(subtables: &[Subtable], key: &Key, known: &mut FieldLookups) -> Option<Rank>
-    ensures known { (rs : List Rule) → AreSubtablesOf subtables.now rs → AreKnown known.old (numbers key.now) rs → AreKnown known.new (numbers key.now) rs }
-    ensures winner { (rs : List Rule) → AreSubtablesOf subtables.now rs → AreDistinct rs → AreKnown known.old (numbers key.now) rs → result ≡ option_map rank_of (winner rs (numbers key.now)) }
+    ensures known { (rs : List Rule) → AreSubtablesOf subtables.now rs
+        → AreKnown known.old (numbers key.now) rs → AreKnown known.new (numbers key.now) rs }
+    ensures winner { (rs : List Rule) → AreSubtablesOf subtables.now rs → AreDistinct rs
+        → AreKnown known.old (numbers key.now) rs
+        → result ≡ option_map rank_of (winner rs (numbers key.now)) }
 {
     let mut best = None;
     'subtables: for i in (0..subtables.len()).rev() {
@@ -95,8 +100,13 @@ fn better_of_mask(
     known: &mut FieldLookups,
     best: Option<Rank>,
 ) -> Option<Rank>
-    ensures known { (rs : List Rule) → AreSubtablesOf subtables.now rs → AreKnown known.old (numbers key.now) rs → AreKnown known.new (numbers key.now) rs }
-    ensures better { (rs : List Rule) → AreSubtablesOf subtables.now rs → AreKnown known.old (numbers key.now) rs → IsSubtableOf subtable.now (of_mask (bits subtable.now.mask) rs) → result ≡ best_of_pair (option_map rank_of (winner (of_mask (bits subtable.now.mask) rs) (numbers key.now))) best }
+    ensures known { (rs : List Rule) → AreSubtablesOf subtables.now rs
+        → AreKnown known.old (numbers key.now) rs → AreKnown known.new (numbers key.now) rs }
+    ensures better { (rs : List Rule) → AreSubtablesOf subtables.now rs
+        → AreKnown known.old (numbers key.now) rs
+        → IsSubtableOf subtable.now (of_mask (bits subtable.now.mask) rs)
+        → result ≡ best_of_pair
+        (option_map rank_of (winner (of_mask (bits subtable.now.mask) rs) (numbers key.now))) best }
 {
     if !subtable.indexes.reaches(priority_to_beat(best)) {
         return best;
@@ -109,8 +119,11 @@ fn better_of_mask(
 
 /// Whether some rules of a mask begin as a key does, in each field of which the mask has a prefix.
 fn may_match(subtables: &[Subtable], indexes: &Indexes, key: &Key, known: &mut FieldLookups) -> bool
-    ensures known { (rs : List Rule) → AreSubtablesOf subtables.now rs → AreKnown known.old (numbers key.now) rs → AreKnown known.new (numbers key.now) rs }
-    ensures result { (rs : List Rule) (mask : List ℕ) → AreSubtablesOf subtables.now rs → AreKnown known.old (numbers key.now) rs → AreIndexes indexes.now mask (of_mask mask rs) → result ≡ false → winner (of_mask mask rs) (numbers key.now) ≡ None }
+    ensures known { (rs : List Rule) → AreSubtablesOf subtables.now rs
+        → AreKnown known.old (numbers key.now) rs → AreKnown known.new (numbers key.now) rs }
+    ensures result { (rs : List Rule) (mask : List ℕ) → AreSubtablesOf subtables.now rs
+        → AreKnown known.old (numbers key.now) rs → AreIndexes indexes.now mask (of_mask mask rs)
+        → result ≡ false → winner (of_mask mask rs) (numbers key.now) ≡ None }
 {
     if !begins(
         subtables,
@@ -157,8 +170,13 @@ fn begins(
     key: &Key,
     known: &mut Option<FieldLookup>,
 ) -> bool
-    ensures known { (rs : List Rule) → AreSubtablesOf subtables.now rs → IsKnown known.old (field_of tracked) (numbers key.now) rs → IsKnown known.new (field_of tracked) (numbers key.now) rs }
-    ensures result { (rs : List Rule) (mask : List ℕ) → AreSubtablesOf subtables.now rs → IsKnown known.old (field_of tracked) (numbers key.now) rs → IsOfField prefixes.now (field_of tracked) mask (of_mask mask rs) → result ≡ false → winner (of_mask mask rs) (numbers key.now) ≡ None }
+    ensures known { (rs : List Rule) → AreSubtablesOf subtables.now rs
+        → IsKnown known.old (field_of tracked) (numbers key.now) rs
+        → IsKnown known.new (field_of tracked) (numbers key.now) rs }
+    ensures result { (rs : List Rule) (mask : List ℕ) → AreSubtablesOf subtables.now rs
+        → IsKnown known.old (field_of tracked) (numbers key.now) rs
+        → IsOfField prefixes.now (field_of tracked) mask (of_mask mask rs) → result ≡ false
+        → winner (of_mask mask rs) (numbers key.now) ≡ None }
 {
     prefixes.length == 0 || told_of(subtables, tracked, key, known, prefixes.length).is_matched
 }
@@ -188,8 +206,13 @@ fn probe(
     consulted: &mut Mask,
 )
     requires { i < length subtables.now }
-    ensures known { (rs : List Rule) → AreSubtablesOf subtables.now rs → AreKnown known.old (numbers key.now) rs → AreKnown known.new (numbers key.now) rs }
-    ensures consulted { (rs : List Rule) (s : Subtable) (r : Rule) → AreSubtablesOf subtables.now rs → AreKnown known.old (numbers key.now) rs → slice_get subtables.now i ≡ Some s → Among r (of_mask (bits s.mask) rs) → bits consulted.new ≡ added (bits consulted.old) (xlate.probe rs (numbers key.now) (bits s.mask)) }
+    ensures known { (rs : List Rule) → AreSubtablesOf subtables.now rs
+        → AreKnown known.old (numbers key.now) rs → AreKnown known.new (numbers key.now) rs }
+    ensures consulted { (rs : List Rule) (s : Subtable) (r : Rule) → AreSubtablesOf subtables.now rs
+        → AreKnown known.old (numbers key.now) rs → slice_get subtables.now i ≡ Some s
+        → Among r (of_mask (bits s.mask) rs)
+        → bits consulted.new
+        ≡ added (bits consulted.old) (xlate.probe rs (numbers key.now) (bits s.mask)) }
 {
     let subtable = &subtables[i];
     let indexes = &subtable.indexes;
@@ -211,8 +234,15 @@ fn ipv4_tests(
     known: &mut FieldLookups,
     consulted: &mut Mask,
 ) -> bool
-    ensures known { (rs : List Rule) → AreSubtablesOf subtables.now rs → AreKnown known.old (numbers key.now) rs → AreKnown known.new (numbers key.now) rs }
-    ensures consulted { (rs own : List Rule) (mask : List ℕ) → AreSubtablesOf subtables.now rs → AreKnown known.old (numbers key.now) rs → AreIndexes indexes.now mask own → (further : List (List ℕ)) → added (bits consulted.old) (when alive (xlate.prefix_tests rs (numbers key.now) mask (field.NwSrc ∷ field.NwDst ∷ []) further)) ≡ added (bits consulted.new) (when result further) }
+    ensures known { (rs : List Rule) → AreSubtablesOf subtables.now rs
+        → AreKnown known.old (numbers key.now) rs → AreKnown known.new (numbers key.now) rs }
+    ensures consulted { (rs own : List Rule) (mask : List ℕ) → AreSubtablesOf subtables.now rs
+        → AreKnown known.old (numbers key.now) rs → AreIndexes indexes.now mask own
+        → (further : List (List ℕ))
+        → added (bits consulted.old)
+        (when alive (xlate.prefix_tests rs (numbers key.now) mask
+        (field.NwSrc ∷ field.NwDst ∷ []) further))
+        ≡ added (bits consulted.new) (when result further) }
 {
     let source = prefix_test(
         alive,
@@ -244,8 +274,15 @@ fn ipv6_tests(
     known: &mut FieldLookups,
     consulted: &mut Mask,
 ) -> bool
-    ensures known { (rs : List Rule) → AreSubtablesOf subtables.now rs → AreKnown known.old (numbers key.now) rs → AreKnown known.new (numbers key.now) rs }
-    ensures consulted { (rs own : List Rule) (mask : List ℕ) → AreSubtablesOf subtables.now rs → AreKnown known.old (numbers key.now) rs → AreIndexes indexes.now mask own → (further : List (List ℕ)) → added (bits consulted.old) (when alive (xlate.prefix_tests rs (numbers key.now) mask (field.Ipv6Src ∷ field.Ipv6Dst ∷ []) further)) ≡ added (bits consulted.new) (when result further) }
+    ensures known { (rs : List Rule) → AreSubtablesOf subtables.now rs
+        → AreKnown known.old (numbers key.now) rs → AreKnown known.new (numbers key.now) rs }
+    ensures consulted { (rs own : List Rule) (mask : List ℕ) → AreSubtablesOf subtables.now rs
+        → AreKnown known.old (numbers key.now) rs → AreIndexes indexes.now mask own
+        → (further : List (List ℕ))
+        → added (bits consulted.old)
+        (when alive (xlate.prefix_tests rs (numbers key.now) mask
+        (field.Ipv6Src ∷ field.Ipv6Dst ∷ []) further))
+        ≡ added (bits consulted.new) (when result further) }
 {
     let source = prefix_test(
         alive,
@@ -269,7 +306,11 @@ fn ipv6_tests(
 
 /// Consults the part of a mask that a stage reaches, where the mask hasn't ended, and answers whether it goes on.
 fn stage_test(alive: bool, stage: &Stage, key: &Key, consulted: &mut Mask) -> bool
-    ensures { (before part mask : List ℕ) (rs : List Rule) → IsStage stage.now before part mask rs → (further : List (List ℕ)) → added (bits consulted.old) (when alive (stage_masks stage.now.kind (numbers key.now) part rs further)) ≡ added (bits consulted.new) (when result further) }
+    ensures { (before part mask : List ℕ) (rs : List Rule) → IsStage stage.now before part mask rs
+        → (further : List (List ℕ))
+        → added (bits consulted.old)
+        (when alive (stage_masks stage.now.kind (numbers key.now) part rs further))
+        ≡ added (bits consulted.new) (when result further) }
 {
     if !alive {
         return false;
@@ -307,8 +348,15 @@ fn prefix_test(
     known: &mut Option<FieldLookup>,
     consulted: &mut Mask,
 ) -> bool
-    ensures known { (rs : List Rule) → AreSubtablesOf subtables.now rs → IsKnown known.old (field_of tracked) (numbers key.now) rs → IsKnown known.new (field_of tracked) (numbers key.now) rs }
-    ensures consulted { (rs own : List Rule) (mask : List ℕ) → AreSubtablesOf subtables.now rs → IsKnown known.old (field_of tracked) (numbers key.now) rs → IsOfField prefixes.now (field_of tracked) mask own → (further : List (List ℕ)) → added (bits consulted.old) (when alive (xlate.prefix_test rs (numbers key.now) mask (field_of tracked) further)) ≡ added (bits consulted.new) (when result further) }
+    ensures known { (rs : List Rule) → AreSubtablesOf subtables.now rs
+        → IsKnown known.old (field_of tracked) (numbers key.now) rs
+        → IsKnown known.new (field_of tracked) (numbers key.now) rs }
+    ensures consulted { (rs own : List Rule) (mask : List ℕ) → AreSubtablesOf subtables.now rs
+        → IsKnown known.old (field_of tracked) (numbers key.now) rs
+        → IsOfField prefixes.now (field_of tracked) mask own → (further : List (List ℕ))
+        → added (bits consulted.old)
+        (when alive (xlate.prefix_test rs (numbers key.now) mask (field_of tracked) further))
+        ≡ added (bits consulted.new) (when result further) }
 {
     if !alive {
         return false;
@@ -334,10 +382,14 @@ fn told_of(
     key: &Key,
     known: &mut Option<FieldLookup>,
     length: u32,
-) -> Told
+) -> LengthLookup
     requires { length ≤ 128 }
-    ensures known { (rs : List Rule) → AreSubtablesOf subtables.now rs → IsKnown known.old (field_of tracked) (numbers key.now) rs → IsKnown known.new (field_of tracked) (numbers key.now) rs }
-    ensures result { (rs : List Rule) → AreSubtablesOf subtables.now rs → IsKnown known.old (field_of tracked) (numbers key.now) rs → IsTold result length (field_of tracked) (numbers key.now) rs }
+    ensures known { (rs : List Rule) → AreSubtablesOf subtables.now rs
+        → IsKnown known.old (field_of tracked) (numbers key.now) rs
+        → IsKnown known.new (field_of tracked) (numbers key.now) rs }
+    ensures result { (rs : List Rule) → AreSubtablesOf subtables.now rs
+        → IsKnown known.old (field_of tracked) (numbers key.now) rs
+        → IsLengthLookup result length (field_of tracked) (numbers key.now) rs }
 {
     if let Some(lookup) = &*known {
         return lookup.told(length);

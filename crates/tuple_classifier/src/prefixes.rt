@@ -8,7 +8,7 @@ ghost use Rattle.ovs_fields.specs.Packed.{numbers, bits};
 ghost use Rattle.tuple_classifier.specs.Numbers.{times, numbers_in};
 ghost use Rattle.tuple_classifier.specs.Numbered.{AreDistinct, without};
 ghost use Rattle.tuple_classifier.specs.Prefixes.{begins_at};
-ghost use Rattle.translation_laws.proofs.MemberLaws.{Among};
+ghost use Rattle.translation_laws.specs.Members.{Among};
 
 use crate::prefix::prefix_length;
 use crate::sorted::SortedNumbers;
@@ -44,8 +44,10 @@ impl FieldPrefixes {
 
     /// Makes room for one more rule.
     pub(crate) fn reserve(&mut self) -> Result<(), AllocError>
-        ensures same { (f : FieldId) (mask : List ℕ) (rs : List Rule) → IsOfField self.old f mask rs → IsOfField self.new f mask rs }
-        ensures room { OnOk result (vec_len self.new.values.items < vec_capacity self.new.values.items) }
+        ensures same { (f : FieldId) (mask : List ℕ) (rs : List Rule) → IsOfField self.old f mask rs
+            → IsOfField self.new f mask rs }
+        ensures room { OnOk result
+            (vec_len self.new.values.items < vec_capacity self.new.values.items) }
     {
         self.values.reserve()
     }
@@ -53,7 +55,9 @@ impl FieldPrefixes {
     /// Adds the prefix of a rule with this key, for which there is room.
     pub(crate) fn add(&mut self, key: &Key)
         requires { vec_len self.old.values.items < vec_capacity self.old.values.items }
-        ensures { (f : FieldId) (mask : List ℕ) (rs : List Rule) (r : Rule) → IsOfField self.old f mask rs → r.matching.key ≡ numbers key.now → IsOfField self.new f mask (rs ++ r ∷ []) }
+        ensures { (f : FieldId) (mask : List ℕ) (rs : List Rule) (r : Rule)
+            → IsOfField self.old f mask rs → r.matching.key ≡ numbers key.now
+            → IsOfField self.new f mask (rs ++ r ∷ []) }
     {
         if self.length > 0 {
             self.values.insert(key.get(self.field));
@@ -62,8 +66,12 @@ impl FieldPrefixes {
 
     /// Takes the prefix of a rule with this key out.
     pub(crate) fn take(&mut self, key: &Key)
-        requires { 0 < self.old.length → 0 < times (value_of (numbers key.now) self.old.field) (numbers_in self.old.values.items.items) }
-        ensures { (f : FieldId) (mask : List ℕ) (rs : List Rule) (r : Rule) → IsOfField self.old f mask rs → AreDistinct rs → Among r rs → r.matching.key ≡ numbers key.now → IsOfField self.new f mask (without r.number rs) }
+        requires { 0 < self.old.length
+            → 0 < times (value_of (numbers key.now) self.old.field)
+            (numbers_in self.old.values.items.items) }
+        ensures { (f : FieldId) (mask : List ℕ) (rs : List Rule) (r : Rule)
+            → IsOfField self.old f mask rs → AreDistinct rs → Among r rs
+            → r.matching.key ≡ numbers key.now → IsOfField self.new f mask (without r.number rs) }
     {
         if self.length > 0 {
             self.values.remove(key.get(self.field));
@@ -75,7 +83,9 @@ impl FieldPrefixes {
     #[tactic(auto, using(crate::proofs::Widths::width_within))]
     pub(crate) fn bits_apart(&self, key: &Key) -> u32
         requires { 0 < self.now.length }
-        ensures { (f : FieldId) (mask : List ℕ) (rs : List Rule) → IsOfField self.now f mask rs → (n : ℕ) → n ≤ width_of f → list_any (begins_at f (value_of (numbers key.now) f) n) rs ≡ nat_lt n result }
+        ensures { (f : FieldId) (mask : List ℕ) (rs : List Rule) → IsOfField self.now f mask rs
+            → (n : ℕ) → n ≤ width_of f
+            → list_any (begins_at f (value_of (numbers key.now) f) n) rs ≡ nat_lt n result }
     {
         let x = key.get(self.field);
         self.values.bits_apart(width(self.field), x)

@@ -43,7 +43,9 @@ impl SortedNumbers {
     /// Puts a number in, for which there is room.
     pub(crate) fn insert(&mut self, number: u128)
         requires { vec_len self.old.items < vec_capacity self.old.items }
-        ensures { (n : ℕ) → times n (numbers_in self.new.items.items) ≡ times n (numbers_in self.old.items.items) + (if number == n then 1 else 0) }
+        ensures { (n : ℕ)
+            → times n (numbers_in self.new.items.items)
+            ≡ times n (numbers_in self.old.items.items) + (if number == n then 1 else 0) }
     {
         let beyond = first_beyond(&self.items, number);
         match raised_count(&self.items, beyond, number) {
@@ -55,7 +57,9 @@ impl SortedNumbers {
     /// Takes a number out once, which is there.
     pub(crate) fn remove(&mut self, number: u128)
         requires { 0 < times number (numbers_in self.old.items.items) }
-        ensures { (n : ℕ) → times n (numbers_in self.new.items.items) + (if number == n then 1 else 0) ≡ times n (numbers_in self.old.items.items) }
+        ensures { (n : ℕ)
+            → times n (numbers_in self.new.items.items) + (if number == n then 1 else 0)
+            ≡ times n (numbers_in self.old.items.items) }
     {
         let place = place_of(&self.items, number);
         let count = self.items[place].count;
@@ -86,9 +90,11 @@ impl SortedNumbers {
         requires wide { width ≤ 128 }
         requires fits { x < 2 ^ width }
         requires fit { All (λ v. v < 2 ^ width) (numbers_in self.now.items.items) }
-        ensures { (n : ℕ) → n ≤ width → list_any (λ v. xlate.starts_alike width x v n) (numbers_in self.now.items.items) ≡ nat_lt n result }
+        ensures { (n : ℕ) → n ≤ width
+            → list_any (λ v. xlate.starts_alike width x v n) (numbers_in self.now.items.items)
+            ≡ nat_lt n result }
     {
-        let place = first_from(&self.items, x);
+        let place = first_beyond(&self.items, x);
         let from = bits_apart_at(&self.items, place, width, x);
         if place == 0 {
             return from;
@@ -97,22 +103,13 @@ impl SortedNumbers {
     }
 }
 
-/// The place of the first entry whose number is at least this one, or how many entries there are.
-fn first_from(items: &[Counted], number: u128) -> usize
-    requires { IsNonDecreasingBy (λ c. c.number) items.now }
-    ensures within { result ≤ length items.now }
-    ensures below { (k : ℕ) → k < result → slice_index (entry_numbers items.now) k < number }
-    ensures from { (k : ℕ) → result ≤ k → k < length items.now → number ≤ slice_index (entry_numbers items.now) k }
-{
-    items.partition_point(|item| item.number < number)
-}
-
 /// The place of the first entry whose number is more than this one, or how many entries there are.
 fn first_beyond(items: &[Counted], number: u128) -> usize
     requires { IsNonDecreasingBy (λ c. c.number) items.now }
     ensures within { result ≤ length items.now }
     ensures up_to { (k : ℕ) → k < result → slice_index (entry_numbers items.now) k ≤ number }
-    ensures beyond { (k : ℕ) → result ≤ k → k < length items.now → number < slice_index (entry_numbers items.now) k }
+    ensures beyond { (k : ℕ) → result ≤ k → k < length items.now
+        → number < slice_index (entry_numbers items.now) k }
 {
     items.partition_point(|item| item.number <= number)
 }
@@ -131,7 +128,9 @@ fn place_of(items: &[Counted], number: u128) -> usize
 /// The count with one more of the entry in front of a place, if that is of this number and its count can rise.
 fn raised_count(items: &[Counted], beyond: usize, number: u128) -> Option<u32>
     requires { beyond ≤ length items.now }
-    ensures { IfSome result (λ count. (0 < beyond) × (slice_index (entry_numbers items.now) (beyond - 1) ≡ number) × (slice_index (entry_counts items.now) (beyond - 1) + 1 ≡ count)) }
+    ensures { IfSome result
+        (λ count. (0 < beyond) × (slice_index (entry_numbers items.now) (beyond - 1) ≡ number)
+        × (slice_index (entry_counts items.now) (beyond - 1) + 1 ≡ count)) }
 {
     if beyond == 0 {
         return None;
@@ -148,7 +147,8 @@ fn raised_count(items: &[Counted], beyond: usize, number: u128) -> Option<u32>
 fn insert_entry(items: &mut Vec<Counted>, place: usize, number: u128)
     requires within { place ≤ length items.old.items }
     requires room { vec_len items.old < vec_capacity items.old }
-    ensures { items.new.items ≡ insert items.old.items place (record { number = number; count = 1 }) }
+    ensures { items.new.items
+        ≡ insert items.old.items place (record { number = number; count = 1 }) }
 {
     let Ok(()) = items.insert(place, Counted { number, count: 1 }) else {
         unreachable!()
@@ -160,9 +160,15 @@ fn set_count(items: &mut [Counted], place: usize, count: u32)
     requires within { place < length items.old }
     requires some { 0 < count }
     ensures length { length items.new ≡ length items.old }
-    ensures rising { IsNonDecreasingBy (λ c. c.number) items.old → IsNonDecreasingBy (λ c. c.number) items.new }
+    ensures rising { IsNonDecreasingBy (λ c. c.number) items.old
+        → IsNonDecreasingBy (λ c. c.number) items.new }
     ensures counted { All (λ c. 0 < c.count) items.old → All (λ c. 0 < c.count) items.new }
-    ensures times { (n : ℕ) → times n (numbers_in items.new) + (if slice_index (entry_numbers items.old) place == n then slice_index (entry_counts items.old) place else 0) ≡ times n (numbers_in items.old) + (if slice_index (entry_numbers items.old) place == n then count else 0) }
+    ensures times { (n : ℕ)
+        → times n (numbers_in items.new) +
+        (if slice_index (entry_numbers items.old) place == n then slice_index
+        (entry_counts items.old) place else 0)
+        ≡ times n (numbers_in items.old) +
+        (if slice_index (entry_numbers items.old) place == n then count else 0) }
 {
     items[place].count = count;
 }
@@ -172,7 +178,9 @@ fn bits_apart_at(items: &[Counted], place: usize, width: u32, x: u128) -> u32
     requires wide { width ≤ 128 }
     requires fits { x < 2 ^ width }
     requires fit { All (λ v. v < 2 ^ width) (entry_numbers items.now) }
-    ensures { (n : ℕ) → n ≤ width → (nat_lt place (length items.now) && xlate.starts_alike width x (slice_index (entry_numbers items.now) place) n) ≡ nat_lt n result }
+    ensures { (n : ℕ) → n ≤ width
+        → (nat_lt place (length items.now) && xlate.starts_alike width x
+        (slice_index (entry_numbers items.now) place) n) ≡ nat_lt n result }
 {
     if place < items.len() {
         common_leading(width, x, items[place].number) + 1

@@ -6,7 +6,7 @@ ghost use Rattle.spec_tables.specs.Rules.{Rule};
 ghost use Rattle.ovs_fields.specs.Packed.{numbers, bits};
 ghost use Rattle.tuple_classifier.specs.Counts.{count_at};
 ghost use Rattle.tuple_classifier.specs.Numbered.{AreDistinct, without};
-ghost use Rattle.translation_laws.proofs.MemberLaws.{Among};
+ghost use Rattle.translation_laws.specs.Members.{Among};
 ghost use Rattle.tuple_classifier.specs.declared.stage.StageKind.TheVariants as kinds;
 
 use crate::counts::{KeyCounts, add_count, count_of, reserve_count, take_count};
@@ -64,7 +64,8 @@ impl Stage {
 
     /// Makes room for one more rule.
     pub(crate) fn reserve(&mut self) -> Result<(), AllocError>
-        ensures same { (before part mask : List ℕ) (rs : List Rule) → IsStage self.old before part mask rs → IsStage self.new before part mask rs }
+        ensures same { (before part mask : List ℕ) (rs : List Rule)
+            → IsStage self.old before part mask rs → IsStage self.new before part mask rs }
         ensures few { CountsFewer self.old → CountsFewer self.new }
         ensures room { OnOk result (HasRoom self.new) }
     {
@@ -78,7 +79,9 @@ impl Stage {
     pub(crate) fn add(&mut self, key: &Key)
         requires room { HasRoom self.old }
         requires few { CountsFewer self.old }
-        ensures { (before part mask : List ℕ) (rs : List Rule) (r : Rule) → IsStage self.old before part mask rs → r.matching.key ≡ numbers key.now → IsStage self.new before part mask (rs ++ r ∷ []) }
+        ensures { (before part mask : List ℕ) (rs : List Rule) (r : Rule)
+            → IsStage self.old before part mask rs → r.matching.key ≡ numbers key.now
+            → IsStage self.new before part mask (rs ++ r ∷ []) }
     {
         match self.kind {
             StageKind::LikeTheOneBefore | StageKind::WholeMask => {}
@@ -89,7 +92,10 @@ impl Stage {
     /// Counts a rule with this key no longer.
     pub(crate) fn take(&mut self, key: &Key)
         requires { IsCounted self.old (numbers key.now) }
-        ensures { (before part mask : List ℕ) (rs : List Rule) (r : Rule) → IsStage self.old before part mask rs → AreDistinct rs → Among r rs → r.matching.key ≡ numbers key.now → IsStage self.new before part mask (without r.number rs) }
+        ensures { (before part mask : List ℕ) (rs : List Rule) (r : Rule)
+            → IsStage self.old before part mask rs → AreDistinct rs → Among r rs
+            → r.matching.key ≡ numbers key.now
+            → IsStage self.new before part mask (without r.number rs) }
     {
         match self.kind {
             StageKind::LikeTheOneBefore | StageKind::WholeMask => {}
@@ -99,7 +105,9 @@ impl Stage {
 
     /// Whether one of the rules agrees with a key on the part, where the stage tests them.
     pub(crate) fn some_agrees(&self, key: &Key) -> bool
-        ensures { (before part mask : List ℕ) (rs : List Rule) → IsStage self.now before part mask rs → self.now.kind ≡ kinds.Tested → result ≡ list_any (λ r. agree (numbers key.now) r.matching.key part) rs }
+        ensures { (before part mask : List ℕ) (rs : List Rule)
+            → IsStage self.now before part mask rs → self.now.kind ≡ kinds.Tested
+            → result ≡ list_any (λ r. agree (numbers key.now) r.matching.key part) rs }
     {
         count_of(&self.counts, &masked(key, &self.part)) > 0
     }

@@ -7,7 +7,7 @@ ghost use Rattle.ovs_fields.specs.Packed.{numbers, bits};
 ghost use Rattle.tuple_classifier.specs.Indexes.{CountMore, HaveRule};
 ghost use Rattle.tuple_classifier.specs.Numbered.{AreDistinct, without};
 ghost use Rattle.tuple_classifier.specs.Ranks.{rank_of};
-ghost use Rattle.translation_laws.proofs.MemberLaws.{Among};
+ghost use Rattle.translation_laws.specs.Members.{Among};
 
 use crate::buckets::{Buckets, add_rank, take_rank};
 use crate::indexes::Indexes;
@@ -44,8 +44,12 @@ impl Subtable {
     pub(crate) fn insert(&mut self, alloc: Global, key: &Key, rank: Rank) -> Result<(), AllocError>
         requires { CountMore self.old.indexes }
         ensures mask { self.new.mask ≡ self.old.mask }
-        ensures ok { OnOk result ((rs : List Rule) (r : Rule) → IsSubtableOf self.old rs → IsOfMask (bits self.old.mask) r → r.matching.key ≡ numbers key.now → rank_of r ≡ rank → IsSubtableOf self.new (rs ++ r ∷ [])) }
-        ensures err { OnErr result ((rs : List Rule) → IsSubtableOf self.old rs → IsSubtableOf self.new rs) }
+        ensures ok { OnOk result
+            ((rs : List Rule) (r : Rule) → IsSubtableOf self.old rs
+            → IsOfMask (bits self.old.mask) r → r.matching.key ≡ numbers key.now → rank_of r ≡ rank
+            → IsSubtableOf self.new (rs ++ r ∷ [])) }
+        ensures err { OnErr result
+            ((rs : List Rule) → IsSubtableOf self.old rs → IsSubtableOf self.new rs) }
     {
         self.indexes.reserve()?;
         add_rank(alloc, &mut self.buckets, *key, rank)?;
@@ -57,7 +61,9 @@ impl Subtable {
     pub(crate) fn take(&mut self, key: &Key, rank: Rank)
         requires { HaveRule self.old.indexes (numbers key.now) rank.priority }
         ensures mask { self.new.mask ≡ self.old.mask }
-        ensures taken { (rs : List Rule) (r : Rule) → IsSubtableOf self.old rs → AreDistinct rs → Among r rs → r.matching.key ≡ numbers key.now → rank_of r ≡ rank → IsSubtableOf self.new (without r.number rs) }
+        ensures taken { (rs : List Rule) (r : Rule) → IsSubtableOf self.old rs → AreDistinct rs
+            → Among r rs → r.matching.key ≡ numbers key.now → rank_of r ≡ rank
+            → IsSubtableOf self.new (without r.number rs) }
     {
         take_rank(&mut self.buckets, key, rank.number);
         self.indexes.take(key, rank.priority);
@@ -72,7 +78,8 @@ impl Subtable {
 
     /// The best rank of the rules that a key matches.
     pub(crate) fn best(&self, key: &Key) -> Option<Rank>
-        ensures { (rs : List Rule) → IsSubtableOf self.now rs → result ≡ option_map rank_of (winner rs (numbers key.now)) }
+        ensures { (rs : List Rule) → IsSubtableOf self.now rs
+            → result ≡ option_map rank_of (winner rs (numbers key.now)) }
     {
         match self.buckets.get(&masked(key, &self.mask)) {
             Some(ranks) => best_of(ranks),
@@ -82,7 +89,9 @@ impl Subtable {
 
     /// The number of the rule with this key and priority.
     pub(crate) fn find(&self, key: &Key, priority: u16) -> Option<u32>
-        ensures { (rs : List Rule) → IsSubtableOf self.now rs → result ≡ option_map (λ r. r.number) (find (λ r. same (numbers key.now) r.matching.key && (r.priority == priority)) rs) }
+        ensures { (rs : List Rule) → IsSubtableOf self.now rs
+            → result ≡ option_map (λ r. r.number)
+            (find (λ r. same (numbers key.now) r.matching.key && (r.priority == priority)) rs) }
     {
         match self.buckets.get(key) {
             Some(ranks) => number_of_priority(ranks, priority),

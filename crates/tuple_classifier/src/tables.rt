@@ -39,11 +39,11 @@ impl Model for Tables {
 
     ghost Value = { Version };
 
-    ghost use Rattle.tuple_classifier.specs.Sound.{version_at, IsSound};
+    ghost use Rattle.tuple_classifier.specs.Held.{version_at, HoldsVersion};
 
     ghost view = { version_at };
 
-    ghost invariant = { IsSound };
+    ghost invariant = { HoldsVersion };
 }
 
 impl Tables {
@@ -70,8 +70,12 @@ impl Tables {
 
     /// The number of the rule that wins for a key in a table. The bits that the lookup consults are added to `consulted`.
     pub fn look(&self, table: u8, key: &Key, consulted: &mut Mask) -> Option<u32>
-        ensures winner { result ≡ option_map (λ r. r.number) (winner (rules_in table self.now.rules) (numbers key.now)) }
-        ensures consulted { bits consulted.new ≡ added (bits consulted.old) (consults (rules_in table self.now.rules) (numbers key.now)) }
+        ensures winner { result
+            ≡ option_map (λ r. r.number)
+            (winner (rules_in table self.now.rules) (numbers key.now)) }
+        ensures consulted { bits consulted.new
+            ≡ added (bits consulted.old)
+            (consults (rules_in table self.now.rules) (numbers key.now)) }
     {
         if (table as usize) < self.tables.len() {
             look(&self.tables[table as usize], key, consulted)
@@ -83,7 +87,8 @@ impl Tables {
     /// The actions of a live rule.
     pub fn actions(&self, number: u32) -> &[OfAction]
         requires { IsTrue (is_live number self.now.rules) }
-        ensures { option_map (λ r. r.actions) (rule_numbered number self.now.rules) ≡ Some result.now }
+        ensures { option_map (λ r. r.actions) (rule_numbered number self.now.rules)
+            ≡ Some result.now }
     {
         let place = self.places[number as usize - 1];
         self.lists[place as usize].as_slice()

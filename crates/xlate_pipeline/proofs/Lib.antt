@@ -1,5 +1,5 @@
+mod EventBits
 mod Needing
 mod PacketPart
 mod Placed
-mod RunBits
 mod Soundness

@@ -4,9 +4,9 @@ use Rattle.spec_keys.specs.Keys.{agree, IsKey, IsClean}
 use Rattle.spec_xlate.specs.Translation.{Switch, pipe}
 use Rattle.spec_xlate.specs.Consulted.{consulted}
 use Rattle.translation_laws.proofs.SoundLaws.{TranslationAlike, consulted-sound}
-use Rattle.xlate_pipeline.specs.Xlates.{Xlate, IsSound}
+use Rattle.pipe_model.specs.Xlates.{Xlate, IsWildcardSound}
 
-pub sound_from : (sw : Switch) (x : Xlate) (key : List ℕ) → IsKey key → x.key ≡ key → x.translation ≡ pipe sw key → x.mask ≡ consulted sw key → IsSound sw x
+pub sound_from : (sw : Switch) (x : Xlate) (key : List ℕ) → IsKey key → x.key ≡ key → x.translation ≡ pipe sw key → x.mask ≡ consulted sw key → IsWildcardSound sw x
 sound_from sw x key is_key same translated consulted_bits = record {
   same_translation = λ other is clean other_clean alike. (law other is clean other_clean alike).same_translation ∙ sym translated;
   same_bits = λ other is clean other_clean alike. (law other is clean other_clean alike).same_bits ∙ sym consulted_bits;

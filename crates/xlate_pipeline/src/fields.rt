@@ -8,6 +8,7 @@ ghost use Rattle.spec_xlate.specs.Lookup.{added};
 ghost use Rattle.spec_xlate.specs.Consulted.{whole, bits_read, bits_written};
 ghost use Rattle.ovs_fields.specs.Packed.{bits};
 
+use named_fields::low_bits;
 use ovs_fields::{FieldId, Mask, width};
 
 /// All bits of a field.
@@ -15,12 +16,7 @@ fn all_bits(field: FieldId) -> u128
     ensures all { result ≡ all_bits (width_of field) }
     ensures within { result < 2 ^ width_of field }
 {
-    let width = width(field);
-    if width == u128::BITS {
-        u128::MAX
-    } else {
-        (1 << width) - 1
-    }
+    low_bits(width(field))
 }
 
 /// Adds all bits of a field.

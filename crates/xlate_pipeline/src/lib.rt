@@ -15,7 +15,7 @@
 //! whose rules can be run (`pipe_model`'s `AreRunnable`), and every list of ports, under the same three limits as the
 //! plain interpreter.
 //!
-//! Of a `Translated` callers learn what a megaflow needs (`IsSound`, specs/Xlates.antt): where the packet's own key is
+//! Of a `Translated` callers learn what a megaflow needs (`IsWildcardSound` of `pipe_model`): where the packet's own key is
 //! clean, every clean key that agrees with it on the mask has the same translation, and consults the same bits. A key is
 //! clean where metadata and registers are 0, as they are in the key of each frame. Of other keys it need not hold: what a
 //! translation reads of registers that were set isn't in the mask, which has none of their bits.
@@ -25,8 +25,9 @@
 //!
 //! # How
 //!
-//! The steps are those of the plain interpreter, `pipe_model`'s `Translating`; each lookup is the classifier's, which adds
-//! the bits that it consults to a mask as it finds the rule. Before each action its bits are added too (`consulting`):
+//! The run is that of the plain interpreter, `pipe_model`'s `translate_by`, and its notes are a mask (`switch`): each lookup
+//! is the classifier's, which adds the bits that it consults as it finds the rule, and before each action its bits are added
+//! too (`consulting`):
 //!
 //! - A read consults the bits that are read.
 //! - A write consults, whole, the fields that say whether the packet is what the write needs, and where it is so the bits
@@ -36,11 +37,11 @@
 //!   `in_port` sends and `flood` doesn't, is in every mask, as are the Ethernet type, and of an IP packet whether it is a
 //!   fragment.
 //!
-//! The mask grows in place along the run (`lookups`), so that no list of masks is kept. Bits of metadata and of registers
-//! are left out at the end.
+//! The mask grows in place along the run, so that no list of masks is kept. Bits of metadata and of registers are left out
+//! at the end.
 //!
-//! The lists are the caller's: whoever hands in those of a translation that is done with (`Translated::into_plain`) has the
-//! next one made in the same memory.
+//! The lists are the caller's: whoever hands in those of a translation that is done with (`SpareLists`) has the next one
+//! made in the same memory.
 //!
 //! # What is left to others
 //!
@@ -51,11 +52,8 @@
 
 mod consulting;
 mod fields;
-mod lookups;
 mod registers;
 mod switch;
-mod translated;
 mod translation;
 
-pub use translated::Translated;
 pub use translation::translate;

@@ -1,6 +1,6 @@
 use Rattle.std.proofs.Common.{◌≡◌, IsTrue, length}
 use Rattle.std.specs.List.{list_all}
-use Rattle.pipe_model.specs.Runnable.{has_sound_actions}
+use Rattle.spec_tables.specs.Edits.{has_sound_actions}
 use Rattle.board_tests.proofs.flows.edits_of.Given as goal
 
 abbrev pub invariant-flows : goal.invariant-flows

@@ -1,7 +1,8 @@
 use Rattle.std.proofs.Common.{sym, ◌∙◌, arith}
 use Rattle.std.proofs.lemmas.Result.{err_from_is_err_and}
 use Rattle.edit_script.specs.ScriptViews.{script_view}
-use Rattle.edit_script.proofs.LineTexts.{shorter, last_line, next_line, fails}
+use Rattle.text_numbers.proofs.Cuts.{shorter}
+use Rattle.edit_script.proofs.LineTexts.{last_line, next_line, fails}
 use Rattle.edit_script.proofs.script.read_lines.Goals as goal
 
 pub returns-in_err-script-clause-value : goal.returns-in_err-script-clause-value
@@ -15,7 +16,7 @@ lines-preserved c = record {
   so_far = sym (next_line c.lines.number (script_view c.lines.script) (script_view c.in_ok-script.script) c.lines.rest.now _ _ c.in-Some.ensures c.in_ok-script.ensures.value)
       ∙ c.lines.invariant.so_far;
   formed = c.in_ok-script.ensures.formed;
-  room = omega (arith, c.lines.invariant.room, shorter c.lines.rest.now _ _ c.in-Some.ensures);
+  room = omega (arith, c.lines.invariant.room, shorter 10 c.lines.rest.now _ _ c.in-Some.ensures);
 }
 
 pub returns-clause-value : goal.returns-clause-value

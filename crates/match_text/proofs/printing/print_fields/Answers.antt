@@ -8,12 +8,14 @@ use Rattle.match_text.proofs.printing.print_fields.Goals as goal
 pub fields-preserved : goal.fields-preserved
 fields-preserved c = record {
   printed = rw c.in_ok-begun.ensures.begun (one_more (shown_field (match_view c.args.m.now) c.args.shorthand) c.fields.begun (string_bytes c.fields.out)
-      (string_bytes c.print_field.new.out) c.args.fields.now c.fields.field-index InPort c.fields-test.true c.in_ok-begun.ensures.text)
+      (string_bytes c.print_field.new.out) c.args.fields.now c.fields.field-index InPort c.fields-test.true c.in_ok-begun.ensures.added.text)
       ∙ c.fields.invariant.printed;
-  kept = begins_before _ _ _ _ c.fields.invariant.kept c.in_ok-begun.ensures.text;
+  kept = begins_before _ _ _ _ c.fields.invariant.kept c.in_ok-begun.ensures.added.text;
 }
 
-pub returns-clause-text : goal.returns-clause-text
-returns-clause-text c =
-    sym (none_left (shown_field (match_view c.args.m.now) c.args.shorthand) c.fields.begun (string_bytes c.fields.out) c.args.fields.now c.fields.field-index c.fields-test.false)
-    ∙ c.fields.invariant.printed
+pub returns : goal.returns
+returns c = record {
+  text = sym (none_left (shown_field (match_view c.args.m.now) c.args.shorthand) c.fields.begun (string_bytes c.fields.out) c.args.fields.now c.fields.field-index c.fields-test.false)
+      ∙ c.fields.invariant.printed;
+  kept = tt;
+}

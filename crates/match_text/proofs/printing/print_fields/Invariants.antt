@@ -2,7 +2,7 @@ use Rattle.std.proofs.Common.{◌≡◌, ◌++◌, false, drop, string_bytes}
 use Rattle.std.specs.List.{flat_map}
 use Rattle.spec_flow_text.specs.Printed.{shown_field}
 use Rattle.rule_tables.specs.Views.{match_view}
-use Rattle.text_numbers.specs.Prefix.{IsPrefix}
+use Rattle.text_numbers.specs.Added.{IsPrefix}
 use Rattle.match_text.specs.Shown.{items_text}
 use Rattle.match_text.proofs.printing.print_fields.Given as goal
 

@@ -1,12 +1,12 @@
-use Rattle.std.proofs.Common.{◌≡◌, false, List, ◌++◌, string_bytes, Option, ap, ◌∙◌}
+use Rattle.std.proofs.Common.{◌≡◌, false, List, Option}
 use Rattle.std.specs.List.{flat_map}
-use Rattle.std.proofs.lemmas.Result.{on_ok_weaker}
 use Rattle.spec_keys.specs.declared.field_id.FieldId.{FieldId}
 use Rattle.spec_keys.specs.Fields.{fields}
 use Rattle.spec_tables.specs.Rules.{Match}
 use Rattle.spec_flow_text.specs.declared.shorthand.Shorthand.{Shorthand}
 use Rattle.spec_flow_text.specs.Printed.{shorthand_of, shown_field, shown, match_printed}
 use Rattle.rule_tables.specs.Views.{match_view}
+use Rattle.text_numbers.proofs.Adding.{same_text}
 use Rattle.match_text.specs.Shown.{items_text}
 use Rattle.match_text.proofs.ItemTexts.{joined}
 use Rattle.match_text.proofs.printing.print_match.Goals as goal
@@ -16,8 +16,5 @@ text_of : (m : Match) (h : Option Shorthand) (fs : List FieldId) → h ≡ short
 unfolding shown match_printed
 text_of m h fs is_shorthand are_all = rw (is_shorthand, are_all) (joined (flat_map (shown_field m (shorthand_of m)) fields))
 
-pub returns-clause-text : goal.returns-clause-text
-returns-clause-text c =
-    on_ok_weaker c.print_fields.result (λ e. e ∙ ap (λ t. string_bytes c.args.out.now ++ t)
-    (text_of (match_view c.args.m.now) c.shorthand_of.result c.all_fields.result.now c.shorthand_of.ensures c.all_fields.ensures))
-    c.print_fields.ensures.text
+pub returns : goal.returns
+returns c = same_text (text_of (match_view c.args.m.now) c.shorthand_of.result c.all_fields.result.now c.shorthand_of.ensures c.all_fields.ensures) c.print_fields.ensures

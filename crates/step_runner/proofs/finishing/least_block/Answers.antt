@@ -1,11 +1,11 @@
-use Rattle.std.proofs.Common.{List, [], ◌∷◌, ◌++◌, map, min, take, sym, ap, ◌∙◌}
+use Rattle.std.proofs.Common.{List, [], ◌∷◌, ◌++◌, map, min, take, sym, arith, ap, ◌∙◌}
 use Rattle.std.proofs.lemmas.List.{map_push, take_more}
 use Rattle.spec_case.specs.Run.{Run}
 use Rattle.spec_case.specs.Blocks.{last_block}
 use Rattle.spec_board.specs.Schedules as schedules
 use Rattle.pmd_board.specs.BoardView.{BoardView}
 use Rattle.step_runner.specs.Scheduled.{under_way}
-use Rattle.step_runner.proofs.Scheduled.{least_none, least_more}
+use Rattle.step_runner.proofs.Scheduled.{least_most, least_none, least_more}
 use Rattle.step_runner.proofs.finishing.least_block.Goals as goal
 
 pub boards-init : goal.boards-init
@@ -23,3 +23,9 @@ boards-preserved g c =
     ∙ ap (λ n. min n c.block.result) c.boards.invariant
     ∙ ap (min (schedules.least_block (last_block run) front)) c.block.ensures.same
     ∙ sym (ap (schedules.least_block (last_block run)) more ∙ least_more (last_block run) front (under_way run b))
+
+pub returns-clause-there : goal.returns-clause-there
+returns-clause-there g c =
+    let run : Run = g.C.Case.run in
+    let is = c.boards.invariant in
+    omega (arith, is, least_most (last_block run) (map (under_way run) (take c.boards.board-index c.args.boards.now)))

@@ -1,55 +1,53 @@
-use Rattle.std.proofs.Common.{arith, ◌≡◌, ◌+◌, sym, ap, ◌∙◌, subst}
+use Rattle.std.proofs.Common.{arith, ◌≡◌, ◌+◌, ap, subst}
 use Rattle.spec_case.specs.Run.{Run}
 use Rattle.spec_case.specs.Blocks.{last_block, last_place}
-use Rattle.run_blocks.specs.Places.{place_before}
 use Rattle.run_blocks.proofs.Blocks.{last_place-last}
 use Rattle.spec_board.specs.Steps as steps
 use Rattle.spec_board.specs.State.{State}
 use Rattle.spec_board.specs.Journals.{IsFinished}
-use Rattle.spec_board.specs.Effects.{effect}
-use Rattle.board_laws.proofs.Places.{all_places}
 use Rattle.pmd_board.specs.BoardView.{BoardView, state_of}
+use Rattle.step_runner.specs.Progress.{IsSwept}
+use Rattle.step_runner.proofs.LookedUp.{looked_up}
 use Rattle.step_runner.proofs.Scheduled.{state_after}
-use Rattle.step_runner.specs.Progress.{ArePlanned, IsAt, IsSwept}
-use Rattle.step_runner.proofs.Decided.{all_decided}
-use Rattle.step_runner.proofs.Progress.{opened_at, place_before-next, finished_from}
+use Rattle.step_runner.proofs.Progress.{may_open, plans_same, finished_from}
 use Rattle.step_runner.proofs.finishing.open_next.Goals as goal
 
-pub returns-then-block-last-clause-due : goal.returns-then-block-last-clause-due
-returns-then-block-last-clause-due g c =
+pub open_block-requires : goal.open_block-requires
+open_block-requires g c =
     let run : Run = g.C.Case.run in
     let b : BoardView = c.args.board.now in
-    let new : BoardView = c.open_block.new.board in
-    let next = c.args.block + 1 in
-    let opened : State = effect run b.port (state_of run b) (steps.Open next) in
-    let port : new.port ≡ b.port = ap (λ (x : BoardView). x.port) c.open_block.ensures.appended in
-    let place : place_before run new.port next ≡ last_place run b.port c.args.block = place_before-next run new.port c.args.block ∙ ap (λ p. last_place run p c.args.block) port in
-    let at : IsAt run new.port opened next (place_before run new.port next + 1) = subst (λ p. IsAt run p opened next (place_before run new.port next + 1)) (sym port) (subst (λ i. IsAt run b.port opened next (i + 1)) (sym place) (opened_at run b.port (state_of run b) c.args.block (last_place run b.port c.args.block + 1) c.requires.swept)) in record {
-      limit = ap (λ (x : BoardView). x.flow_limit) c.open_block.ensures.appended ∙ c.requires.limit;
-      at = λ _. subst (λ (t : State). IsAt run new.port t next (place_before run new.port next + 1)) (sym (state_after run b new (steps.Open next) c.open_block.ensures)) at;
-      finished = λ after. absurd (let more = c.if-block-last.true in let last = c.last_block-last.ensures.block in omega (arith, after, more, last));
-      planned = λ after. absurd (let more = c.if-block-last.true in let last = c.last_block-last.ensures.block in omega (arith, after, more, last));
-      legal = λ after. absurd (let more = c.if-block-last.true in let last = c.last_block-last.ensures.block in omega (arith, after, more, last));
-      decided = λ after. absurd (let more = c.if-block-last.true in let last = c.last_block-last.ensures.block in omega (arith, after, more, last));
-      lawful = λ after. absurd (let more = c.if-block-last.true in let last = c.last_block-last.ensures.block in omega (arith, after, more, last));
+    may_open run b.port (state_of run b) c.args.block c.requires.swept c.requires.all (let more = c.if-block-last.true in let last = c.last_block-last.ensures.block in omega (arith, more, last))
+
+pub returns-then-block-last-clause-past : goal.returns-then-block-last-clause-past
+returns-then-block-last-clause-past g c =
+    let run : Run = g.C.Case.run in
+    let b : BoardView = c.args.board.now in
+    let more = c.if-block-last.true in
+    let last = c.last_block-last.ensures.block in record {
+      next = λ _. ap (λ (s : State). s.block) (state_after run b c.open_block.new.board (steps.Open (c.args.block + 1)) c.open_block.ensures);
+      finished = λ is. absurd (omega (arith, is, more, last));
     }
 
-pub returns-else-block-last-clause-due : goal.returns-else-block-last-clause-due
-returns-else-block-last-clause-due g c =
+pub returns-then-block-last-clause-only_plans : goal.returns-then-block-last-clause-only_plans
+returns-then-block-last-clause-only_plans g c =
+    let run : Run = g.C.Case.run in
+    let b : BoardView = c.args.board.now in
+    let is = state_after run b c.open_block.new.board (steps.Open (c.args.block + 1)) c.open_block.ensures in
+    plans_same run b.port (state_of run b) (state_of run c.open_block.new.board) (ap (λ (s : State). s.places) is)
+
+pub returns-else-block-last-clause-past : goal.returns-else-block-last-clause-past
+returns-else-block-last-clause-past g c =
     let run : Run = g.C.Case.run in
     let b : BoardView = c.args.board.now in
     let s : State = state_of run b in
     let no_more = c.if-block-last.false in
     let last = c.last_block-last.ensures.block in
     let end : c.args.block ≡ last_block run = omega (arith, no_more, last, c.requires.there) in
-    let swept : IsSwept run b.port s (last_block run) (last_place run b.port (last_block run) + 1) = subst (λ k. IsSwept run b.port s k (last_place run b.port k + 1)) end c.requires.swept in
-    let finished : IsFinished run s = finished_from run b.port s (all_places run b.port b.journal) (subst (λ i. IsSwept run b.port s (last_block run) (i + 1)) (last_place-last run b.port) swept) in
-    let planned : ArePlanned run b = λ place from upto. swept.is_at.decided place from (omega (arith, upto, last_place-last run b.port)) in record {
-      limit = c.requires.limit;
-      at = λ there. absurd (omega (arith, there, no_more, last));
+    let swept : IsSwept run s (last_block run) = subst (λ k. IsSwept run s k) end c.requires.swept in
+    let lawful = c.journal.ensures.lawful in
+    let all = c.requires.all in
+    let there = ap (last_place run b.port) end in
+    let finished : IsFinished run s = finished_from run b.port s lawful.places (looked_up run b.port b.flow_limit b.journal c.journal.ensures.legal) lawful.next_within swept (omega (arith, all, there, last_place-last run b.port)) in record {
+      next = λ less. absurd (omega (arith, less, end));
       finished = λ _. finished;
-      planned = λ _. planned;
-      legal = λ _. c.journal.ensures.legal;
-      decided = λ _. all_decided run b c.last_block-last.ensures.in_order c.journal.ensures.keys c.journal.ensures.legal planned;
-      lawful = λ _. c.journal.ensures.lawful;
     }

@@ -1,5 +1,6 @@
 use Rattle.std.proofs.Common.{◌≡◌, arith, ℕ, ◌∷◌, List, length, inl, refl, sym, ap, ◌∙◌, subst}
 use Rattle.spec_case.specs.Run.{Run}
+use Rattle.spec_case.specs.Blocks.{hi}
 use Rattle.spec_board.specs.Steps as steps
 use Rattle.spec_board.specs.State.{State}
 use Rattle.spec_board.specs.Schedules as schedules
@@ -7,15 +8,15 @@ use Rattle.spec_board.specs.Effects.{effect}
 use Rattle.translation_laws.proofs.MemberLaws.{Among}
 use Rattle.board_laws.proofs.NumberLaws.{Rising}
 use Rattle.pmd_board.specs.BoardView.{BoardView, state_of}
-use Rattle.step_runner.specs.Progress.{IsSweeping}
+use Rattle.step_runner.specs.Progress.{OnlyPuts}
 use Rattle.step_runner.specs.Scheduled.{under_way}
-use Rattle.step_runner.proofs.Progress.{listed_rising, first_above, none_above, may_put, put_keeps, put_leaves}
+use Rattle.step_runner.proofs.Progress.{listed_rising, first_above, none_above, may_put, puts_none, put_keeps, put_leaves}
 use Rattle.step_runner.proofs.Scheduled.{state_after, put_step, first_put, all_put}
 use Rattle.step_runner.proofs.sweeping.put_listed.Goals as goal
 
 pub entries-init : goal.entries-init
 entries-init g c = record {
-  sweeping = c.requires.sweeping;
+  only_puts = puts_none (state_of g.C.Case.run c.args.board.now);
   same = record { port = refl; limit = refl };
   above = listed_rising g.C.Case.run c.args.board.now c.journal.ensures.legal;
   left = refl;
@@ -28,9 +29,14 @@ put-lists-requires-clause-may g c =
     let s : State = state_of run b in
     let n = c.in-Some.number in
     let first = first_above c.entries.after n s.listed c.entries.invariant.above c.in-Some.ensures.some.0 in
-    let here = subst (λ p. IsSweeping run p s c.args.block (state_of run c.args.board.now).next) (sym c.entries.invariant.same.port) c.entries.invariant.sweeping in
-    may_put run b.port s c.args.block (state_of run c.args.board.now).next n c.in_ok-made.made.version here
-    (subst (Among n) (sym first.1) (inl refl)) (c.in_ok-made.ensures.version ∙ c.requires.version)
+    let kept = c.entries.invariant.only_puts in
+    let v : c.in_ok-made.made.version ≡ hi run (state_of run c.args.board.now).block = c.in_ok-made.ensures.version ∙ c.requires in
+    let versions = c.journal.ensures.lawful.versions in
+    let above = versions.floor_newest in
+    let below = versions.within_block in
+    let floor = kept.floor in
+    let block = ap (hi run) kept.as_far.block in
+    may_put run s n c.in_ok-made.made.version (subst (Among n) (sym first.1) (inl refl)) (omega (arith, above, below, floor, v)) (omega (arith, v, block))
 
 pub entries-smaller : goal.entries-smaller
 entries-smaller g c =
@@ -63,8 +69,7 @@ entries-preserved g c =
     let left : (state_of run new).listed ≡ first.0 = ap (λ (t : State). t.listed) moved ∙ put_leaves run port s n v c.put-lists.ensures.result first.0 first.1 rises in
     let made : under_way run new ≡ schedules.put_at run c.args.tables.now n (under_way run b) =
     put_step run b new n v c.put-lists.ensures ∙ ap (λ w. schedules.put_at run w n (under_way run b)) c.in_ok-made.ensures.version in record {
-      sweeping = subst (λ (t : State). IsSweeping run port t c.args.block (state_of run c.args.board.now).next) (sym moved)
-          (put_keeps run port s c.args.block (state_of run c.args.board.now).next n v c.put-lists.ensures.result c.entries.invariant.sweeping);
+      only_puts = subst (λ (t : State). OnlyPuts (state_of run c.args.board.now) t) (sym moved) (put_keeps run port (state_of run c.args.board.now) s n v c.put-lists.ensures.result c.entries.invariant.only_puts);
       same = record {
         port = ap (λ (x : BoardView). x.port) c.put-lists.ensures.appends.appended ∙ same.port;
         limit = ap (λ (x : BoardView). x.flow_limit) c.put-lists.ensures.appends.appended ∙ same.limit;

@@ -1,12 +1,11 @@
 use Rattle.std.proofs.Common.{◌≡◌, ◌++◌, take, map, IsTrue}
 use Rattle.edge_io.specs.declared.outside.InUse.TheVariants.{Nothing}
 use Rattle.spec_run.specs.Outputs.{port_file}
-use Rattle.pmd_board.specs.BoardView.{journals_view}
 use Rattle.switch_output.proofs.writing.write_port_files.Given as goal
 
 abbrev pub invariant-files : goal.invariant-files
 invariant-files g l = record {
   in_use : g.S.Shelf.in_use l.shelf ≡ Nothing;
-  done : IsTrue g.S.Shelf.tells → (g.S.Shelf.told l.shelf).done ≡ (g.S.Shelf.told l.fn.shelf).done ++ map (port_file l.out g.C.Case.run (journals_view l.boards)) (take l.port-index l.ports);
+  done : IsTrue g.S.Shelf.tells → (g.S.Shelf.told l.shelf).done ≡ (g.S.Shelf.told l.fn.shelf).done ++ map (port_file l.out g.C.Case.run l.finished) (take l.port-index l.ports);
   counts : g.S.Shelf.counts l.shelf ≡ g.S.Shelf.counts l.fn.shelf;
 }

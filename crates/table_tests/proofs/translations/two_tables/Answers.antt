@@ -1,9 +1,9 @@
 use Rattle.std.proofs.Common.{◌≡◌, [], ◌∷◌, true, refl, sym, ap, ◌∙◌, subst, arith}
 use Rattle.std.proofs.lemmas.Bool.{and_from}
-use Rattle.spec_tables.specs.Edits.{Edit}
+use Rattle.spec_tables.specs.Edits.{Edit, has_sound_actions}
 use Rattle.rule_tables.specs.History.{History, rules_of, edited_by, history_of}
 use Rattle.rule_tables.proofs.Histories.{history-none, history-push}
-use Rattle.pipe_model.specs.Runnable.{AreRunnable, has_sound_actions}
+use Rattle.pipe_model.specs.Runnable.{AreRunnable}
 use Rattle.pipe_model.proofs.Versions.{runnable-history}
 use Rattle.table_tests.proofs.translations.two_tables.Goals as goal
 

@@ -1,34 +1,32 @@
-use Rattle.std.proofs.Common.{ℕ, List, sym, ap, ap₂, ◌∙◌}
+use Rattle.std.proofs.Common.{ℕ, List, fold, sym, ap, ◌∙◌}
 use Rattle.spec_keys.specs.Fields.{register_fields}
 use Rattle.spec_keys.specs.Keys.{none}
-use Rattle.spec_xlate.specs.Translation.{State, switch_of, start, look, last_state, pipe, translation_of}
+use Rattle.spec_xlate.specs.Translation.{switch_of, start}
 use Rattle.spec_xlate.specs.Lookup.{added}
 use Rattle.spec_xlate.specs.Consulted.{look_bits, start_bits, without, consulted}
 use Rattle.ovs_fields.specs.Packed.{numbers}
 use Rattle.translation_laws.proofs.UnionLaws.{added-append}
-use Rattle.xlate_pipeline.specs.Xlates.{Xlate}
+use Rattle.pipe_model.specs.Events.{events_of}
+use Rattle.pipe_model.specs.Xlates.{Xlate}
+use Rattle.xlate_pipeline.specs.Steps.{with_event}
+use Rattle.xlate_pipeline.proofs.EventBits.{look-consults}
 use Rattle.xlate_pipeline.proofs.Soundness.{sound_from}
 use Rattle.xlate_pipeline.proofs.translation.translate.Goals as goal
 
 pub returns-clause-translation : goal.returns-clause-translation
-unfolding pipe last_state
-returns-clause-translation c =
-    let sw = switch_of c.args.tables.now.rules c.args.ports.now in
-    ap (λ (x : Xlate). x.translation) c.new.ensures
-    ∙ c.finish.ensures
-    ∙ ap translation_of (c.in_ok-look.ensures.state ∙ ap (look sw 65 0) c.start-state.ensures)
+returns-clause-translation c = ap (λ (x : Xlate). x.translation) c.new.ensures ∙ c.in_ok-made.ensures.translation
 
 pub returns-clause-mask : goal.returns-clause-mask
-unfolding consulted
+unfolding consulted events_of
 returns-clause-mask c =
     let sw = switch_of c.args.tables.now.rules c.args.ports.now in
     let key = numbers c.args.key.now in
     ap (λ (x : Xlate). x.mask) c.new.ensures
     ∙ c.without_registers-mask.ensures
     ∙ ap (without register_fields)
-    (c.in_ok-look.ensures.mask
-    ∙ ap₂ (λ (m : List ℕ) (s : State). added m (look_bits sw 65 0 s))
-    (c.consult_start.ensures ∙ ap (λ (m : List ℕ). added m (start_bits key)) c.none-mask.ensures) c.start-state.ensures
+    (c.in_ok-made.ensures.noted
+    ∙ ap (λ (m : List ℕ). fold with_event m (events_of sw key)) (c.consult_start.ensures ∙ ap (λ (m : List ℕ). added m (start_bits key)) c.none-mask.ensures)
+    ∙ look-consults sw 65 0 (added none (start_bits key)) (start key)
     ∙ sym (added-append none (start_bits key) (look_bits sw 65 0 (start key))))
 
 pub returns-clause-sound : goal.returns-clause-sound

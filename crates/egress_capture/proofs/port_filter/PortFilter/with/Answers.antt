@@ -1,4 +1,3 @@
-use Rattle.egress_capture.specs.Sending.{sends_to}
 use Rattle.egress_capture.proofs.Filters.{with_output}
 use Rattle.egress_capture.proofs.port_filter.PortFilter.with.Goals as goal
 

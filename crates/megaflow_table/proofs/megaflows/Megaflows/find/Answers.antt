@@ -3,13 +3,13 @@ use Rattle.std.specs.Option.{option_map}
 use Rattle.ovs_fields.specs.Packed.{numbers}
 use Rattle.megaflow_table.specs.declared.entry.Entry.{Entry}
 use Rattle.megaflow_table.specs.Entries.{Flows, covering}
-use Rattle.megaflow_table.specs.Sound.{look_in}
+use Rattle.megaflow_table.specs.Parts.{look_in}
 use Rattle.megaflow_table.proofs.FindLaws.{IsPassed, found_in_subtable, nothing_passed, one_more, passed_here}
 use Rattle.megaflow_table.proofs.megaflows.Megaflows.find.Goals as goal
 
 pub returns-then-is_some : goal.returns-then-is_some
 returns-then-is_some c =
-    found_in_subtable c.self.inside.live.items (look_in c.self.inside) c.self.inside.subtables c.self.invariant.sound (numbers c.args.key.now) c.in-Some.mask.now c.in-Some.subtable.now
+    found_in_subtable c.self.inside.live.items (look_in c.self.inside) c.self.inside.subtables c.self.invariant.consistent (numbers c.args.key.now) c.in-Some.mask.now c.in-Some.subtable.now
     c.in-Some.ensures.value c.number_in-found.result c.number_in-found.ensures (sym c.is_some.ensures ∙ c.if-is_some.true)
     ∙ ap (λ (f : Flows). option_map (λ (e : Entry). e.number) (covering (numbers c.args.key.now) f.entries)) c.self.view_is
 
@@ -21,5 +21,5 @@ subtables-preserved c =
 
 pub returns : goal.returns
 returns c =
-    sym (nothing_passed c.self.inside.live.items (look_in c.self.inside) c.self.inside.subtables c.self.invariant.sound (numbers c.args.key.now) c.subtables.i (omega (arith, c.subtables-test.false, c.len-i-end.ensures.len)) c.subtables.invariant)
+    sym (nothing_passed c.self.inside.live.items (look_in c.self.inside) c.self.inside.subtables c.self.invariant.consistent (numbers c.args.key.now) c.subtables.i (omega (arith, c.subtables-test.false, c.len-i-end.ensures.len)) c.subtables.invariant)
     ∙ ap (λ (f : Flows). option_map (λ (e : Entry). e.number) (covering (numbers c.args.key.now) f.entries)) c.self.view_is

@@ -43,4 +43,4 @@ returns c =
     record { entries = ap (λ (f : Flows). f.entries) flows; room = ap (λ (f : Flows). f.room) flows; limit = ap (λ (f : Flows). f.limit) flows }
 
 pub remove_live-requires-clause-is_live : goal.remove_live-requires-clause-is_live
-remove_live-requires-clause-is_live c = c.self.invariant.sound.within c.args.number c.in-Some.entry (sym c.in-Some.ensures.value)
+remove_live-requires-clause-is_live c = c.self.invariant.consistent.within c.args.number c.in-Some.entry (sym c.in-Some.ensures.value)

@@ -1,6 +1,6 @@
-use Rattle.std.proofs.Common.{arith, None, ◌≡◌, ◌-◌, ◌+◌, ◌≤◌, ◌++◌, ◌∷◌, [], length, length-set, max, vec_len, refl, sym, ap, ap₂, ◌∙◌, subst}
+use Rattle.std.proofs.Common.{arith, None, ◌≡◌, ◌-◌, ◌+◌, ◌≤◌, ◌++◌, ◌∷◌, [], length, length-set, max, vec_len, refl, sym, ap, ◌∙◌, subst}
 use Rattle.spec_xlate.specs.Translation.{Translation}
-use Rattle.spec_case.specs.Run.{Run, frame_at, frames_of}
+use Rattle.spec_case.specs.Run.{Run, frames_of}
 use Rattle.spec_case.specs.Blocks.{last_block}
 use Rattle.spec_board.specs.State as states
 use Rattle.spec_board.specs.Steps as steps
@@ -16,16 +16,15 @@ use Rattle.pipe_model.specs.Plains.{translation_in}
 use Rattle.board_steps.specs.declared.step.Step.TheVariants as rust
 use Rattle.board_steps.specs.StepViews.{settled_view, steps_view}
 use Rattle.port_caches.specs.Views.{IsHeld}
-use Rattle.port_caches.specs.Steps.{IsFrameOf}
 use Rattle.pmd_board.specs.declared.place.Place.TheVariants as rust_place
 use Rattle.pmd_board.specs.BoardView.{BoardView, state_of}
 use Rattle.pmd_board.specs.Fields.{view_of, steps_left}
 use Rattle.pmd_board.specs.SweepLists.{without_dropped}
 use Rattle.pmd_board.proofs.HeldLists.{views_decided, names_decided}
-use Rattle.pmd_board.proofs.LookedUp.{few_frames, places_counted}
+use Rattle.pmd_board.proofs.LookedUp.{few_frames, place_there, places_counted}
 use Rattle.pmd_board.proofs.Pushed.{appends_as, pushed}
 use Rattle.pmd_board.proofs.Roomier.{kept_roomier}
-use Rattle.pmd_board.proofs.Settles.{IsMadeOf, made_one, settled_caches, totals_fit, visits_rules}
+use Rattle.pmd_board.proofs.Settles.{IsMadeOf, can_settle, made_one, settled_caches, totals_fit, visits_rules}
 use Rattle.pmd_board.proofs.Sweeps.{dropped_left, settled_of, steps_fewer}
 use Rattle.pmd_board.proofs.board.Board.fill.Goals as goal
 
@@ -47,9 +46,9 @@ settle-requires-clause-rules g c =
     let own = c.args.made.key in
     let may : settle_fault run s at.place v ≡ None =
     rw version (subst (λ (x : BoardView). settle_fault run (state_of run x) at.place c.args.made.version ≡ None) (sym c.self.view_is) c.requires.may) in
-    let made : IsMadeOf run own v own (mask_for run v own) (translation_in c.into_plain.result) =
-    record { key_is = refl; mask_is = refl; translation_is = c.into_plain.ensures ∙ ap (λ x. translated run x own) (sym version) } in
-    visits_rules run own v b.caches.rules own (mask_for run v own) (translation_in c.into_plain.result) made k.caches.rules k.in_order s.block (may_settle run s at.place v may).not_ahead
+    let made : IsMadeOf run own v own (mask_for run v own) (translation_in c.into_parts-made.result.0) =
+    record { key_is = refl; mask_is = refl; translation_is = c.into_parts-made.ensures.translation ∙ ap (λ x. translated run x own) (sym version) } in
+    visits_rules run own v b.caches.rules own (mask_for run v own) (translation_in c.into_parts-made.result.0) made k.caches.rules k.in_order s.block (may_settle run s at.place v may).not_ahead
 
 pub settle-requires-clause-fits : goal.settle-requires-clause-fits
 settle-requires-clause-fits g c =
@@ -59,20 +58,11 @@ settle-requires-clause-fits g c =
     let s : states.State = state_of run (view_of b) in
     let at = c.args.at.now in
     let v = c.version-version.result in
-    let version : v ≡ c.args.made.version = c.version-version.ensures in
-    let port : at.port ≡ b.port = c.requires.port ∙ ap (λ (x : BoardView). x.port) (sym c.self.view_is) in
-    let own = key_at run b.port at.place in
-    let key : numbers at.key ≡ own = at.key_is ∙ ap (λ q. key_at run q at.place) port in
-    let may : settle_fault run s at.place v ≡ None =
-    rw version (subst (λ (x : BoardView). settle_fault run (state_of run x) at.place c.args.made.version ≡ None) (sym c.self.view_is) c.requires.may) in
-    let made : IsMadeOf run own v (numbers at.key) (bits c.mask.result.now) (translation_in c.into_plain.result) = record {
-      key_is = key;
-      mask_is = c.mask.ensures.mask ∙ ap₂ (mask_for run) (sym version) (c.requires.key ∙ key);
-      translation_is = c.into_plain.ensures ∙ ap₂ (translated run) (sym version) (c.requires.key ∙ key);
-    } in
-    let frame : IsFrameOf at.length at.time (frame_at run b.port at.place) = record { length_is = rw (← port) at.length_is; time_is = rw (← port) at.time_is } in
-    totals_fit run b.port b.caches.limit (steps_view b.journal.items) b.caches at.place v at.length at.time (numbers at.key) (bits c.mask.result.now)
-    (translation_in c.into_plain.result) made k.in_order k.legal k.has_keys k.room.short (few_frames run b k) k.caches.caches frame may
+    let can = can_settle run b c.args.self.now at.port at.place v c.args.made.version at.length at.time (numbers at.key) (bits c.into_parts-made.result.1) c.args.made.key
+    (translation_in c.into_parts-made.result.0) c.self.view_is c.requires.port c.version-version.ensures c.requires.may at.key_is c.requires.key c.into_parts-made.ensures.mask
+    c.into_parts-made.ensures.translation (record { length_is = at.length_is; time_is = at.time_is }) in
+    totals_fit run b.port b.caches.limit (steps_view b.journal.items) b.caches at.place v at.length at.time (numbers at.key) (bits c.into_parts-made.result.1)
+    (translation_in c.into_parts-made.result.0) can.made k.in_order k.legal k.has_keys k.room.short (few_frames run b k) k.caches.caches can.frame can.may
 
 pub invariant_of-self-in_err-settled : goal.invariant_of-self-in_err-settled
 invariant_of-self-in_err-settled g c =
@@ -100,34 +90,26 @@ invariant_of-self-2 g c =
     let s : states.State = state_of run (view_of b) in
     let at = c.args.at.now in
     let v = c.version-version.result in
-    let version : v ≡ c.args.made.version = c.version-version.ensures in
-    let port : at.port ≡ b.port = c.requires.port ∙ ap (λ (x : BoardView). x.port) (sym c.self.view_is) in
+    let can = can_settle run b c.args.self.now at.port at.place v c.args.made.version at.length at.time (numbers at.key) (bits c.into_parts-made.result.1) c.args.made.key
+    (translation_in c.into_parts-made.result.0) c.self.view_is c.requires.port c.version-version.ensures c.requires.may at.key_is c.requires.key c.into_parts-made.ensures.mask
+    c.into_parts-made.ensures.translation (record { length_is = at.length_is; time_is = at.time_is }) in
     let own = key_at run b.port at.place in
-    let key : numbers at.key ≡ own = at.key_is ∙ ap (λ q. key_at run q at.place) port in
-    let may : settle_fault run s at.place v ≡ None =
-    rw version (subst (λ (x : BoardView). settle_fault run (state_of run x) at.place c.args.made.version ≡ None) (sym c.self.view_is) c.requires.may) in
-    let made : IsMadeOf run own v (numbers at.key) (bits c.mask.result.now) (translation_in c.into_plain.result) = record {
-      key_is = key;
-      mask_is = c.mask.ensures.mask ∙ ap₂ (mask_for run) (sym version) (c.requires.key ∙ key);
-      translation_is = c.into_plain.ensures ∙ ap₂ (translated run) (sym version) (c.requires.key ∙ key);
-    } in
-    let frame : IsFrameOf at.length at.time (frame_at run b.port at.place) = record { length_is = rw (← port) at.length_is; time_is = rw (← port) at.time_is } in
     let r = settled_view c.in_ok-settled.settled.settled in
     let list = c.in_ok-settled.settled.list in
     let settle = c.in_ok-settled.ensures in
-    let did = settled_caches run b.port at.place v at.length at.time b.caches c.settle.new.self r s (numbers at.key) (bits c.mask.result.now)
-    (translation_in c.into_plain.result) made settle.settled frame k.caches.caches in
-    let legal : Legal run b.port b.caches.limit s (steps.Settle at.place v r) = (may, did.0) in
+    let did = settled_caches run b.port at.place v at.length at.time b.caches c.settle.new.self r s (numbers at.key) (bits c.into_parts-made.result.1)
+    (translation_in c.into_parts-made.result.0) can.made settle.settled can.frame k.caches.caches in
+    let legal : Legal run b.port b.caches.limit s (steps.Settle at.place v r) = (can.may, did.0) in
     let now = settled_of run b.port at.place v r s in
     let same = settle.settled.same in
     let held : IsHeld c.settle.new.self.lists list (translated run v own).actions =
-    subst (λ (t : Translation). IsHeld c.settle.new.self.lists list t.actions) made.translation_is settle.list in
+    subst (λ (t : Translation). IsHeld c.settle.new.self.lists list t.actions) can.made.translation_is settle.list in
     let reserve = c.in_ok-reserve.ensures in
     let push = c.push_reserved.ensures in
     let step = rust.Settle at.place v c.in_ok-settled.settled.settled in
     let items = push.items ∙ ap (λ steps. steps ++ step ∷ []) reserve.items in
     let newest = c.max-self-inside.ensures in
-    let fewer = decided_written s.places at.place v (translated run v own).actions (may_settle run s at.place v may).pending in
+    let fewer = decided_written s.places at.place v (translated run v own).actions (may_settle run s at.place v can.may).pending in
     let pending : states.pending_count (effect run b.port s (steps.Settle at.place v r)) + 1 ≡ states.pending_count s = rw now.places fewer in
     let one = made_one run b.port b.caches.limit at.place v r s did.0 in
     let caches = did.1 in
@@ -186,26 +168,40 @@ returns-clause-filled g c =
     let s : states.State = state_of run (view_of b) in
     let at = c.args.at.now in
     let v = c.version-version.result in
-    let version : v ≡ c.args.made.version = c.version-version.ensures in
-    let port : at.port ≡ b.port = c.requires.port ∙ ap (λ (x : BoardView). x.port) (sym c.self.view_is) in
-    let own = key_at run b.port at.place in
-    let key : numbers at.key ≡ own = at.key_is ∙ ap (λ q. key_at run q at.place) port in
-    let may : settle_fault run s at.place v ≡ None =
-    rw version (subst (λ (x : BoardView). settle_fault run (state_of run x) at.place c.args.made.version ≡ None) (sym c.self.view_is) c.requires.may) in
-    let made : IsMadeOf run own v (numbers at.key) (bits c.mask.result.now) (translation_in c.into_plain.result) = record {
-      key_is = key;
-      mask_is = c.mask.ensures.mask ∙ ap₂ (mask_for run) (sym version) (c.requires.key ∙ key);
-      translation_is = c.into_plain.ensures ∙ ap₂ (translated run) (sym version) (c.requires.key ∙ key);
-    } in
-    let frame : IsFrameOf at.length at.time (frame_at run b.port at.place) = record { length_is = rw (← port) at.length_is; time_is = rw (← port) at.time_is } in
+    let can = can_settle run b c.args.self.now at.port at.place v c.args.made.version at.length at.time (numbers at.key) (bits c.into_parts-made.result.1) c.args.made.key
+    (translation_in c.into_parts-made.result.0) c.self.view_is c.requires.port c.version-version.ensures c.requires.may at.key_is c.requires.key c.into_parts-made.ensures.mask
+    c.into_parts-made.ensures.translation (record { length_is = at.length_is; time_is = at.time_is }) in
     let r = settled_view c.in_ok-settled.settled.settled in
     let settle = c.in_ok-settled.ensures in
-    let did = settled_caches run b.port at.place v at.length at.time b.caches c.settle.new.self r s (numbers at.key) (bits c.mask.result.now)
-    (translation_in c.into_plain.result) made settle.settled frame k.caches.caches in
+    let did = settled_caches run b.port at.place v at.length at.time b.caches c.settle.new.self r s (numbers at.key) (bits c.into_parts-made.result.1)
+    (translation_in c.into_parts-made.result.0) can.made settle.settled can.frame k.caches.caches in
     let step = rust.Settle at.place v c.in_ok-settled.settled.settled in
     let items = c.push_reserved.ensures.items ∙ ap (λ steps. steps ++ step ∷ []) c.in_ok-reserve.ensures.items in
     record {
       result = r;
-      appends = appends_as run b step (steps.Settle at.place c.args.made.version r) c.args.self.now _ _ _ (ap (λ x. steps.Settle at.place x r) version)
-          c.self.view_is refl settle.settled.same.limit items (may, did.0);
+      appends = appends_as run b step (steps.Settle at.place c.args.made.version r) c.args.self.now _ _ _ (ap (λ x. steps.Settle at.place x r) c.version-version.ensures)
+          c.self.view_is refl settle.settled.same.limit items (can.may, did.0);
     }
+
+pub overflow_add-room : goal.overflow_add-room
+overflow_add-room g c = omega (arith, c.room_needed-room.ensures.few)
+
+pub settle-requires-clause-few : goal.settle-requires-clause-few
+settle-requires-clause-few g c =
+    let k = c.self.invariant in
+    let few = few_frames g.C.Case.run c.self.inside k in
+    omega (arith, k.caches.made, k.places.next, k.lawful.next_within, few)
+
+pub overflow_sub-at : goal.overflow_sub-at
+overflow_sub-at g c = c.args.at.now.has_place.0
+
+pub index_mut-requires : goal.index_mut-requires
+index_mut-requires g c = place_there g.C.Case.run c.self.inside c.args.self.now c.args.at.now.port c.args.at.now.place c.self.invariant c.self.view_is c.requires.port c.args.at.now.has_place
+
+pub push_reserved-requires : goal.push_reserved-requires
+push_reserved-requires g c =
+    let reserve = c.in_ok-reserve.ensures in
+    omega (arith, reserve.ok, reserve.len)
+
+pub returns-clause-unchanged : goal.returns-clause-unchanged
+returns-clause-unchanged g c = tt

@@ -16,7 +16,7 @@ use Rattle.pmd_board.specs.BoardView.{BoardView, state_of}
 use Rattle.pmd_board.specs.Fields.{view_of}
 use Rattle.pmd_board.specs.Remembered.{slots_after}
 use Rattle.pmd_board.proofs.Caches.{can_hit, found_live, hit_is, hit_state, recast, remembered}
-use Rattle.pmd_board.proofs.LookedUp.{few_frames, found_there, hit_places, looked_room, turn_of}
+use Rattle.pmd_board.proofs.LookedUp.{few_frames, found_there, hit_places, look_ready, looked_room, turn_of}
 use Rattle.pmd_board.proofs.Pushed.{appends, key_looked_up, pushed_as}
 use Rattle.pmd_board.proofs.board.Board.hit.Goals as goal
 
@@ -97,3 +97,17 @@ returns g c =
     appends run b (rust.Look at.place c.args.found) c.args.self.now _ _ _ c.self.view_is refl
     (ap (λ (x : Caches). x.limit) c.remember.ensures.rest ∙ c.hit-version.ensures.same.limit)
     c.push_reserved.ensures.items (may, sym found)
+
+pub overflow_add-self : goal.overflow_add-self
+overflow_add-self g c =
+    let ready = look_ready g.C.Case.run c.self.inside c.args.self.now c.args.at.now.port c.args.at.now.place c.self.invariant c.self.view_is c.requires.port c.requires.may c.args.at.now.has_place in
+    omega (arith, ready.next)
+
+pub overflow_sub-at : goal.overflow_sub-at
+overflow_sub-at g c = c.args.at.now.has_place.0
+
+pub index_mut-requires : goal.index_mut-requires
+index_mut-requires g c = (look_ready g.C.Case.run c.self.inside c.args.self.now c.args.at.now.port c.args.at.now.place c.self.invariant c.self.view_is c.requires.port c.requires.may c.args.at.now.has_place).index
+
+pub push_reserved-requires : goal.push_reserved-requires
+push_reserved-requires g c = (look_ready g.C.Case.run c.self.inside c.args.self.now c.args.at.now.port c.args.at.now.place c.self.invariant c.self.view_is c.requires.port c.requires.may c.args.at.now.has_place).room

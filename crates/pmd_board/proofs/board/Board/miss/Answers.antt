@@ -13,7 +13,7 @@ use Rattle.pmd_board.specs.declared.place.Place.TheVariants as rust_place
 use Rattle.pmd_board.specs.BoardView.{BoardView, state_of}
 use Rattle.pmd_board.specs.Fields.{view_of, place_view, NamesList}
 use Rattle.pmd_board.proofs.Caches.{recast}
-use Rattle.pmd_board.proofs.LookedUp.{found_there, looked_room, turn_of}
+use Rattle.pmd_board.proofs.LookedUp.{found_there, look_ready, looked_room, turn_of}
 use Rattle.pmd_board.proofs.Pushed.{appends, key_looked_up, pushed}
 use Rattle.pmd_board.proofs.board.Board.miss.Goals as goal
 
@@ -79,3 +79,22 @@ returns g c =
     let missed = found_there run b c.args.self.now at.port at.place _ Miss c.self.view_is at.key_is c.requires.port c.requires.missed in
     appends run b (rust.Look at.place Miss) c.args.self.now _ _ _ c.self.view_is refl refl c.push_reserved.ensures.items
     (may, sym missed)
+
+pub overflow_add-self : goal.overflow_add-self
+overflow_add-self g c =
+    let ready = look_ready g.C.Case.run c.self.inside c.args.self.now c.args.at.now.port c.args.at.now.place c.self.invariant c.self.view_is c.requires.port c.requires.may c.args.at.now.has_place in
+    omega (arith, ready.next)
+
+pub overflow_add-self-2 : goal.overflow_add-self-2
+overflow_add-self-2 g c =
+    let ready = look_ready g.C.Case.run c.self.inside c.args.self.now c.args.at.now.port c.args.at.now.place c.self.invariant c.self.view_is c.requires.port c.requires.may c.args.at.now.has_place in
+    omega (arith, ready.pending)
+
+pub overflow_sub-at : goal.overflow_sub-at
+overflow_sub-at g c = c.args.at.now.has_place.0
+
+pub index_mut-requires : goal.index_mut-requires
+index_mut-requires g c = (look_ready g.C.Case.run c.self.inside c.args.self.now c.args.at.now.port c.args.at.now.place c.self.invariant c.self.view_is c.requires.port c.requires.may c.args.at.now.has_place).index
+
+pub push_reserved-requires : goal.push_reserved-requires
+push_reserved-requires g c = (look_ready g.C.Case.run c.self.inside c.args.self.now c.args.at.now.port c.args.at.now.place c.self.invariant c.self.view_is c.requires.port c.requires.may c.args.at.now.has_place).room

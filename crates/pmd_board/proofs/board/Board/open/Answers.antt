@@ -7,7 +7,7 @@ use Rattle.board_steps.specs.declared.step.Step.TheVariants as rust
 use Rattle.pmd_board.specs.BoardView.{BoardView, state_of}
 use Rattle.pmd_board.specs.Fields.{view_of}
 use Rattle.pmd_board.proofs.Caches.{recast}
-use Rattle.pmd_board.proofs.Pushed.{pushed}
+use Rattle.pmd_board.proofs.Pushed.{appends, pushed}
 use Rattle.pmd_board.proofs.board.Board.open.Goals as goal
 
 pub invariant_of-self : goal.invariant_of-self
@@ -39,3 +39,20 @@ invariant_of-self g c =
       lists = k.room.lists;
       steps = omega (arith, push.len, push.capacity, k.room.steps, m.next, m.there, k.versions.block);
     })
+
+pub push_reserved-requires : goal.push_reserved-requires
+push_reserved-requires g c =
+    let b = c.self.inside in
+    let run : Run = g.C.Case.run in
+    let k = c.self.invariant in
+    let s : State = state_of run (view_of b) in
+    let may : open_fault run b.port s c.args.block ≡ None =
+    subst (λ (x : BoardView). open_fault run x.port (state_of run x) c.args.block ≡ None) (sym c.self.view_is) c.requires in
+    let m : MayOpen run b.port s c.args.block = may_open run b.port s c.args.block may in
+    omega (arith, k.room.steps, m.next, m.there, k.versions.block)
+
+pub returns : goal.returns
+returns g c =
+    let run : Run = g.C.Case.run in
+    let may = subst (λ (x : BoardView). open_fault run x.port (state_of run x) c.args.block ≡ None) (sym c.self.view_is) c.requires in
+    appends run c.self.inside (rust.Open c.args.block) c.args.self.now _ _ _ c.self.view_is refl refl c.push_reserved.ensures.items may

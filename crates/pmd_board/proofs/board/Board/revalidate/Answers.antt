@@ -35,9 +35,9 @@ put-revalidated-requires-clause-rules g c =
     let own = c.args.made.key in
     let may : put_fault run s c.args.number v ≡ None =
     rw version (subst (λ (x : BoardView). put_fault run (state_of run x) c.args.number c.args.made.version ≡ None) (sym c.self.view_is) c.requires.may) in
-    let made : IsMadeOf run own v own (mask_for run v own) (translation_in c.into_plain.result) =
-    record { key_is = refl; mask_is = refl; translation_is = c.into_plain.ensures ∙ ap (λ x. translated run x own) (sym version) } in
-    visits_rules run own v b.caches.rules own (mask_for run v own) (translation_in c.into_plain.result) made k.caches.rules k.in_order s.block (may_put run s c.args.number v may).not_ahead
+    let made : IsMadeOf run own v own (mask_for run v own) (translation_in c.into_parts-made.result.0) =
+    record { key_is = refl; mask_is = refl; translation_is = c.into_parts-made.ensures.translation ∙ ap (λ x. translated run x own) (sym version) } in
+    visits_rules run own v b.caches.rules own (mask_for run v own) (translation_in c.into_parts-made.result.0) made k.caches.rules k.in_order s.block (may_put run s c.args.number v may).not_ahead
 
 pub put-revalidated-requires-clause-fits : goal.put-revalidated-requires-clause-fits
 put-revalidated-requires-clause-fits g c s e these clock found =
@@ -50,7 +50,7 @@ put-revalidated-requires-clause-fits g c s e these clock found =
     let may : put_fault run here c.args.number v ≡ None =
     rw version (subst (λ (x : BoardView). put_fault run (state_of run x) c.args.number c.args.made.version ≡ None) (sym c.self.view_is) c.requires.may) in
     let live = listed_live run b.port b.caches.limit (steps_view b.journal.items) k.legal c.args.number v may in
-    put_totals_fit run b.port b.caches.limit (steps_view b.journal.items) b.caches c.args.number v (bits c.mask.result.now) (translation_in c.into_plain.result)
+    put_totals_fit run b.port b.caches.limit (steps_view b.journal.items) b.caches c.args.number v (bits c.into_parts-made.result.1) (translation_in c.into_parts-made.result.0)
     live.0 k.in_order k.legal k.has_keys k.room.short (few_frames run b k) k.caches.caches live.1 may s e these found
 
 pub invariant_of-self : goal.invariant_of-self
@@ -68,14 +68,14 @@ invariant_of-self g c =
     let e : states.Entry = live.0 in
     let key : c.args.made.key ≡ e.key =
     c.requires.key ∙ ap (λ (x : BoardView). key_of_entry (entry_of number (state_of run x).entries)) (sym c.self.view_is) ∙ ap key_of_entry live.1 in
-    let made : IsMadeOf run e.key v e.key (bits c.mask.result.now) (translation_in c.into_plain.result) = record {
+    let made : IsMadeOf run e.key v e.key (bits c.into_parts-made.result.1) (translation_in c.into_parts-made.result.0) = record {
       key_is = refl;
-      mask_is = c.mask.ensures.mask ∙ ap₂ (mask_for run) (sym version) key;
-      translation_is = c.into_plain.ensures ∙ ap₂ (translated run) (sym version) key;
+      mask_is = c.into_parts-made.ensures.mask ∙ ap₂ (mask_for run) (sym version) key;
+      translation_is = c.into_parts-made.ensures.translation ∙ ap₂ (translated run) (sym version) key;
     } in
     let r = c.put-revalidated.result.done in
     let put = c.put-revalidated.ensures in
-    let did = put_caches run b.port number v b.clock b.caches c.put-revalidated.new.self r s e e.key (bits c.mask.result.now) (translation_in c.into_plain.result) made put
+    let did = put_caches run b.port number v b.clock b.caches c.put-revalidated.new.self r s e e.key (bits c.into_parts-made.result.1) (translation_in c.into_parts-made.result.0) made put
     k.places.clock live.1 k.caches.caches in
     let legal : Legal run b.port b.caches.limit s (steps.Put number v r) =
     (may, ap (option_map (λ x. put_done run x v s)) live.1 ∙ ap Some (sym did.0)) in
@@ -136,14 +136,14 @@ returns g c =
     let e : states.Entry = live.0 in
     let key : c.args.made.key ≡ e.key =
     c.requires.key ∙ ap (λ (x : BoardView). key_of_entry (entry_of number (state_of run x).entries)) (sym c.self.view_is) ∙ ap key_of_entry live.1 in
-    let made : IsMadeOf run e.key v e.key (bits c.mask.result.now) (translation_in c.into_plain.result) = record {
+    let made : IsMadeOf run e.key v e.key (bits c.into_parts-made.result.1) (translation_in c.into_parts-made.result.0) = record {
       key_is = refl;
-      mask_is = c.mask.ensures.mask ∙ ap₂ (mask_for run) (sym version) key;
-      translation_is = c.into_plain.ensures ∙ ap₂ (translated run) (sym version) key;
+      mask_is = c.into_parts-made.ensures.mask ∙ ap₂ (mask_for run) (sym version) key;
+      translation_is = c.into_parts-made.ensures.translation ∙ ap₂ (translated run) (sym version) key;
     } in
     let r = c.put-revalidated.result.done in
     let put = c.put-revalidated.ensures in
-    let did = put_caches run b.port number v b.clock b.caches c.put-revalidated.new.self r s e e.key (bits c.mask.result.now) (translation_in c.into_plain.result) made put
+    let did = put_caches run b.port number v b.clock b.caches c.put-revalidated.new.self r s e e.key (bits c.into_parts-made.result.1) (translation_in c.into_parts-made.result.0) made put
     k.places.clock live.1 k.caches.caches in
     appends_as run b (rust.Put number v r) (steps.Put number c.args.made.version r) c.args.self.now _ _ _ (ap (λ x. steps.Put number x r) version)
     c.self.view_is refl put.same.limit c.push_reserved.ensures.items (may, ap (option_map (λ x. put_done run x v s)) live.1 ∙ ap Some (sym did.0))

@@ -15,8 +15,9 @@ use Rattle.pmd_board.specs.Fields.{view_of, steps_left}
 use Rattle.megaflow_table.specs.Live.{IsRising}
 use Rattle.pmd_board.proofs.Caches.{recast, roomier}
 use Rattle.pmd_board.proofs.Listed.{numbers_rise}
-use Rattle.pmd_board.proofs.LookedUp.{places_counted}
-use Rattle.pmd_board.proofs.Pushed.{pushed}
+use Rattle.pmd_board.proofs.LookedUp.{numbers_few, places_counted}
+use Rattle.pmd_board.proofs.Pushed.{appends, pushed}
+use Rattle.pmd_board.proofs.Roomier.{kept_roomier}
 use Rattle.pmd_board.proofs.Sweeps.{steps_fewer}
 use Rattle.pmd_board.proofs.board.Board.start.Goals as goal
 
@@ -91,3 +92,48 @@ invariant_of-self-2 g c =
           let room = reserve.ok in
           omega (arith, room, push.len, push.capacity, reserve.len, resting, count, counted));
     })
+
+pub overflow_add-room : goal.overflow_add-room
+overflow_add-room g c =
+    let few = numbers_few g.C.Case.run c.self.inside c.numbers.result.now c.self.invariant c.numbers.ensures in
+    omega (arith, few, c.room_needed-room.ensures.few)
+
+pub overflow_add-room-2 : goal.overflow_add-room-2
+overflow_add-room-2 g c =
+    let few = numbers_few g.C.Case.run c.self.inside c.numbers.result.now c.self.invariant c.numbers.ensures in
+    omega (arith, few, c.room_needed-room.ensures.few)
+
+pub invariant_of-self : goal.invariant_of-self
+invariant_of-self g c =
+    let b = c.self.inside in
+    let reserve = c.in_err-reserve.ensures in
+    kept_roomier g.C.Case.run b c.reserve.new.self b.caches c.self.invariant (record { items = reserve.items; len = reserve.len; capacity = reserve.capacity }) (refl, omega arith)
+
+pub invariant_of-self-in_err-listed : goal.invariant_of-self-in_err-listed
+invariant_of-self-in_err-listed g c =
+    let b = c.self.inside in
+    let reserve = c.in_ok-reserve.ensures in
+    kept_roomier g.C.Case.run b c.reserve.new.self b.caches c.self.invariant (record { items = reserve.items; len = reserve.len; capacity = reserve.capacity }) (refl, omega arith)
+
+pub invariant_of-self-in_err-reserve-2 : goal.invariant_of-self-in_err-reserve-2
+invariant_of-self-in_err-reserve-2 g c =
+    let b = c.self.inside in
+    let reserve = c.in_ok-reserve.ensures in
+    kept_roomier g.C.Case.run b c.reserve.new.self c.reserve-2.new.self c.self.invariant (record { items = reserve.items; len = reserve.len; capacity = reserve.capacity }) c.reserve-2.ensures.same
+
+pub push_reserved-requires : goal.push_reserved-requires
+push_reserved-requires g c =
+    let reserve = c.in_ok-reserve.ensures in
+    omega (arith, reserve.ok, reserve.len)
+
+pub returns-clause-begun : goal.returns-clause-begun
+returns-clause-begun g c =
+    let b = c.self.inside in
+    let run : Run = g.C.Case.run in
+    let step = rust.Begin c.args.version in
+    let may = subst (λ (x : BoardView). begin_fault run (state_of run x) c.args.version ≡ None) (sym c.self.view_is) c.requires in
+    appends run b step c.args.self.now _ _ _ c.self.view_is refl (ap (λ (x : Caches). x.limit) c.reserve-2.ensures.same.0)
+    (c.push_reserved.ensures.items ∙ ap (λ steps. steps ++ step ∷ []) c.in_ok-reserve.ensures.items) may
+
+pub returns-clause-unchanged : goal.returns-clause-unchanged
+returns-clause-unchanged g c = tt

@@ -1,10 +1,10 @@
-use Rattle.std.proofs.Common.{◌<◌, sym, ◌∙◌, subst}
-use Rattle.spec_case.specs.Run.{last_version}
-use Rattle.run_tables.proofs.OfRun.{of_run-applied}
+use Rattle.std.proofs.Common.{◌≡◌, ◌+◌, ◌-◌, Some, slice_get, subst, arith}
 use Rattle.run_tables.proofs.tables.Tables.publish_next.Goals as goal
 
-pub invariant_of-self : goal.invariant_of-self
-invariant_of-self g c =
-    let version = c.version.ensures.number in
-    of_run-applied c.apply.result g.C.Case.run c.self.inside.rules c.apply.new.self c.version.result c.edit-next.result.now c.self.invariant (version ∙ sym c.self.view_is)
-    (subst (λ v. v < last_version g.C.Case.run) (sym version) c.requires) c.edit-next.ensures c.apply.ensures.edited c.apply.ensures.err
+pub apply-requires : goal.apply-requires
+apply-requires g c =
+    let place : c.version.result + 1 - 1 ≡ c.args.self.now = omega (arith, c.version.ensures.number) in
+    record {
+      next = subst (λ v. slice_get g.C.Case.run.edits v ≡ Some c.edit-next.result.now) place c.edit-next.ensures;
+      room = omega (arith, c.requires, c.args.edits.now.few_edits);
+    }

@@ -2,7 +2,7 @@ use Rattle.std.proofs.Common.{◌≡◌, [], Some, get_or, sym, ap, ◌∙◌, a
 use Rattle.std.specs.Option.{option_map}
 use Rattle.spec_tables.specs.Rules.{Rule}
 use Rattle.spec_tables.specs.Live.{rule_numbered, is_live}
-use Rattle.tuple_classifier.specs.Sound.{rules_at}
+use Rattle.tuple_classifier.specs.Held.{rules_at}
 use Rattle.tuple_classifier.specs.Live.{unboxed}
 use Rattle.tuple_classifier.proofs.LiveLaws.{numbered_at, live_among, same_default}
 use Rattle.tuple_classifier.proofs.PartLaws.{place_among}

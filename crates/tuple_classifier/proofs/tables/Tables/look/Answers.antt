@@ -4,7 +4,7 @@ use Rattle.spec_tables.specs.Rules.{Rule, rules_in, winner}
 use Rattle.spec_xlate.specs.Lookup.{added, consults}
 use Rattle.ovs_fields.specs.Packed.{numbers, bits}
 use Rattle.tuple_classifier.specs.Parts.{AreSubtablesOf}
-use Rattle.tuple_classifier.specs.Sound.{rules_at}
+use Rattle.tuple_classifier.specs.Held.{rules_at}
 use Rattle.tuple_classifier.specs.Live.{unboxed}
 use Rattle.tuple_classifier.proofs.LiveLaws.{rising_distinct, winner_of_none, consults_of_none}
 use Rattle.tuple_classifier.proofs.Seen.{seen_in}

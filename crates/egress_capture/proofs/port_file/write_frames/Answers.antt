@@ -1,0 +1,46 @@
+use Rattle.std.proofs.Common.{Err, ap, ◌∙◌, arith}
+use Rattle.std.proofs.lemmas.List.{append-nil, take_all}
+use Rattle.std.proofs.lemmas.Result.{err_from_is_err_and}
+use Rattle.spec_pcap.specs.Pcap.{record_of, header}
+use Rattle.spec_case.specs.Run.{is_nanos}
+use Rattle.spec_run.specs.Outputs.{sent_to}
+use Rattle.edge_io.proofs.InTurn.{has_written, first_cut, cut_within, more}
+use Rattle.egress_capture.proofs.Prefixes.{around_pieces, pieces_more}
+use Rattle.egress_capture.proofs.port_file.write_frames.Goals as goal
+
+pub returns-in_err-writer : goal.returns-in_err-writer
+returns-in_err-writer g c =
+    let p = err_from_is_err_and c.from_residual.result c.from_residual.ensures.1 in
+    let begun = rw c.nanos.ensures at c.in_err-writer.ensures.writes in
+    first_cut g.S.Shelf _ _ c.from_residual.result _ _ _ (p.1 ∙ ap Err p.2) begun
+
+pub arrivals-init : goal.arrivals-init
+arrivals-init g c = record {
+  nanos = c.in_ok-writer.ensures.nanos ∙ c.nanos.ensures;
+  wrote =
+      let begun = rw c.nanos.ensures at c.in_ok-writer.ensures.writes in
+      rw (append-nil (header (is_nanos g.C.Case.run))) (has_written g.S.Shelf _ _ _ _ begun);
+}
+
+pub returns-in_err-send_decided : goal.returns-in_err-send_decided
+returns-in_err-send_decided g c =
+    let run = g.C.Case.run in
+    let p = err_from_is_err_and c.from_residual-in_err-send_decided.result c.from_residual-in_err-send_decided.ensures.1 in
+    let w = rw c.arrivals.invariant.nanos at c.in_err-send_decided.ensures.writes in
+    let all = around_pieces (sent_to run c.args.finished.now c.args.port) (record_of (is_nanos run)) (header (is_nanos run)) c.arrivals-came.result.now c.arrivals.at _ c.arrivals-test.true in
+    rw (← c.arrivals-came.ensures.list) (cut_within g.S.Shelf _ _ _ _ _ _ _ all c.arrivals.invariant.wrote _ _ (p.1 ∙ ap Err p.2) w)
+
+pub arrivals-preserved : goal.arrivals-preserved
+arrivals-preserved g c = record {
+  nanos = c.send_decided.ensures.nanos ∙ c.arrivals.invariant.nanos;
+  wrote =
+      let run = g.C.Case.run in
+      let w = rw c.arrivals.invariant.nanos at c.in_ok-send_decided.ensures.writes in
+      let all = pieces_more (sent_to run c.args.finished.now c.args.port) (record_of (is_nanos run)) (header (is_nanos run)) c.arrivals-came.result.now c.arrivals.at _ c.arrivals-test.true in
+      more g.S.Shelf _ _ _ _ _ _ all c.arrivals.invariant.wrote _ w;
+}
+
+pub returns : goal.returns
+returns g c =
+    let all = take_all c.arrivals.at c.arrivals-came.result.now (omega arith) in
+    rw (← c.arrivals-came.ensures.list) (rw all at c.arrivals.invariant.wrote)

@@ -1,0 +1,31 @@
+use Rattle.std.proofs.Common.{◌+◌, [], length, ap, ◌∙◌, arith}
+use Rattle.spec_case.specs.Run.{Run}
+use Rattle.spec_case.specs.Blocks.{hi}
+use Rattle.pmd_board.specs.BoardView.{BoardView}
+use Rattle.step_runner.specs.Boards.{AreOfPhase}
+use Rattle.step_runner.proofs.Turns.{all_done}
+use Rattle.step_runner.proofs.BoardLists.{fit_version, fit_block, fit_done}
+use Rattle.step_runner.proofs.closing.close_phase.Goals as goal
+
+pub finish_block-requires : goal.finish_block-requires
+finish_block-requires g c =
+    let run : Run = g.C.Case.run in
+    let fit : AreOfPhase run c.args.flow_limit c.args.block c.in-Some.fitting = rw c.in-Some.ensures.list c.in-Some.ensures.fit in
+    fit_version run c.args.flow_limit c.args.block c.in-Some.fitting fit c.requires.there c.last_block.ensures.in_order c.args.tables.now c.requires.version
+
+pub returns-in_ok-left-in-Some-clause-version : goal.returns-in_ok-left-in-Some-clause-version
+returns-in_ok-left-in-Some-clause-version g c = λ _.
+    let run : Run = g.C.Case.run in
+    let fit : AreOfPhase run c.args.flow_limit c.args.block c.in-Some.fitting = rw c.in-Some.ensures.list c.in-Some.ensures.fit in
+    let ports = c.ports.ensures in
+    let some = c.len.ensures.some in
+    let count = c.len.ensures.len in
+    c.in_ok-left-in-Some.ensures.published
+    ∙ ap (hi run) (fit_block run c.args.flow_limit c.args.block c.in-Some.fitting fit c.requires.there (let e = ap length ports in omega (arith, some, count, e)) (record { port = 0; flow_limit = 0; journal = [] }))
+
+pub returns-in_ok-left-in-Some-clause-finished : goal.returns-in_ok-left-in-Some-clause-finished
+returns-in_ok-left-in-Some-clause-finished g c = λ is.
+    let run : Run = g.C.Case.run in
+    let fit : AreOfPhase run c.args.flow_limit c.args.block c.in-Some.fitting = rw c.in-Some.ensures.list c.in-Some.ensures.fit in
+    all_done run (c.args.block + 1) c.in_ok-left-in-Some.left (omega (arith, is))
+    (c.in_ok-left-in-Some.ensures.done c.args.block c.requires.there (fit_done run c.args.flow_limit c.args.block c.in-Some.fitting fit c.requires.there))
