@@ -1,0 +1,13 @@
+/// The first word of a step.
+#[derive(Clone, Copy, Debug, PartialEq, Eq)]
+pub enum StepWord {
+    Edit,
+    Rx,
+    Snap,
+    Settle,
+    Sweep,
+    Check,
+    Put,
+    Swept,
+    Open,
+}

@@ -1,0 +1,6 @@
+use Rattle.std.proofs.Common.{◌≡◌}
+use Rattle.spec_made.specs.Made.{state}
+use Rattle.trace_gen.proofs.draws.Draws.pass.Given as goal
+
+abbrev pub invariant-draws : goal.invariant-draws
+invariant-draws l = l.self.state ≡ state l.fn.self.state l.counter
