@@ -29,6 +29,9 @@ module _ {S : Type 0} (g : shelf.Ghosts S) (old begun : S) (file : File)
     named = λ t _.
         let prefix = w.err t in
         ap (λ (x : Told). x.last) prefix.1 ∙ ap (λ (x : Told). x.last) (created t);
+    opened = λ t.
+        let prefix = w.err t in
+        ap (λ (x : Told). x.opened) prefix.1 ∙ ap (λ (x : Told). x.opened) (created t);
     cause = recounted with_write_fault _ _ e (since counts w.cause);
   })
 
@@ -41,6 +44,7 @@ module _ {S : Type 0} (g : shelf.Ghosts S) (old begun : S) (file : File)
     ok = λ t. on_ok r (made t);
     err = λ t. on_err r (closed_prefix (g.told old) (g.told now) file (g.in_use now) idle (made t));
     named = λ t _. ap (λ (x : Told). x.last) (made t);
+    opened = λ t. ap (λ (x : Told). x.opened) (made t);
     cause = since (w.cause.ok ∙ counts) cause;
   }
     where

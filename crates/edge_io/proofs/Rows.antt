@@ -3,6 +3,7 @@ use Rattle.std.proofs.Common.{◌≡◌, ℕ, List, [], ◌∷◌, ◌++◌, Opt
 use Rattle.std.specs.Prelude.{codes}
 use Rattle.edge_io.specs.Shelf.{Told, untouched, asked, wrote, closed, released, kept}
 use Rattle.edge_io.specs.ReadAll.{was_read}
+use Rattle.edge_io.specs.Opened.{HasOpenedPrefix, HasOpenedUpTo}
 
 -- a file that is created, written in two pieces and closed is kept under its name
 two_pieces : (t : Told) →
@@ -24,3 +25,10 @@ read_in_part t = refl
 -- names are kept in the order of asking, each time anew
 asked_twice : (t : Told) → (asked (asked t (codes "b")) (codes "b")).opened ≡ (t.opened ++ codes "b" ∷ []) ++ codes "b" ∷ []
 asked_twice t = refl
+
+-- of two files the first was opened, alone
+first_of_two : (t : Told) → HasOpenedUpTo t (asked t (codes "b")) (codes "b" ∷ codes "a" ∷ []) (codes "b")
+first_of_two t = record { earlier = []; later = codes "a" ∷ []; are_names = refl; has_opened = refl }
+
+none_of_two : (t : Told) → t.opened ≡ [] → HasOpenedPrefix t t (codes "b" ∷ codes "a" ∷ [])
+none_of_two t none = record { opened = []; left = codes "b" ∷ codes "a" ∷ []; are_names = refl; has_opened = rw none refl }

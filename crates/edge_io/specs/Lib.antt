@@ -3,4 +3,5 @@ pub mod Shelf
 pub mod Written
 pub mod Sink
 pub mod ReadAll
+pub mod Opened
 pub mod Filling

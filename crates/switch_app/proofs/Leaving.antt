@@ -1,8 +1,8 @@
 -- What stands after a run, from what its parts say.
 use Rattle.std.proofs.Common.{◌≡◌, ℕ, List, ◌++◌, refl, ap, ◌∙◌, inl, inr}
-use Rattle.std.specs.Prelude.{◌⊎◌, Result, Ok, Err, OnOk, IfErr, Contains}
+use Rattle.std.specs.Prelude.{◌⊎◌, Result, Ok, Err, OnOk, IfErr}
 use Rattle.spec_base.specs.Files.{File}
-use Rattle.spec_run.specs.Verdict.{Accepted, verdict, files_opened}
+use Rattle.spec_run.specs.Verdict.{Accepted, verdict}
 use Rattle.spec_run.specs.Outputs.{files_of, IsDone}
 use Rattle.spec_run.specs.CutShort.{IsCutRun}
 use Rattle.edge_io.specs.declared.outside.InUse.{InUse}
@@ -28,10 +28,10 @@ on_ok_map (Err e) f p = tt
 
 -- what was not read
 pub leaves_reading : (words : List (List ℕ)) (old new : Told) (in_use : InUse) (r : InputRefusal) → Explains (verdict words old.holds) r
-    → IfReadFault r (Contains (files_opened words old.holds)) → IfReadFault r (λ name. new.last ≡ name) → OnlyRead old new → Leaves words old new in_use (Reading r)
-leaves_reading words old new in_use (input.Input fault) why opened named told = (why, told)
-leaves_reading words old new in_use (input.ReadFault name) why opened named told = (opened, named, told)
-leaves_reading words old new in_use input.OutOfMemory why opened named told = told
+    → IfReadFault r (λ name. new.last ≡ name) → OnlyRead old new → Leaves words old new in_use (Reading r)
+leaves_reading words old new in_use (input.Input fault) why named told = (why, told)
+leaves_reading words old new in_use (input.ReadFault name) why named told = (named, told)
+leaves_reading words old new in_use input.OutOfMemory why named told = told
 
 -- a run that was accepted
 module _ (words : List (List ℕ)) (old mid : Told) (accepted : Accepted) (is_verdict : verdict words old.holds ≡ Ok accepted) (before : OnlyRead old mid) where

@@ -1,3 +1,4 @@
 pub mod Journals
 pub mod Leaving
+pub mod Opened
 pub mod Texts

@@ -18,7 +18,7 @@ module _ (P : List ℕ → Type 0) (words : List (List ℕ)) (old new : Told) (i
   read_fault_named (Reading (input.Input (Text name fault))) left is holds = absurd (omega (arith, is))
   read_fault_named (Reading (input.Input (Trace name fault))) left is holds = absurd (omega (arith, is))
   read_fault_named (Reading (input.Input (Limit q))) left is holds = absurd (omega (arith, is))
-  read_fault_named (Reading (input.ReadFault name)) left is holds = subst (λ n. P (read_fault_text n)) (sym left.1) holds
+  read_fault_named (Reading (input.ReadFault name)) left is holds = subst (λ n. P (read_fault_text n)) (sym left.0) holds
   read_fault_named (Reading input.OutOfMemory) left is holds = absurd (omega (arith, is))
   read_fault_named (Writing (WriteFault name)) left is holds = absurd (omega (arith, is))
   read_fault_named (Writing OutOfMemory) left is holds = absurd (omega (arith, is))

@@ -23,6 +23,7 @@
 //!   where calls of reading failed, and one in writing only where exactly one call of writing did; with every other
 //!   status the counts of the shelf stand. So no fault is passed over, and none is told where no call failed. That
 //!   memory ran out is no part of the proof.
+//! - Files are opened only to read the edits and then the traces, each once, and only where none before it is refused.
 //! - Nothing is written before the run is accepted. Where writing fails or memory runs out, the files before are whole,
 //!   one has a prefix of its bytes, and none after it is written.
 //! - The text of the status is printed, and nothing else: all of it where the sink needs no memory and didn't fail, and

@@ -1,4 +1,4 @@
-ghost use Rattle.std.specs.Prelude.{◌≡◌, ◌⊎◌, Contains, IsTrue, IsOk, OnOk, IfErr};
+ghost use Rattle.std.specs.Prelude.{◌≡◌, ◌⊎◌, IsTrue, IsOk, OnOk, IfErr};
 ghost use Rattle.spec_base.specs.Counts.{Rose};
 ghost use Rattle.spec_run.specs.Verdict.{verdict, files_opened};
 ghost use Rattle.spec_run.specs.Outputs.{IsDone};
@@ -7,11 +7,12 @@ ghost use Rattle.spec_run.specs.Statuses.{done_status, read_fault_status, write_
 ghost use Rattle.edge_io.specs.declared.outside.InUse.TheVariants.{Nothing};
 ghost use Rattle.edge_io.specs.Counts.{ReadFailed, with_write_fault};
 ghost use Rattle.edge_io.specs.ReadAll.{OnlyRead};
+ghost use Rattle.edge_io.specs.Opened.{HasOpened, HasOpenedPrefix, HasOpenedUpTo};
 ghost use Rattle.edge_io.specs.Written.{written};
 ghost use Rattle.switch_input.specs.WordViews.{texts};
 ghost use Rattle.switch_input.specs.InputViews.{accepted_view, IsBuilt};
 ghost use Rattle.switch_output.specs.Refused.{IfWriteFault, HasWriteCause};
-ghost use Rattle.switch_app.specs.RunViews.{Writes, StopsIn, Leaves, HasRunCause};
+ghost use Rattle.switch_app.specs.RunViews.{Writes, StopsIn, Leaves, HasOpenedUntil, HasRunCause};
 
 use crate::refusal::Refusal;
 use crate::say::say_refusal;
@@ -50,6 +51,7 @@ fn decide_and_write<C: Case, S: Shelf>(
         (S.told shelf.old).done (written (S.in_use shelf.new) (S.told shelf.new)) r) }
     ensures named { IsTrue S.tells
         → IfErr result (λ r. IfWriteFault r (λ name. (S.told shelf.new).last ≡ name)) }
+    ensures opened { IsTrue S.tells → (S.told shelf.new).opened ≡ (S.told shelf.old).opened }
     ensures counts { OnOk result (S.counts shelf.new ≡ S.counts shelf.old) }
     ensures cause { IfErr result (HasWriteCause (S.counts shelf.old) (S.counts shelf.new)) }
 {
@@ -74,6 +76,11 @@ fn run<'a, S: Shelf>(alloc: Global, words: &'a [String], shelf: &mut S) -> Resul
     ensures err { IsTrue S.tells
         → IfErr result (Leaves (texts words.now) (S.told shelf.old) (S.told shelf.new)
         (S.in_use shelf.new)) }
+    ensures opened { IsTrue S.tells → OnOk result (HasOpened (S.told shelf.old) (S.told shelf.new)
+        (files_opened (texts words.now) (S.told shelf.old).holds)) }
+    ensures opened_until { IsTrue S.tells
+        → IfErr result (HasOpenedUntil (S.told shelf.old) (S.told shelf.new)
+        (files_opened (texts words.now) (S.told shelf.old).holds)) }
     ensures counts { OnOk result (S.counts shelf.new ≡ S.counts shelf.old) }
     ensures cause { IfErr result (HasRunCause (S.counts shelf.old) (S.counts shelf.new)) }
 {
@@ -103,12 +110,12 @@ pub(crate) fn run_alone<S: Shelf, K: Sink>(
     ensures done_without_fault { result ≡ done_status → S.counts shelf.new ≡ S.counts shelf.old }
     ensures done_says_nothing { result ≡ done_status → say.new ≡ say.old }
 
-    // Reading failed: in a file before which none is refused. Nothing is written.
+    // Reading failed: in the last file that was opened, before which none is refused. Nothing is written.
     ensures read_fault { result ≡ read_fault_status
         → ReadFailed (S.counts shelf.old) (S.counts shelf.new) }
     ensures read_fault_at { IsTrue S.tells → result ≡ read_fault_status
-        → Contains (files_opened (texts words.now) (S.told shelf.old).holds)
-        (S.told shelf.new).last }
+        → HasOpenedUpTo (S.told shelf.old) (S.told shelf.new)
+        (files_opened (texts words.now) (S.told shelf.old).holds) (S.told shelf.new).last }
     ensures read_fault_writes_nothing { IsTrue S.tells → result ≡ read_fault_status
         → OnlyRead (S.told shelf.old) (S.told shelf.new) }
     ensures read_fault_text { IsTrue S.tells → IsTrue K.tells → result ≡ read_fault_status
@@ -147,6 +154,15 @@ pub(crate) fn run_alone<S: Shelf, K: Sink>(
     ensures refused_text { IsTrue S.tells → IsTrue K.tells → IsTrue (is_refusal result)
         → PrintsRefusal (texts words.now) (S.told shelf.old).holds K.needs_memory (K.faults say.old)
         (K.faults say.new) (K.written say.old) (K.written say.new) }
+
+    // Files are opened only to read the edits and then the traces, each once and only where none before it is refused:
+    // a prefix of these, and all of them unless reading fails or memory runs out.
+    ensures opened { IsTrue S.tells → HasOpenedPrefix (S.told shelf.old) (S.told shelf.new)
+        (files_opened (texts words.now) (S.told shelf.old).holds) }
+    ensures opened_all { IsTrue S.tells
+        → ¬ (result ≡ read_fault_status) → ¬ (result ≡ out_of_memory_status)
+        → HasOpened (S.told shelf.old) (S.told shelf.new)
+        (files_opened (texts words.now) (S.told shelf.old).holds) }
 
     // What is refused ends with the status of its refusal, and what is accepted is done, unless a count rises or memory runs
     // out.
@@ -211,12 +227,12 @@ pub fn run_switch<R: Threads + Wait + Sync, S: Shelf, K: Sink, G: Gate + Sync>(
     ensures done_without_fault { result ≡ done_status → S.counts shelf.new ≡ S.counts shelf.old }
     ensures done_says_nothing { result ≡ done_status → say.new ≡ say.old }
 
-    // Reading failed: in a file before which none is refused. Nothing is written.
+    // Reading failed: in the last file that was opened, before which none is refused. Nothing is written.
     ensures read_fault { result ≡ read_fault_status
         → ReadFailed (S.counts shelf.old) (S.counts shelf.new) }
     ensures read_fault_at { IsTrue S.tells → result ≡ read_fault_status
-        → Contains (files_opened (texts words.now) (S.told shelf.old).holds)
-        (S.told shelf.new).last }
+        → HasOpenedUpTo (S.told shelf.old) (S.told shelf.new)
+        (files_opened (texts words.now) (S.told shelf.old).holds) (S.told shelf.new).last }
     ensures read_fault_writes_nothing { IsTrue S.tells → result ≡ read_fault_status
         → OnlyRead (S.told shelf.old) (S.told shelf.new) }
     ensures read_fault_text { IsTrue S.tells → IsTrue K.tells → result ≡ read_fault_status
@@ -255,6 +271,15 @@ pub fn run_switch<R: Threads + Wait + Sync, S: Shelf, K: Sink, G: Gate + Sync>(
     ensures refused_text { IsTrue S.tells → IsTrue K.tells → IsTrue (is_refusal result)
         → PrintsRefusal (texts words.now) (S.told shelf.old).holds K.needs_memory (K.faults say.old)
         (K.faults say.new) (K.written say.old) (K.written say.new) }
+
+    // Files are opened only to read the edits and then the traces, each once and only where none before it is refused:
+    // a prefix of these, and all of them unless reading fails or memory runs out.
+    ensures opened { IsTrue S.tells → HasOpenedPrefix (S.told shelf.old) (S.told shelf.new)
+        (files_opened (texts words.now) (S.told shelf.old).holds) }
+    ensures opened_all { IsTrue S.tells
+        → ¬ (result ≡ read_fault_status) → ¬ (result ≡ out_of_memory_status)
+        → HasOpened (S.told shelf.old) (S.told shelf.new)
+        (files_opened (texts words.now) (S.told shelf.old).holds) }
 
     // What is refused ends with the status of its refusal, and what is accepted is done, unless a count rises or memory runs
     // out.

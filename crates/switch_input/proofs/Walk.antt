@@ -1,17 +1,18 @@
 -- The traces of the ports, one after the other, as a loop reads them.
 use Rattle.std.proofs.Common.{◌≡◌, ℕ, ◌+◌, ◌-◌, ◌≤◌, ◌<◌, List, [], ◌∷◌, ◌++◌, length, get_or, drop, refl, sym, ap, ◌∙◌}
-use Rattle.std.specs.Prelude.{Result, Ok, Err, Contains}
+use Rattle.std.specs.Prelude.{Result, Ok, Err}
 use Rattle.std.proofs.lemmas.List.{drop_more, drop_all}
-use Rattle.std.proofs.lemmas.List.Elements.{Contains-append_left, Contains-append_right}
 use Rattle.spec_pcap.specs.Pcap.{Capture}
-use Rattle.spec_run.specs.Verdict.{Files, Refusal, TraceFile, trace_in, trace_names, traces_after, traces_opened}
+use Rattle.spec_run.specs.Verdict.{Files, Refusal, TraceFile, trace_in, if_passed, trace_names, traces_after, traces_opened}
 use Rattle.edge_io.specs.Shelf.{Told}
 use Rattle.edge_io.specs.ReadAll.{OnlyRead}
+use Rattle.edge_io.specs.Opened.{HasOpened}
 use Rattle.switch_input.specs.declared.words.PortWord.{PortWord}
 use Rattle.switch_refusals.specs.declared.refusal.InputRefusal.{InputRefusal}
 use Rattle.switch_refusals.specs.declared.refusal.InputRefusal.TheVariants.{Input, ReadFault, OutOfMemory}
-use Rattle.switch_refusals.specs.Refused.{IfReadFault, Explains}
+use Rattle.switch_refusals.specs.Refused.{IfInput, Explains, HasOpenedUntil}
 use Rattle.switch_input.specs.WordViews.{port_view, ports_view}
+use Rattle.switch_input.proofs.Opened.{HasLeft, none_left, left_later, opened_until}
 
 here : (ports : List PortWord) (i : ℕ) (d : PortWord) → i < length ports → ports_view (drop i ports) ≡ port_view (get_or ports i d) ∷ ports_view (drop (i + 1) ports)
 here ports i d lt = ap ports_view (drop_more ports i d lt)
@@ -40,19 +41,37 @@ module _ (files : Files) (bytes_left frames_left : ℕ) (ports : List PortWord) 
       let step : traces_after files before bytes_left frames_left (ports_view (drop i ports)) ≡ Ok before = rw (drop_all i ports le) refl in
       sym so_far ∙ step
 
-  -- the name of this port's trace is one of those that are opened
-  pub opened_here : (d : PortWord) (all : List (List ℕ)) (r : InputRefusal) → i < length ports → IfReadFault r (Contains (trace_names (port_view (get_or ports i d))))
-      → ((name : List ℕ) → Contains (traces_opened files bytes_left frames_left (ports_view (drop i ports))) name → Contains all name) → IfReadFault r (Contains all)
-  unfolding traces_opened
-  opened_here d all (Input fault) lt named so_far = tt
-  opened_here d all (ReadFault name) lt named so_far = so_far name.now (rw (here ports i d lt) (Contains-append_left (trace_names (port_view (get_or ports i d))) _ name.now named))
-  opened_here d all OutOfMemory lt named so_far = tt
+  module _ (d : PortWord) (lt : i < length ports) where
+    -- what is opened after this port's trace
+    abbrev later : List (List ℕ)
+    later = if_passed (trace_in files bytes_left frames_left (port_view (get_or ports i d))) (λ t. traces_opened files (bytes_left - t.size) (frames_left - length t.capture.frames) (ports_view (drop (i + 1) ports)))
 
-  pub opened_later : (d : PortWord) (t : TraceFile) (name : List ℕ) → i < length ports → trace_in files bytes_left frames_left (port_view (get_or ports i d)) ≡ Ok t
-      → Contains (traces_opened files (bytes_left - t.size) (frames_left - length t.capture.frames) (ports_view (drop (i + 1) ports))) name
-      → Contains (traces_opened files bytes_left frames_left (ports_view (drop i ports))) name
+    names_here : traces_opened files bytes_left frames_left (ports_view (drop i ports)) ≡ trace_names (port_view (get_or ports i d)) ++ later
+    unfolding traces_opened
+    names_here = rw (here ports i d lt) refl
+
+    none_later : (r : InputRefusal) → Explains (trace_in files bytes_left frames_left (port_view (get_or ports i d))) r → IfInput r (λ _. later ≡ [])
+    none_later (Input fault) why = rw why refl
+    none_later (ReadFault name) why = tt
+    none_later OutOfMemory why = tt
+
+    module _ (before mid now : Told) (all : List (List ℕ)) (left : HasLeft before mid (traces_opened files bytes_left frames_left (ports_view (drop i ports))) all) where
+      -- this port's trace is refused
+      pub opened_here : (r : InputRefusal) → Explains (trace_in files bytes_left frames_left (port_view (get_or ports i d))) r
+          → HasOpenedUntil mid now (trace_names (port_view (get_or ports i d))) r → HasOpenedUntil before now all r
+      opened_here r why until = opened_until before mid now _ all left (trace_names (port_view (get_or ports i d))) later names_here r (none_later r why) until
+
+      -- it is read
+      pub opened_more : (t : TraceFile) → trace_in files bytes_left frames_left (port_view (get_or ports i d)) ≡ Ok t → HasOpened mid now (trace_names (port_view (get_or ports i d)))
+          → HasLeft before now (traces_opened files (bytes_left - t.size) (frames_left - length t.capture.frames) (ports_view (drop (i + 1) ports))) all
+      opened_more t read opened =
+          let more : HasLeft before now later all = left_later before mid now _ all left (trace_names (port_view (get_or ports i d))) later names_here opened in
+          rw read at more
+
+  pub all_opened : (before now : Told) (all : List (List ℕ)) → length ports ≤ i → HasLeft before now (traces_opened files bytes_left frames_left (ports_view (drop i ports))) all
+      → HasOpened before now all
   unfolding traces_opened
-  opened_later d t name lt read later = rw (here ports i d lt, read) (Contains-append_right (trace_names (port_view (get_or ports i d))) _ name later)
+  all_opened before now all le left = none_left before now all (rw (drop_all i ports le) at left)
 
   -- a refusal of a trace is the refusal of all
   pub explained : (before : List Capture) (d : PortWord) (all : Result (List Capture) Refusal) (r : InputRefusal) → i < length ports

@@ -1,7 +1,7 @@
 //! The file of edits: its bytes, the script that they say, and how many rules its edits change.
 //!
 //! Each stage of the verdict on it is a function of its own, in the verdict's order.
-ghost use Rattle.std.specs.Prelude.{◌≡◌, ◌<◌, ◌≤◌, ◌^◌, length, Ok, IsTrue, OnOk, IfOk, IfErr};
+ghost use Rattle.std.specs.Prelude.{◌≡◌, ◌<◌, ◌≤◌, ◌^◌, [], ◌∷◌, length, Ok, IsTrue, OnOk, IfOk, IfErr};
 ghost use Rattle.std.specs.List.{list_all};
 ghost use Rattle.edge_io.specs.declared.outside.InUse.TheVariants.{Nothing};
 ghost use Rattle.edge_io.specs.ReadAll.{OnlyRead};
@@ -13,7 +13,7 @@ ghost use Rattle.spec_run.specs.Verdict.{refused_script, script_within, with_few
 ghost use Rattle.spec_tables.specs.Edits.{has_sound_actions};
 ghost use Rattle.edit_script.specs.ScriptViews.{script_view};
 ghost use Rattle.switch_input.specs.EditsViews.{script_in_bytes};
-ghost use Rattle.switch_refusals.specs.Refused.{fault_view, IfInput, IfReadFault, Explains, HasReadCause};
+ghost use Rattle.switch_refusals.specs.Refused.{fault_view, IfInput, IfReadFault, Explains, HasReadCause, OpensInTurn};
 
 use crate::reading::read_file;
 use crate::rules::rules_of;
@@ -110,6 +110,8 @@ pub fn read_edits<'a, S: Shelf>(
     ensures fault { IfErr result (λ r. IfReadFault r (λ n. n ≡ name.now)) }
     ensures named { IsTrue S.tells → IfErr result (λ r. IfReadFault r (λ n. (S.told shelf.new).last ≡ n)) }
     ensures told { IsTrue S.tells → OnlyRead (S.told shelf.old) (S.told shelf.new) }
+    ensures opened { IsTrue S.tells →
+        OpensInTurn (S.told shelf.old) (S.told shelf.new) (name.now ∷ []) result }
     ensures counts { OnOk result (S.counts shelf.new ≡ S.counts shelf.old) }
     ensures cause { IfErr result (HasReadCause (S.counts shelf.old) (S.counts shelf.new)) }
 {

@@ -1,10 +1,10 @@
-ghost use Rattle.std.specs.Prelude.{◌≡◌, Ok, Contains, IsTrue, OnOk, IfOk, IfErr};
+ghost use Rattle.std.specs.Prelude.{◌≡◌, Ok, IsTrue, OnOk, IfOk, IfErr};
 ghost use Rattle.edge_io.specs.declared.outside.InUse.TheVariants.{Nothing};
 ghost use Rattle.edge_io.specs.ReadAll.{OnlyRead};
 ghost use Rattle.spec_run.specs.Verdict.{verdict, files_opened};
 ghost use Rattle.switch_input.specs.WordViews.{texts};
 ghost use Rattle.switch_input.specs.InputViews.{accepted_view, IsBuilt};
-ghost use Rattle.switch_refusals.specs.Refused.{IfReadFault, Explains, HasReadCause};
+ghost use Rattle.switch_refusals.specs.Refused.{IfReadFault, Explains, HasReadCause, OpensInTurn};
 
 use crate::edits::read_edits;
 use crate::reading::read_traces;
@@ -39,17 +39,17 @@ pub fn read_inputs<'a, S: Shelf>(
     ensures built { IfOk result IsBuilt }
     ensures without_fault { OnOk result (S.counts shelf.new ≡ S.counts shelf.old) }
 
-    // A refusal of an input is the verdict's. A fault is told of the file that was last asked for, before which none is
-    // refused.
+    // A refusal of an input is the verdict's, and a fault is told of the file that was last asked for.
     ensures refused { IsTrue S.tells
         → IfErr result (Explains (verdict (texts words.now) (S.told shelf.old).holds)) }
-    ensures read_fault_at { IsTrue S.tells
-        → IfErr result (λ r. IfReadFault r (Contains (files_opened (texts words.now) (S.told shelf.old).holds))) }
     ensures read_fault_name { IsTrue S.tells
         → IfErr result (λ r. IfReadFault r (λ name. (S.told shelf.new).last ≡ name)) }
     ensures cause { IfErr result (HasReadCause (S.counts shelf.old) (S.counts shelf.new)) }
 
+    // Nothing but reading is done, and each file is opened only where none before it is refused.
     ensures only_read { IsTrue S.tells → OnlyRead (S.told shelf.old) (S.told shelf.new) }
+    ensures opened { let names = files_opened (texts words.now) (S.told shelf.old).holds in
+        IsTrue S.tells → OpensInTurn (S.told shelf.old) (S.told shelf.new) names result }
 {
     let command = read_command(alloc, words)?;
     let script = read_edits(alloc, shelf, command.edits)?;

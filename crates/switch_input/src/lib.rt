@@ -14,8 +14,9 @@
 //!   of it has the form that is built, and is within the limits. The actions of the edits are sound.
 //! - An input is refused only as the verdict refuses it: the words as a form that isn't built, the edits or a
 //!   trace by the name and the first fault, or a quantity as above its limit.
-//! - A read fault is told only where calls of reading failed, and of the file that was last asked for. Before that file none
-//!   is refused.
+//! - The files that are opened are those that the verdict opens, each once and in its order: all of them, or those up to the
+//!   one at which reading failed, or, out of memory, a prefix. So none is opened after one that is refused.
+//! - A read fault is told only where calls of reading failed, and of the file that was last asked for.
 //! - Nothing else is refused, unless memory runs out. Whatever the answer is, nothing is written, and all but a read fault
 //!   leave the counts of the shelf as they stood.
 //!

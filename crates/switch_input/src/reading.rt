@@ -1,12 +1,12 @@
 //! Files read whole, and the traces of the ports.
-ghost use Rattle.std.specs.Prelude.{◌≡◌, ◌<◌, ◌≤◌, length, Ok, Err, All, Contains, IsTrue, IsSomeAnd, OnOk, IfOk, IfErr, Some};
+ghost use Rattle.std.specs.Prelude.{◌≡◌, ◌<◌, ◌≤◌, [], ◌∷◌, length, Ok, Err, All, Contains, IsTrue, IsSomeAnd, OnOk, IfOk, IfErr, Some};
 ghost use Rattle.edge_io.specs.declared.outside.InUse.TheVariants.{Nothing};
 ghost use Rattle.edge_io.specs.ReadAll.{OnlyRead};
 ghost use Rattle.spec_run.specs.Limits.{most_trace_bytes, most_frames};
 ghost use Rattle.spec_run.specs.Verdict.{refused_trace, file_in, trace_in, traces_in, trace_names, traces_opened};
 ghost use Rattle.switch_input.specs.WordViews.{port_view, ports_view};
 ghost use Rattle.switch_input.specs.InputViews.{trace_view};
-ghost use Rattle.switch_refusals.specs.Refused.{fault_view, IfInput, IfReadFault, Explains, HasReadCause};
+ghost use Rattle.switch_refusals.specs.Refused.{fault_view, IfInput, IfReadFault, Explains, HasReadCause, OpensInTurn};
 
 use crate::words::PortWord;
 use edge_io::{ReadFault, Shelf, read_all};
@@ -33,6 +33,8 @@ pub fn read_file<'a, S: Shelf>(
     ensures fault { IfErr result (λ r. IfReadFault r (λ n. n ≡ name.now)) }
     ensures named { IsTrue S.tells → IfErr result (λ r. IfReadFault r (λ n. (S.told shelf.new).last ≡ n)) }
     ensures told { IsTrue S.tells → OnlyRead (S.told shelf.old) (S.told shelf.new) }
+    ensures opened { IsTrue S.tells →
+        OpensInTurn (S.told shelf.old) (S.told shelf.new) (name.now ∷ []) result }
     ensures counts { OnOk result (S.counts shelf.new ≡ S.counts shelf.old) }
     ensures cause { IfErr result (HasReadCause (S.counts shelf.old) (S.counts shelf.new)) }
 {
@@ -83,6 +85,8 @@ fn read_trace_file<'a, S: Shelf>(
     ensures fault { IfErr result (λ r. IfReadFault r (λ n. n ≡ name.now)) }
     ensures named { IsTrue S.tells → IfErr result (λ r. IfReadFault r (λ n. (S.told shelf.new).last ≡ n)) }
     ensures told { IsTrue S.tells → OnlyRead (S.told shelf.old) (S.told shelf.new) }
+    ensures opened { IsTrue S.tells →
+        OpensInTurn (S.told shelf.old) (S.told shelf.new) (name.now ∷ []) result }
     ensures counts { OnOk result (S.counts shelf.new ≡ S.counts shelf.old) }
     ensures cause { IfErr result (HasReadCause (S.counts shelf.old) (S.counts shelf.new)) }
 {
@@ -114,6 +118,8 @@ fn read_port_trace<'a, S: Shelf>(
     ensures fault { IfErr result (λ r. IfReadFault r (Contains (trace_names (port_view w.now)))) }
     ensures named { IsTrue S.tells → IfErr result (λ r. IfReadFault r (λ n. (S.told shelf.new).last ≡ n)) }
     ensures told { IsTrue S.tells → OnlyRead (S.told shelf.old) (S.told shelf.new) }
+    ensures opened { IsTrue S.tells →
+        OpensInTurn (S.told shelf.old) (S.told shelf.new) (trace_names (port_view w.now)) result }
     ensures counts { OnOk result (S.counts shelf.new ≡ S.counts shelf.old) }
     ensures cause { IfErr result (HasReadCause (S.counts shelf.old) (S.counts shelf.new)) }
 {
@@ -140,10 +146,12 @@ pub fn read_traces<'a, S: Shelf>(
         → IfOk result (λ traces. traces_in (S.told shelf.old).holds (ports_view ports.now) ≡ Ok traces.items) }
     ensures err { IsTrue S.tells
         → IfErr result (Explains (traces_in (S.told shelf.old).holds (ports_view ports.now))) }
-    ensures opened { IsTrue S.tells → IfErr result (λ r. IfReadFault r (Contains
-        (traces_opened (S.told shelf.old).holds most_trace_bytes most_frames (ports_view ports.now)))) }
     ensures named { IsTrue S.tells → IfErr result (λ r. IfReadFault r (λ n. (S.told shelf.new).last ≡ n)) }
     ensures told { IsTrue S.tells → OnlyRead (S.told shelf.old) (S.told shelf.new) }
+    ensures opened { let names =
+        traces_opened (S.told shelf.old).holds most_trace_bytes most_frames
+        (ports_view ports.now) in
+        IsTrue S.tells → OpensInTurn (S.told shelf.old) (S.told shelf.new) names result }
     ensures counts { OnOk result (S.counts shelf.new ≡ S.counts shelf.old) }
     ensures cause { IfErr result (HasReadCause (S.counts shelf.old) (S.counts shelf.new)) }
 {

@@ -28,21 +28,23 @@ pub record IsCutIn (files before now : List File) (r : WriteRefusal) : Type 0 wh
 
 module _ {S : Type 0} (g : shelf.Ghosts S) (old new : S) {T : Type 0} where
   -- This file is written and closed. After a refusal it has a prefix of its bytes, or was not created, and a fault names
-  -- it.
+  -- it. No file is opened.
   pub record WritesOne (file : File) (result : Result T WriteRefusal) : Type 0 where
     pub in_use : OnOk result (g.in_use new ≡ Nothing)
     pub ok : IsTrue g.tells → OnOk result (g.told new ≡ kept (g.told old) file)
     pub err : IsTrue g.tells → OnErr result (IsPrefixOf (g.told old).done file (written (g.in_use new) (g.told new)))
     pub fault : IfErr result (λ r. IfWriteFault r (λ name. name ≡ file.0))
     pub named : IsTrue g.tells → IfErr result (λ r. IfWriteFault r (λ name. (g.told new).last ≡ name))
+    pub opened : IsTrue g.tells → (g.told new).opened ≡ (g.told old).opened
     pub counts : OnOk result (g.counts new ≡ g.counts old)
     pub cause : IfErr result (HasWriteCause (g.counts old) (g.counts new))
 
-  -- These files are written, one after the other. After a refusal they are cut short at one of them.
+  -- These files are written, one after the other, and none is opened. After a refusal they are cut short at one of them.
   pub record WritesInTurn (files : List File) (result : Result T WriteRefusal) : Type 0 where
     pub in_use : OnOk result (g.in_use new ≡ Nothing)
     pub ok : IsTrue g.tells → OnOk result ((g.told new).done ≡ (g.told old).done ++ files)
     pub err : IsTrue g.tells → IfErr result (IsCutIn files (g.told old).done (written (g.in_use new) (g.told new)))
     pub named : IsTrue g.tells → IfErr result (λ r. IfWriteFault r (λ name. (g.told new).last ≡ name))
+    pub opened : IsTrue g.tells → (g.told new).opened ≡ (g.told old).opened
     pub counts : OnOk result (g.counts new ≡ g.counts old)
     pub cause : IfErr result (HasWriteCause (g.counts old) (g.counts new))

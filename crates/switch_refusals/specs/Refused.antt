@@ -1,6 +1,8 @@
 -- What a refusal in reading says, and when it may come.
-use Rattle.std.specs.Prelude.{◌≡◌, ℕ, List, Result, Err}
+use Rattle.std.specs.Prelude.{◌≡◌, ℕ, List, Result, Ok, Err}
 use Rattle.edge_io.specs.Counts.{Counts, ReadFailed}
+use Rattle.edge_io.specs.Shelf.{Told}
+use Rattle.edge_io.specs.Opened.{HasOpened, HasOpenedPrefix, HasOpenedUpTo}
 use Rattle.spec_run.specs.Verdict as verdicts
 use Rattle.switch_refusals.specs.declared.refusal.InputFault.{InputFault}
 use Rattle.switch_refusals.specs.declared.refusal.InputFault.TheVariants.{NotBuilt, Text, Trace, Limit}
@@ -35,3 +37,14 @@ abbrev pub HasReadCause : Counts → Counts → InputRefusal → Type 0
 HasReadCause before now (Input fault) = now ≡ before
 HasReadCause before now (ReadFault name) = ReadFailed before now
 HasReadCause before now OutOfMemory = now ≡ before
+
+-- Of these files all were opened, those up to the one at which reading failed, or, out of memory, a prefix.
+abbrev pub HasOpenedUntil : Told → Told → List (List ℕ) → InputRefusal → Type 0
+HasOpenedUntil before now names (Input fault) = HasOpened before now names
+HasOpenedUntil before now names (ReadFault name) = HasOpenedUpTo before now names name.now
+HasOpenedUntil before now names OutOfMemory = HasOpenedPrefix before now names
+
+-- These files are opened, one after the other.
+abbrev pub OpensInTurn : {T : Type 0} → Told → Told → List (List ℕ) → Result T InputRefusal → Type 0
+OpensInTurn before now names (Ok a) = HasOpened before now names
+OpensInTurn before now names (Err r) = HasOpenedUntil before now names r

@@ -11,6 +11,9 @@ use std::test::Fail;
 use std::thread::Threads;
 use switch_app::run_switch;
 
+// The status of a run that is done.
+const DONE: u8 = 0;
+
 // The last byte of the destination of a frame, where nothing else is said.
 const DESTINATION: u8 = 2;
 
@@ -126,7 +129,22 @@ fn leaves_its_files(alloc: Global, shelf: &MemoryShelf, run: &Run<'_>) -> Result
     Ok(same && current)
 }
 
-// Whether a run ends with its status and text, and leaves its files.
+// Whether the edits were opened and then the traces of a run, each once.
+fn opened_all(shelf: &MemoryShelf, run: &Run<'_>) -> bool {
+    match shelf.opened() {
+        [edits, traces @ ..] => {
+            edits.as_str() == "edits"
+                && traces.len() == run.traces.len()
+                && traces
+                    .iter()
+                    .zip(run.traces)
+                    .all(|(name, trace)| name.as_str() == trace.name)
+        }
+        [] => false,
+    }
+}
+
+// Whether a run ends with its status and text, and leaves its files. One that is done has opened all that it names.
 pub(crate) fn ends_as_shown<R: Threads + Wait + Sync>(
     rt: &R,
     alloc: Global,
@@ -136,7 +154,8 @@ pub(crate) fn ends_as_shown<R: Threads + Wait + Sync>(
     let mut say = MemorySink::new(alloc, Vec::new(alloc));
     let status = status_of(rt, alloc, run.words, &mut shelf, &mut say)?;
     let same = status == run.status && say.text() == run.text.as_bytes();
-    Ok(same && leaves_its_files(alloc, &shelf, run)?)
+    let opened = status != DONE || opened_all(&shelf, run);
+    Ok(same && opened && leaves_its_files(alloc, &shelf, run)?)
 }
 
 #[test]

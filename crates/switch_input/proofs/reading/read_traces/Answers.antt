@@ -1,4 +1,4 @@
-use Rattle.std.proofs.Common.{◌+◌, ◌≤◌, length, arith, ap, ◌∙◌}
+use Rattle.std.proofs.Common.{◌+◌, ◌≤◌, length, arith, rules, ap, ◌∙◌}
 use Rattle.std.proofs.lemmas.List.{length_push}
 use Rattle.std.proofs.lemmas.List.Elements.{All-push}
 use Rattle.std.proofs.lemmas.Result.{err_from_is_err_and}
@@ -6,7 +6,8 @@ use Rattle.edge_io.specs.Shelf.{Told}
 use Rattle.spec_pcap.specs.Pcap.{Capture}
 use Rattle.spec_run.specs.Limits.{most_frames}
 use Rattle.switch_input.specs.InputViews.{trace_view}
-use Rattle.switch_input.proofs.Walk.{next_trace, explained, all_traces, opened_here, opened_later, only_read-trans}
+use Rattle.switch_input.proofs.Opened.{all_left}
+use Rattle.switch_input.proofs.Walk.{next_trace, explained, all_traces, opened_here, opened_more, all_opened, only_read-trans}
 use Rattle.switch_input.proofs.reading.read_traces.Goals as goal
 
 pub returns-in_err-read-clause-err : goal.returns-in_err-read-clause-err
@@ -17,7 +18,30 @@ returns-in_err-read-clause-err g c = λ t.
 pub returns-in_err-read-clause-opened : goal.returns-in_err-read-clause-opened
 returns-in_err-read-clause-opened g c = λ t.
     let p = err_from_is_err_and c.from_residual.result c.from_residual.ensures.1 in
-    rw (p.1, p.2) (opened_here _ c.ports.bytes_left c.ports.frames_left c.args.ports.now c.ports.w-index _ _ c.in_err-read.field-0.0 c.ports-test.true c.in_err-read.ensures.fault (c.ports.invariant.opened t))
+    let why = rw (ap (λ (w : Told). w.holds) (c.ports.invariant.told t)) at c.in_err-read.ensures.err t in
+    rw (p.1, p.2) (opened_here _ c.ports.bytes_left c.ports.frames_left c.args.ports.now c.ports.w-index _ c.ports-test.true
+    _ _ _ _ (c.ports.invariant.opened t) c.in_err-read.field-0.0 why (c.in_err-read.ensures.opened t))
+
+pub returns-in_err-push-clause-opened : goal.returns-in_err-push-clause-opened
+returns-in_err-push-clause-opened g c = λ t.
+    let p = err_from_is_err_and c.from_residual-in_err-push.result c.from_residual-in_err-push.ensures.1 in
+    let read = rw (ap (λ (w : Told). w.holds) (c.ports.invariant.told t)) at c.in_ok-read.ensures.ok t in
+    let more = opened_more _ c.ports.bytes_left c.ports.frames_left c.args.ports.now c.ports.w-index _ c.ports-test.true
+    _ _ _ _ (c.ports.invariant.opened t) (trace_view c.in_ok-read.read) read (c.in_ok-read.ensures.opened t) in
+    rw (p.1, p.2) more.0
+
+pub ports-init : goal.ports-init
+ports-init g c = record {
+  in_use = search rules;
+  bytes = search rules;
+  frames = search rules;
+  one_each = search rules;
+  few_frames = search rules;
+  verdict = search rules;
+  opened = λ t. all_left _ _;
+  told = search rules;
+  counts = search rules;
+}
 
 pub ports-preserved : goal.ports-preserved
 ports-preserved g c =
@@ -34,12 +58,16 @@ ports-preserved g c =
           let same = ap (λ (w : Told). w.holds) (before.told t) in
           rw (grown, c.len-frames_left.ensures.count)
           (next_trace _ c.ports.bytes_left c.ports.frames_left c.args.ports.now c.ports.w-index _ _ (trace_view c.in_ok-read.read) _ c.ports-test.true (rw same at read.ok t) (before.verdict t));
-      opened = λ t name later.
-          let same = ap (λ (w : Told). w.holds) (before.told t) in
-          before.opened t name (opened_later _ c.ports.bytes_left c.ports.frames_left c.args.ports.now c.ports.w-index _ (trace_view c.in_ok-read.read) name c.ports-test.true (rw same at read.ok t) (rw c.len-frames_left.ensures.count at later));
+      opened = λ t.
+          let read_ok = rw (ap (λ (w : Told). w.holds) (before.told t)) at read.ok t in
+          rw c.len-frames_left.ensures.count
+          (opened_more _ c.ports.bytes_left c.ports.frames_left c.args.ports.now c.ports.w-index _ c.ports-test.true _ _ _ _ (before.opened t) (trace_view c.in_ok-read.read) read_ok (read.opened t));
       told = λ t. only_read-trans (g.S.Shelf.told c.args.shelf.now) (g.S.Shelf.told c.ports.shelf) (g.S.Shelf.told c.read_port_trace.new.shelf) (before.told t) (read.told t);
       counts = read.counts ∙ before.counts;
     }
 
 pub returns-clause-ok : goal.returns-clause-ok
 returns-clause-ok g c = λ t. all_traces _ c.ports.bytes_left c.ports.frames_left c.args.ports.now c.ports.w-index _ _ (omega arith) (c.ports.invariant.verdict t)
+
+pub returns-clause-opened : goal.returns-clause-opened
+returns-clause-opened g c = λ t. all_opened _ c.ports.bytes_left c.ports.frames_left c.args.ports.now c.ports.w-index _ _ _ (omega arith) (c.ports.invariant.opened t)

@@ -1,4 +1,4 @@
-use Rattle.std.proofs.Common.{map}
+use Rattle.std.proofs.Common.{map, ◌∙◌}
 use Rattle.std.proofs.lemmas.Result.{err_from_is_err_and}
 use Rattle.spec_run.specs.Outputs.{port_file, journal_file}
 use Rattle.switch_output.proofs.Written.{cut_in_first, cut_in_last, last_whole}
@@ -14,6 +14,7 @@ returns-in_err-write_port_files g c =
       ok = λ t. tt;
       err = λ t. cut_in_first ports (journal_file c.args.out.now c.args.finished.now) _ _ _ (w.err t);
       named = w.named;
+      opened = w.opened;
       counts = tt;
       cause = w.cause;
     })
@@ -31,6 +32,7 @@ returns g c =
       err = λ t. cut_in_last ports journal (g.S.Shelf.told c.args.shelf.now).done (g.S.Shelf.told c.write_port_files.new.shelf).done _ c.write_journal_file.result
           (first.ok t) (w.err t) w.fault;
       named = w.named;
+      opened = λ t. w.opened t ∙ first.opened t;
       counts = rw (← first.counts) w.counts;
       cause = rw (← first.counts) w.cause;
     }

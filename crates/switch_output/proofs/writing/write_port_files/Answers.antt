@@ -19,6 +19,7 @@ returns-in_err-filters g c =
       ok = λ t. tt;
       err = λ t. rw c.requires.in_use (cut_in_at file run.ports run.ports 0 done done done OutOfMemory refl some (sym (append-nil done)) (inl refl) tt);
       named = λ t. tt;
+      opened = λ t. refl;
       counts = tt;
       cause = refl;
     })
@@ -34,6 +35,7 @@ returns-in_err-write_port_file g c =
       err = λ t. cut_in_at file c.as_slice-ports.result.now g.C.Case.run.ports c.files.port-index _ _ _ _ (c.as_slice-ports.ensures.list ∙ c.ports.ensures) c.files-test.true (c.files.invariant.done t)
           (w.err t) w.fault;
       named = w.named;
+      opened = λ t. w.opened t ∙ c.files.invariant.opened t;
       counts = tt;
       cause = rw (← c.files.invariant.counts) w.cause;
     })
@@ -42,5 +44,6 @@ pub files-preserved : goal.files-preserved
 files-preserved g c = record {
   in_use = c.in_ok-write_port_file.ensures.in_use;
   done = λ t. files_more (port_file c.args.out.now g.C.Case.run c.args.finished.now) c.as_slice-ports.result.now c.files.port-index _ _ _ c.files-test.true (c.files.invariant.done t) (ap (λ (w : Told). w.done) (c.in_ok-write_port_file.ensures.ok t));
+  opened = λ t. c.in_ok-write_port_file.ensures.opened t ∙ c.files.invariant.opened t;
   counts = c.in_ok-write_port_file.ensures.counts ∙ c.files.invariant.counts;
 }
