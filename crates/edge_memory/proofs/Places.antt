@@ -3,7 +3,8 @@ use Rattle.std.proofs.Common.{◌≡◌, ℕ, ◌<◌, true, List, length, drop,
 use Rattle.std.specs.Cmp.Lexicographic.{pointwise}
 use Rattle.std.proofs.lemmas.Option.{slice_get_read, slice_get-map}
 use Rattle.std.proofs.Math.Seq.{drop-cons}
-use Rattle.edge_memory.specs.Stored.{pairs, lookup, contents_of}
+use Rattle.spec_base.specs.Files.{lookup}
+use Rattle.edge_memory.specs.Stored.{pairs, contents_of}
 
 pub found_at : (files : List (String Global × Vec ℕ Global)) (name : List ℕ) (place : ℕ) (file : String Global × Vec ℕ Global) →
     place < length files → file ≡ get_or files place file →

@@ -2,7 +2,8 @@
 use Rattle.std.proofs.Common.{◌≡◌, List, [], ◌∷◌, Some, None, refl}
 use Rattle.std.specs.Prelude.{codes}
 use Rattle.spec_base.specs.Files.{File}
-use Rattle.edge_memory.specs.Stored.{lookup, lookup_or_empty, contents_of}
+use Rattle.spec_base.specs.Files.{lookup, lookup_or_empty}
+use Rattle.edge_memory.specs.Stored.{contents_of}
 
 abbrev files : List File
 files = (codes "a", codes "first") ∷ (codes "b", codes "other") ∷ (codes "a", codes "second") ∷ []

@@ -1,12 +1,14 @@
 -- What is seen of files and text in memory.
 use Rattle.std.specs.Prelude.{ℕ, List}
 use Rattle.edge_io.specs.declared.outside.InUse.{InUse}
+use Rattle.edge_memory.specs.declared.fixed_sink.FixedSink.{FixedSink}
 use Rattle.edge_memory.specs.declared.memory.MemoryShelf.{MemoryShelf}
 use Rattle.edge_memory.specs.declared.memory_sink.MemorySink.{MemorySink}
 use Rattle.edge_memory.specs.Calls.{Calls}
 use Rattle.edge_io.specs.Counts.{Counts}
 use Rattle.edge_io.specs.Shelf.{Told}
-use Rattle.edge_memory.specs.Stored.{lookup, told_of}
+use Rattle.spec_base.specs.Files.{lookup}
+use Rattle.edge_memory.specs.Stored.{told_of}
 
 abbrev pub shelf_told : MemoryShelf → Told
 shelf_told s = told_of (lookup s.folder.held) s.folder
@@ -28,3 +30,13 @@ sink_faults s = s.faults
 
 abbrev pub sink_calls : MemorySink → Calls
 sink_calls s = s.calls
+
+abbrev pub fixed_written : FixedSink → List ℕ
+fixed_written s = s.text.items
+
+abbrev pub fixed_faults : FixedSink → ℕ
+fixed_faults s = s.faults
+
+-- the most bytes that it has room for
+abbrev pub fixed_room : FixedSink → ℕ
+fixed_room s = s.room

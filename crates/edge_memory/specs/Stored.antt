@@ -1,7 +1,6 @@
 -- Files in memory, by name.
-use Rattle.std.specs.Prelude.{ℕ, nat_eq, List, [], ◌∷◌, map, slice_get, Option, Some, None, unwrap_or, String, Vec, string_bytes, if◌then◌else◌}
+use Rattle.std.specs.Prelude.{ℕ, List, [], map, slice_get, Option, Some, None, String, Vec, string_bytes}
 use Rattle.std.specs.Option.{option_map_or}
-use Rattle.std.specs.Cmp.Lexicographic.{pointwise}
 use Rattle.std.specs.declared.alloc.Global.{Global}
 use Rattle.spec_base.specs.Files.{File}
 use Rattle.edge_io.specs.declared.outside.InUse.{InUse}
@@ -14,15 +13,6 @@ pairs files = map (λ file. (string_bytes file.0, file.1.items)) files
 -- the names of texts
 abbrev pub names : List (String Global) → List (List ℕ)
 names texts = map string_bytes texts
-
--- the contents of the first file of a name
-abbrev pub lookup : List File → List ℕ → Option (List ℕ)
-lookup [] name = None
-lookup (file ∷ files) name = if pointwise nat_eq file.0 name then Some file.1 else lookup files name
-
--- the contents of the first file of a name, with every other name an empty file
-abbrev pub lookup_or_empty : List File → List ℕ → Option (List ℕ)
-lookup_or_empty files name = Some (unwrap_or (lookup files name) [])
 
 -- the contents of the file at a place; without a place it is an empty file
 abbrev pub contents_of : List File → Option ℕ → List ℕ

@@ -1,6 +1,7 @@
 ghost use Rattle.std.specs.Prelude.{◌≡◌, ◌≢◌, ℕ, List, [], ◌∷◌, ◌++◌, length, min, take, drop, ◌↔◌, Some, None, IsSome, IfSome, IfNone, OnOk, OnErr};
 ghost use Rattle.edge_io.specs.declared.outside.InUse.TheVariants.{Nothing, Opened, Created};
-ghost use Rattle.edge_memory.specs.Stored.{Stored, pairs, names, lookup, contents_of};
+ghost use Rattle.spec_base.specs.Files.{lookup};
+ghost use Rattle.edge_memory.specs.Stored.{Stored, pairs, names, contents_of};
 
 use edge_io::InUse;
 use std::alloc::{AllocError, Global};

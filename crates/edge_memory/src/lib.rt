@@ -1,4 +1,5 @@
-//! Files and text in memory, for tests and for proofs about runs that nothing disturbs.
+//! Files and text in memory: for tests, for proofs about runs that nothing disturbs, and for bytes that are made rather
+//! than read from files.
 //!
 //! # What?
 //!
@@ -9,6 +10,8 @@
 //!   each call of a run in turn.
 //! - `SteadyShelf` and `SteadySink` never fail: their counts of faults are 0 for good. Over them a run can be proved to
 //!   give its one right answer, if there is memory.
+//! - `FixedSink` takes all its memory as it is made. So it is never out of memory, and fails exactly where a write is
+//!   longer than the room that is left: of a text that is printed to it and raises no count nothing is left out.
 //!
 //! # What is promised
 //!
@@ -26,15 +29,18 @@
 //!
 //! # What is left to others
 //!
-//! What the files mean, and the system's files and standard output (`edge_real`). No program is built on this crate.
+//! What the files mean, and the system's files and standard output (`edge_real`). Of a program that reads files and writes
+//! them, nothing is kept here but what it makes itself and reads as if it were files.
 #![tactic(auto)]
 
 mod calls;
+mod fixed_sink;
 mod folder;
 mod memory;
 mod memory_sink;
 mod steady;
 
+pub use fixed_sink::FixedSink;
 pub use memory::MemoryShelf;
 pub use memory_sink::MemorySink;
 pub use steady::{SteadyShelf, SteadySink};

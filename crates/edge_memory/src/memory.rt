@@ -3,7 +3,8 @@ ghost use Rattle.edge_io.specs.declared.outside.InUse.TheVariants.{Nothing, Open
 ghost use Rattle.edge_memory.specs.Calls.{with_call, IsDue, FailsWhere};
 ghost use Rattle.edge_io.specs.Counts.{no_faults, with_read_fault, with_write_fault, HasCause};
 ghost use Rattle.edge_io.specs.Shelf.{untouched, Opens, Reads, Creates, Writes, released, closed};
-ghost use Rattle.edge_memory.specs.Stored.{pairs, names, lookup};
+ghost use Rattle.spec_base.specs.Files.{lookup};
+ghost use Rattle.edge_memory.specs.Stored.{pairs, names};
 
 use crate::calls::NumberedCalls;
 use crate::folder::Folder;

@@ -2,7 +2,8 @@ ghost use Rattle.std.specs.Prelude.{◌≡◌, ℕ, [], true, Some};
 ghost use Rattle.edge_io.specs.declared.outside.InUse.TheVariants.{Nothing};
 ghost use Rattle.edge_io.specs.Counts.{no_faults};
 ghost use Rattle.edge_io.specs.Shelf.{untouched};
-ghost use Rattle.edge_memory.specs.Stored.{pairs, lookup_or_empty, told_of};
+ghost use Rattle.spec_base.specs.Files.{lookup_or_empty};
+ghost use Rattle.edge_memory.specs.Stored.{pairs, told_of};
 
 use crate::folder::Folder;
 use edge_io::{Failed, Shelf, Sink};

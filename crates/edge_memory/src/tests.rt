@@ -66,3 +66,13 @@ fn sinks_keep_what_was_said(rt: HostRuntime) -> Result<(), Fail> {
     assert_eq!(rt; steady.text(), b"two".as_slice());
     Ok(())
 }
+
+#[test]
+fn fixed_sink_takes_what_it_has_room_for(rt: HostRuntime) -> Result<(), Fail> {
+    let mut fixed = FixedSink::new(rt.alloc(), 6)?;
+    say_all(&mut fixed, b"three")?;
+    assert_eq!(rt; say_all(&mut fixed, b"two").err(), Some(Failed::Fault));
+    say_all(&mut fixed, b"!")?;
+    assert_eq!(rt; fixed.text(), b"three!".as_slice());
+    Ok(())
+}

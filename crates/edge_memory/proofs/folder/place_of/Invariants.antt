@@ -1,5 +1,6 @@
 use Rattle.std.proofs.Common.{◌≡◌, drop}
-use Rattle.edge_memory.specs.Stored.{pairs, lookup}
+use Rattle.spec_base.specs.Files.{lookup}
+use Rattle.edge_memory.specs.Stored.{pairs}
 use Rattle.edge_memory.proofs.folder.place_of.Given as goal
 
 abbrev pub invariant-files : goal.invariant-files
