@@ -1,1 +1,5 @@
 pub mod Lines
+pub mod StepCounts
+pub mod FrameCounts
+pub mod Numbered
+pub mod RuleTexts

@@ -17,7 +17,8 @@ use Rattle.spec_board.proofs.Shown.{shown, run_of, flow_limit, edit, add, in_por
 use Rattle.spec_board.proofs.Runs.{replaced, two_blocks}
 use Rattle.spec_dumps.specs.Rules.{put_in_order, in_order, rules_text}
 use Rattle.spec_dumps.specs.Megaflows.{time_text, together, visits_text, megaflow_match_text, megaflows_text}
-use Rattle.spec_dumps.specs.Summary.{Ran, summary}
+use Rattle.spec_dumps.specs.declared.ran.Ran.{Ran}
+use Rattle.spec_dumps.specs.Summary.{summary}
 
 -- a rule that sends what comes in at port 1 to port 2
 abbrev to_port_2 : Run

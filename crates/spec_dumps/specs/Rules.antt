@@ -17,6 +17,7 @@ use Rattle.spec_board.specs.State.{State}
 use Rattle.spec_board.specs.Journals.{after}
 use Rattle.spec_board.specs.Counts.{owed_packets, owed_bytes}
 use Rattle.spec_board.specs.Texts.{Journal, line_of}
+use Rattle.spec_dumps.specs.declared.rule_counts.RuleCounts.{RuleCounts}
 
 -- ---- counts
 
@@ -33,10 +34,13 @@ abbrev pub bytes_of : Run → List Journal → ℕ → ℕ
 bytes_of run journals rule =
     sum_by (λ (j : Journal). ((end_of run j).totals rule).bytes + owed_bytes rule (end_of run j).entries) journals
 
--- the counts of a rule, with a text between them
-abbrev pub counts_text : List ℕ → Run → List Journal → ℕ → List ℕ
-counts_text between run journals rule =
-    codes "n_packets=" ++ (decimal (packets_of run journals rule) ++ (between ++ (codes "n_bytes=" ++ decimal (bytes_of run journals rule))))
+-- both counts of a rule
+abbrev pub counts_of : Run → List Journal → ℕ → RuleCounts
+counts_of run journals rule = record { packets = packets_of run journals rule; bytes = bytes_of run journals rule }
+
+-- counts, with a text between them
+abbrev pub counts_text : List ℕ → RuleCounts → List ℕ
+counts_text between counts = codes "n_packets=" ++ (decimal counts.packets ++ (between ++ (codes "n_bytes=" ++ decimal counts.bytes)))
 
 -- ---- order
 
@@ -64,15 +68,21 @@ abbrev pub after_comma : List ℕ → List ℕ
 after_comma [] = []
 after_comma text = comma ∷ text
 
-abbrev pub rule_line : Run → List Journal → Rule → List ℕ
-rule_line run journals r = line_of (
+abbrev pub rule_line_with : RuleCounts → Rule → List ℕ
+rule_line_with counts r = line_of (
     codes "cookie=" ++ (hexadecimal r.cookie ++ (codes ", table=" ++ (decimal r.table ++ (codes ", "
-    ++ (counts_text (codes ", ") run journals r.number ++ (codes ", priority=" ++ (decimal r.priority ++ (after_comma (match_printed r.matching)
+    ++ (counts_text (codes ", ") counts ++ (codes ", priority=" ++ (decimal r.priority ++ (after_comma (match_printed r.matching)
     ++ (codes " actions=" ++ (actions_printed r.actions ++ (codes " # rule=" ++ decimal r.number))))))))))))
 
+abbrev pub gone_line_with : RuleCounts → ℕ → List ℕ
+gone_line_with counts rule = line_of (codes "# gone rule=" ++ (decimal rule ++ (codes " " ++ counts_text (codes " ") counts)))
+
+-- with the counts that journals make
+abbrev pub rule_line : Run → List Journal → Rule → List ℕ
+rule_line run journals r = rule_line_with (counts_of run journals r.number) r
+
 abbrev pub gone_line : Run → List Journal → ℕ → List ℕ
-gone_line run journals rule =
-    line_of (codes "# gone rule=" ++ (decimal rule ++ (codes " " ++ counts_text (codes " ") run journals rule)))
+gone_line run journals rule = gone_line_with (counts_of run journals rule) rule
 
 -- the rules that are live in the last version
 abbrev pub live_rules : Run → List Rule

@@ -11,6 +11,7 @@ use Rattle.spec_board.specs.Steps.{Step, Look, Settle, Present, Full, Installed}
 use Rattle.spec_board.specs.Decisions.{Decision, decision_of}
 use Rattle.spec_board.specs.Texts.{Journal, line_of}
 use Rattle.spec_exec.specs.Sent.{Piece, sent}
+use Rattle.spec_dumps.specs.declared.ran.Ran.{Ran}
 use Rattle.spec_dumps.specs.Rules.{end_of}
 use Rattle.spec_dumps.specs.Megaflows.{told}
 
@@ -58,13 +59,18 @@ decided None = []
 abbrev pub pieces_of : Run → Journal → ℕ → List Piece
 pieces_of run j place = sent (decided (decision_of run j.port j.steps place)) (frame_at run j.port place).bytes
 
--- how many frames are sent, and how many of those that came in are sent nowhere
+-- how often the frames of a journal are sent, and how many of them are sent nowhere
+abbrev pub sent_by : Run → Journal → ℕ
+sent_by run j = sum_by (λ place. length (pieces_of run j place)) (places_of run j)
+
+abbrev pub dropped_by : Run → Journal → ℕ
+dropped_by run j = count_by (λ place. length (pieces_of run j place) == 0) (places_of run j)
+
 abbrev pub sent_count : Run → List Journal → ℕ
-sent_count run journals = sum_by (λ (j : Journal). sum_by (λ place. length (pieces_of run j place)) (places_of run j)) journals
+sent_count run journals = sum_by (sent_by run) journals
 
 abbrev pub dropped_count : Run → List Journal → ℕ
-dropped_count run journals =
-    sum_by (λ (j : Journal). count_by (λ place. length (pieces_of run j place) == 0) (places_of run j)) journals
+dropped_count run journals = sum_by (dropped_by run) journals
 
 abbrev pub frame_count : Run → ℕ
 frame_count run = sum_by (λ port. length (frames_of run port)) run.ports
@@ -75,16 +81,31 @@ megaflow_count run journals = sum_by (λ (j : Journal). length (end_of run j).en
 
 -- ---- lines
 
--- the numbers of a schedule that was given: how many steps it has, and how many of them were not met
-pub record Ran : Type 0 where
-  pub steps : ℕ
-  pub unmet : ℕ
-
 abbrev pub count : List ℕ → ℕ → List ℕ
 count name n = told name (decimal n)
 
 abbrev pub counts_line : List (List ℕ) → List ℕ
 counts_line counts = line_of (join_with_byte space counts)
+
+abbrev pub run_line : Run → List ℕ
+run_line run =
+    counts_line (count (codes "ports") (length run.ports) ∷ count (codes "frames") (frame_count run)
+    ∷ count (codes "edits") (last_version run) ∷ count (codes "blocks") (last_block run + 1) ∷ [])
+
+abbrev pub looks_line : List Journal → List ℕ
+looks_line journals =
+    counts_line (count (codes "exact") (count_steps is_exact journals) ∷ count (codes "mega") (count_steps is_mega journals)
+    ∷ count (codes "miss") (count_steps is_miss journals) ∷ [])
+
+abbrev pub settles_line : List Journal → List ℕ
+settles_line journals =
+    counts_line (count (codes "installed") (count_steps is_installed journals) ∷ count (codes "present") (count_steps is_present journals)
+    ∷ count (codes "full") (count_steps is_full journals) ∷ [])
+
+abbrev pub sent_line : Run → List Journal → List ℕ
+sent_line run journals =
+    counts_line (count (codes "sent") (sent_count run journals) ∷ count (codes "dropped") (dropped_count run journals)
+    ∷ count (codes "entries") (megaflow_count run journals) ∷ [])
 
 abbrev pub given_line : Option Ran → List ℕ
 given_line None = []
@@ -93,12 +114,4 @@ given_line (Some ran) = counts_line (count (codes "steps") ran.steps ∷ count (
 -- the summary of a run, by its journals, with a line for the steps where a schedule was given
 abbrev pub summary : Run → List Journal → Option Ran → List ℕ
 summary run journals ran =
-    counts_line (count (codes "ports") (length run.ports) ∷ count (codes "frames") (frame_count run)
-    ∷ count (codes "edits") (last_version run) ∷ count (codes "blocks") (last_block run + 1) ∷ [])
-    ++ (counts_line (count (codes "exact") (count_steps is_exact journals) ∷ count (codes "mega") (count_steps is_mega journals)
-    ∷ count (codes "miss") (count_steps is_miss journals) ∷ [])
-    ++ (counts_line (count (codes "installed") (count_steps is_installed journals) ∷ count (codes "present") (count_steps is_present journals)
-    ∷ count (codes "full") (count_steps is_full journals) ∷ [])
-    ++ (counts_line (count (codes "sent") (sent_count run journals) ∷ count (codes "dropped") (dropped_count run journals)
-    ∷ count (codes "entries") (megaflow_count run journals) ∷ [])
-    ++ given_line ran)))
+    run_line run ++ (looks_line journals ++ (settles_line journals ++ (sent_line run journals ++ given_line ran)))

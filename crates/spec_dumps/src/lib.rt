@@ -6,3 +6,9 @@
 //! - `Megaflows`: a line for each megaflow that stands in the caches of the ports.
 //! - `Summary`: how many frames came in and went out, how they were decided, and what stands in the caches.
 #![tactic(auto)]
+
+mod ran;
+mod rule_counts;
+
+pub use ran::Ran;
+pub use rule_counts::RuleCounts;

@@ -1,0 +1,4 @@
+pub mod RunTexts
+pub mod Stated
+pub mod Ends
+pub mod LineParts

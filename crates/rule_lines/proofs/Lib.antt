@@ -1,0 +1,5 @@
+pub mod Added
+pub mod InOrder
+pub mod Listed
+pub mod Pieces
+pub mod Rising

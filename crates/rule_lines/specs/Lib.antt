@@ -1,0 +1,4 @@
+pub mod Live
+pub mod Order
+pub mod Pieces
+pub mod Places

@@ -1,0 +1,13 @@
+use Rattle.std.proofs.Common.{rules, ◌≡◌, replicate, List, ap, ◌∙◌}
+use Rattle.spec_dumps.specs.declared.rule_counts.RuleCounts.{RuleCounts}
+use Rattle.flow_stats.specs.Sums.{total_of}
+use Rattle.rule_sums.specs.Sums.{sums_view}
+use Rattle.rule_sums.proofs.Adding.{total_of-replicate}
+use Rattle.rule_sums.proofs.counting.count_rules.Goals as goal
+
+pub add_boards-requires-clause-none : goal.add_boards-requires-clause-none
+add_boards-requires-clause-none g c rule =
+    let none : RuleCounts = record { packets = 0; bytes = 0 } in
+    let new : c.in_ok-counts.counts.items ≡ replicate c.last_version.result none = search rules in
+    let counts : c.deref_mut.result.now ≡ replicate c.last_version.result none = c.deref_mut.ensures.value ∙ new in
+    ap (λ (cs : List RuleCounts). total_of (sums_view cs) rule) counts ∙ total_of-replicate c.last_version.result rule

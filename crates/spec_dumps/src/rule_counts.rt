@@ -1,0 +1,6 @@
+/// How many packets and bytes a rule has had, at all ports together.
+#[derive(Clone, Copy, Debug, PartialEq, Eq)]
+pub struct RuleCounts {
+    pub packets: u128,
+    pub bytes: u128,
+}
