@@ -55,11 +55,14 @@ by_last_version run b decided place one last =
     let d = decided place one last in
     ap (option_map (λ (d : Decision). d.version)) d.0.is_decision ∙ ap (λ (v : ℕ). Some v) d.1
 
+pub all_by_last_version : (run : Run) (boards : List BoardView) → All (AreDecided run) boards → All (IsByLastVersion run) (journals_view boards)
+all_by_last_version run boards decided = All-map (IsByLastVersion run) journal_view boards (λ k d within. by_last_version run (slice_index_or boards k d) (decided k d within))
+
 pub are_journals : (run : Run) (boards : List BoardView) → AreWhole run (journals_view boards) → map (under_way run) boards ≡ (whole_runs.scheduled run).boards → All (AreDecided run) boards → AreJournals 0 run (journals_view boards)
 are_journals run boards whole scheduled decided = record {
   are_whole = whole;
   as_scheduled = λ alone. sym (map-map journal_in (under_way run) boards) ∙ ap (map journal_in) scheduled;
-  by_last_version = λ alone none. All-map (IsByLastVersion run) journal_view boards (λ k d within. by_last_version run (slice_index_or boards k d) (decided k d within));
+  by_last_version = λ alone none. all_by_last_version run boards decided;
 }
 
 -- ---- the journal of a port

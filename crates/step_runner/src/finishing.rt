@@ -6,9 +6,9 @@ ghost use Rattle.spec_case.specs.Blocks.{AreInOrder, hi, last_block, last_place}
 ghost use Rattle.spec_board.specs.Schedules as schedules;
 ghost use Rattle.pmd_board.specs.BoardView.{state_of};
 ghost use Rattle.spec_tables.specs.Edits.{has_sound_actions};
-ghost use Rattle.spec_run.specs.Journals.{AreJournals};
+ghost use Rattle.spec_run.specs.Journals.{AreJournals, IsByLastVersion};
 ghost use Rattle.step_runner.specs.Progress.{IsPast, IsSameBoard, IsSwept, OnlyPlans};
-ghost use Rattle.step_runner.specs.Scheduled.{under_way, schedule_of, block_to_finish, HasDone, AreOnlyPlanned, TookTurn, TookTurns};
+ghost use Rattle.step_runner.specs.Scheduled.{under_way, schedule_of, block_to_finish, HasDone, AreOnlyPlanned, IsNew, TookTurn, TookTurns};
 ghost use Rattle.step_runner.specs.Finished.{AreFinished, journals_in};
 
 use crate::boards::Boards;
@@ -173,7 +173,8 @@ pub(crate) fn finish_blocks<C: Case>(
 
 /// Finishes all blocks, one after the other, whatever was done of them before. Then nothing is left to be done.
 ///
-/// The journals are those of the schedule that goes on from these boards and tables.
+/// The journals are those of the schedule that goes on from these boards and tables. Where nothing was done at the boards,
+/// each frame is decided under the last version of its block.
 ///
 /// It takes memory, also for the arrivals of all frames; where there is none, the boards are given up, and the tables are
 /// left on the way.
@@ -185,10 +186,13 @@ pub fn finish<C: Case>(
     tables: &mut Tables<C>,
 ) -> Result<Finished<C>, AllocError>
     requires { tables.old ≤ hi C.run (block_to_finish C.run boards) }
-    ensures { IfOk result (λ done. done
+    ensures scheduled { IfOk result (λ done. done
         ≡ journals_in (schedules.finish C.run (schedule_of C.run tables.old boards))) }
+    ensures by_last_version { IfOk result (λ done.
+        All (IsNew C.run.flow_limit) boards → All (IsByLastVersion C.run) done) }
 {
     let left = finish_blocks(alloc, run, edits, boards, tables)?;
+    recall_laws(left.as_slice());
     let done = Finished::new(alloc, run, left)?;
     Ok(done)
 }

@@ -1,0 +1,10 @@
+pub mod GivenUp
+pub mod StepLaws
+pub mod Stepped
+pub mod WholeRuns
+pub mod KeptLists
+pub mod Entries
+pub mod Boards
+pub mod Taken
+pub mod Keeping
+pub mod InRunning

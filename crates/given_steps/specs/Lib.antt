@@ -1,0 +1,6 @@
+pub mod Translations
+pub mod Keys
+pub mod ScheduledViews
+pub mod Fields
+pub mod Running
+pub mod Taken
