@@ -1,5 +1,5 @@
 -- Worked rows: words and small files, the verdict on them, what is opened, and the files that come out.
-use Rattle.std.specs.Prelude.{◌≡◌, ℕ, zero, suc, true, false, nat_eq, if◌then◌else◌, List, [], ◌∷◌, ◌++◌, take, map, replicate, slice_get, slice_index, Option, Some, None, Result, Ok, Err, codes, refl}
+use Rattle.std.specs.Prelude.{◌≡◌, ℕ, zero, suc, true, false, nat_eq, if◌then◌else◌, List, [], ◌∷◌, ◌++◌, take, drop, map, replicate, slice_get, slice_index, Option, Some, None, Result, Ok, Err, codes, refl}
 use Rattle.std.proofs.Common.{ap, inl, inr, arith}
 use Rattle.std.specs.Cmp.Lexicographic.{pointwise}
 use Rattle.std.specs.Fmt.{digits}
@@ -11,6 +11,8 @@ use Rattle.spec_tables.specs.Rules.{winner}
 use Rattle.spec_tables.specs.Edits.{version}
 use Rattle.spec_tables.specs.Changes.{changes_to}
 use Rattle.spec_numbers.specs.Numbers.{digits_upto, decimal_upto, number_upto, octet, octet_before_colon, mac}
+use Rattle.clap.proofs.OnLiterals.{clap_on_literals}
+use Rattle.spec_words.specs.Words as command_line
 use Rattle.spec_words.specs.Words.{port_number, port_word, new_port, port_words, command_of}
 use Rattle.spec_flow_text.specs.declared.fault.TextFault.TheVariants as text
 use Rattle.spec_flow_text.specs.Names.{field_named, is_field_left_out, shorthand_named, keyword_named, item_named, reserved_port_named, is_action_left_out, action_named}
@@ -42,14 +44,20 @@ use Rattle.spec_board.specs.Effects.{credited_by}
 use Rattle.spec_board.specs.Decisions.{decisions_from}
 use Rattle.spec_board.specs.Schedules.{finish, finish_board, least_block}
 use Rattle.spec_board.specs.GivenSteps.{with_given_steps}
+use Rattle.spec_case.specs.declared.run_step.RunStep.{RunStep}
+use Rattle.spec_case.specs.declared.run_step.RunStep.TheVariants as step
+use Rattle.spec_dumps.specs.declared.ran.Ran.{Ran}
+use Rattle.spec_steps.specs.declared.fault.StepsFault.TheVariants as given
+use Rattle.spec_steps.specs.Steps as steps_file
+use Rattle.spec_steps.specs.Steps.{number_in, port_in, step_in, with_words, steps_of}
 use Rattle.spec_run.specs.declared.quantity.Quantity.{Quantity}
-use Rattle.spec_run.specs.declared.quantity.Quantity.TheVariants.{EditsBytes, Line, Edits, Syncs, Actions, Changes, TraceBytes, Frames}
-use Rattle.spec_run.specs.Verdict.{Files, Refusal, NotBuilt, Missing, Text, Trace, Limit, TraceFile, Accepted, command_in, script_in, file_in, traces_after, verdict, traces_opened, files_opened}
+use Rattle.spec_run.specs.declared.quantity.Quantity.TheVariants.{EditsBytes, StepsBytes, Line, Edits, Syncs, Actions, Steps as StepCount, Changes, TraceBytes, Frames}
+use Rattle.spec_run.specs.Verdict.{Files, Refusal, Usage, NotBuilt, Missing, Text, Steps, Trace, Limit, TraceFile, Accepted, command_in, script_in, file_in, traces_after, run_in, verdict, traces_opened, later_opened, sources_opened, files_opened}
 use Rattle.spec_base.specs.Files.{File, IsPrefixOf}
 use Rattle.spec_run.specs.Journals.{scheduled_journals}
-use Rattle.spec_run.specs.Outputs.{files_of}
+use Rattle.spec_run.specs.Outputs.{out_of, output_of, has_steps, ran_of}
 use Rattle.spec_run.specs.CutShort.{IsCutShort}
-use Rattle.spec_run.specs.Statuses.{read_fault_text, script_text, trace_text, limit_text, Prints}
+use Rattle.spec_run.specs.Statuses.{status_of, text_of, read_fault_text, script_text, trace_text, limit_text, Prints}
 
 abbrev said : List (List ℕ)
 said = codes "e" ∷ codes "o" ∷ codes "1=a" ∷ codes "2=" ∷ []
@@ -67,17 +75,21 @@ files e a name = if pointwise nat_eq name (codes "e") then e else (if pointwise 
 
 -- what becomes of a run with such files
 unfoldable outcome : List (List ℕ) → Option (List ℕ) → Option (List ℕ) → Result (List File) Refusal
-unfolding command_in script_in file_in traces_after verdict capture_of format_of record_fault frames_from little_endian_at digits_upto decimal_upto number_upto octet octet_before_colon mac port_number port_word new_port port_words command_of field_named is_field_left_out shorthand_named keyword_named item_named reserved_port_named is_action_left_out action_named value_in whole_value value_of bits_stated field_stated words with_part with_shorthand number_once with_valued with_bare with_item items.read_items kept match_of read_match up_to_end items is_closed argument_of port_of actions.output drop_item actions_of_item read_items read_actions edit_from edit_in changes_to with_line with_lines script_of with_edit with_sync sync_time time_of seconds_with_fraction seconds_of fraction_of version winner none masked same joined big_endian_at key_of is_tagged tci_of carried carried_by network_at with_network frames_in arrivals_at arrivals_in put_in_order in_order sent pipe last_state look run act output committed emit emit_all commit commit_fields commit_field commit_tags outer_tags header record_header only_at digits finish finish_board least_block with_given_steps decisions_from ends_after through length_up_to common_length deciding probe consults act_bits run_bits look_bits consulted are_same_actions credited_by stages
+unfolding command_in script_in file_in traces_after run_in verdict capture_of format_of record_fault frames_from little_endian_at digits_upto decimal_upto number_upto octet octet_before_colon mac port_number port_word new_port port_words command_of command_line.command_in command_line.files_in clap_on_literals field_named is_field_left_out shorthand_named keyword_named item_named reserved_port_named is_action_left_out action_named value_in whole_value value_of bits_stated field_stated words with_part with_shorthand number_once with_valued with_bare with_item items.read_items kept match_of read_match up_to_end items is_closed argument_of port_of actions.output drop_item actions_of_item read_items read_actions edit_from edit_in changes_to with_line with_lines script_of with_edit with_sync sync_time time_of seconds_with_fraction seconds_of fraction_of version winner none masked same joined big_endian_at key_of is_tagged tci_of carried carried_by network_at with_network frames_in arrivals_at arrivals_in put_in_order in_order sent pipe last_state look run act output committed emit emit_all commit commit_fields commit_field commit_tags outer_tags header record_header only_at digits finish finish_board least_block with_given_steps decisions_from ends_after through length_up_to common_length deciding probe consults act_bits run_bits look_bits consulted are_same_actions credited_by stages
 outcome command e a = files_in (verdict command (files e a))
   where
     files_in : Result Accepted Refusal → Result (List File) Refusal
-    files_in (Ok accepted) = Ok (files_of accepted.command.out accepted.run (scheduled_journals accepted.run))
+    files_in (Ok accepted) = Ok (output_of (out_of accepted.command.input) accepted.run (scheduled_journals accepted.run))
     files_in (Err refusal) = Err refusal
 
 -- the files of the two ports
 abbrev port_files : Result (List File) Refusal → Result (List File) Refusal
 port_files (Ok files) = Ok (take 2 files)
 port_files (Err refusal) = Err refusal
+
+-- what becomes of a run with that frame and these edits
+abbrev done_or_refused : Option (List ℕ) → Result (List File) Refusal
+done_or_refused e = outcome said e (Some trace)
 
 -- what the edits `e` make of that frame
 abbrev done_with : List ℕ → Result (List File) Refusal
@@ -122,18 +134,65 @@ an_add_replaces_the_rule_of_its_match_and_priority : done_with (codes "actions=d
 unfolding outcome
 an_add_replaces_the_rule_of_its_match_and_priority = refl
 
-a_rule_changes_between_two_frames :
+-- the files of the two ports, and the journal
+abbrev without_dumps : Result (List File) Refusal → Result (List File) Refusal
+without_dumps (Ok files) = Ok (take 2 files ++ drop 4 files)
+without_dumps (Err refusal) = Err refusal
+
+abbrev changing : Result (List File) Refusal
+changing =
     outcome said (Some (codes "in_port=1,actions=2\nsync 2\npriority=40000,actions=drop\n")) (Some (file_of false (frame ∷ record frame { time = 2000000000 } ∷ [])))
+
+a_rule_changes_between_two_frames :
+    without_dumps changing
     ≡ Ok ((codes "o.p1.pcap", file_of false []) ∷ (codes "o.p2.pcap", file_of false (frame ∷ []))
     ∷ (codes "o.journal", codes "port 1\nbegin 1\nend\nlook 1 miss\nsettle 1 1 installed 1\nopen 1\nbegin 2\nput 1 2 replaced\nend\nlook 2 mega 1\nport 2\nbegin 1\nend\nopen 1\nbegin 2\nend\n") ∷ [])
 unfolding outcome
 a_rule_changes_between_two_frames = refl
 
+abbrev names_in : Result (List File) Refusal → List (List ℕ)
+names_in (Ok files) = map (λ file. file.0) files
+names_in (Err refusal) = []
+
+the_dumps_stand_between_the_port_files_and_the_journal :
+    names_in (done_or_refused (Some [])) ≡ codes "o.p1.pcap" ∷ codes "o.p2.pcap" ∷ codes "o.rules" ∷ codes "o.megaflows" ∷ codes "o.journal" ∷ []
+unfolding outcome
+the_dumps_stand_between_the_port_files_and_the_journal = refl
+
 -- ---- what is refused
 
-refused_words_come_first : outcome (codes "e" ∷ []) None None ≡ Err (NotBuilt (codes "words"))
+refused_words_come_first : outcome (codes "e" ∷ []) None None ≡ Err Usage
 unfolding outcome
 refused_words_come_first = refl
+
+what_is_not_built_comes_next : outcome (codes "--workers=1" ∷ said) None None ≡ Err (NotBuilt (codes "workers"))
+unfolding outcome
+what_is_not_built_comes_next = refl
+
+-- a run whose steps file is `a`
+abbrev stepped : List (List ℕ)
+stepped = codes "--steps=a" ∷ codes "e" ∷ codes "o" ∷ codes "1=b" ∷ []
+
+the_steps_come_after_the_edits_and_before_the_traces :
+    (outcome stepped (Some (codes "actions")) None ≡ Err (Text (codes "e") (script.Line 1 (text.Syntax 1))))
+    × ((outcome stepped (Some []) None ≡ Err (Missing (codes "a")))
+    × ((outcome stepped (Some []) (Some (codes "edit\nrx 2")) ≡ Err (Steps (codes "a") (given.Line 2 (text.BadValue 4))))
+    × (outcome stepped (Some []) (Some (codes "edit\nrx 1")) ≡ Err (Missing (codes "b")))))
+unfolding outcome number_in port_in step_in with_words steps_file.with_line steps_file.with_lines steps_of
+the_steps_come_after_the_edits_and_before_the_traces = (refl, (refl, (refl, refl)))
+
+-- the steps of a run, and what is told of them
+abbrev steps_and_ran : Result Accepted Refusal → Option (List RunStep × Option Ran)
+steps_and_ran (Ok accepted) = Some (accepted.run.steps, ran_of (has_steps accepted.command.input) accepted.run)
+steps_and_ran (Err refusal) = None
+
+abbrev run_by : List (List ℕ) → Option (List RunStep × Option Ran)
+run_by options = steps_and_ran (verdict (options ++ codes "e" ∷ codes "o" ∷ codes "1=" ∷ []) (files (Some []) (Some (codes "edit\nrx 1"))))
+
+steps_are_told_where_a_file_gives_them :
+    (run_by [] ≡ Some ([], None)) × (run_by (codes "--steps=a" ∷ []) ≡ Some (step.Edit ∷ step.Rx 1 ∷ [], Some (record { steps = 2; unmet = 2 })))
+unfolding run_in verdict command_in script_in traces_after digits_upto decimal_upto port_number port_word new_port port_words command_of command_line.command_in command_line.files_in clap_on_literals words changes_to with_line with_lines script_of number_in port_in step_in with_words steps_file.with_line steps_file.with_lines steps_of finish finish_board least_block with_given_steps frames_in ends_after
+steps_are_told_where_a_file_gives_them = (refl, refl)
 
 the_edits_come_before_the_traces :
     (outcome said None None ≡ Err (Missing (codes "e"))) × (outcome said (Some (codes "actions")) None ≡ Err (Text (codes "e") (script.Line 1 (text.Syntax 1))))
@@ -160,7 +219,7 @@ bytes_above_the_limit_come_before_frames = (refl, refl)
 -- ---- what is opened
 
 unfoldable opened : Option (List ℕ) → Option (List ℕ) → List (List ℕ)
-unfolding files_opened traces_opened command_in script_in file_in traces_after verdict capture_of format_of record_fault frames_from little_endian_at digits_upto decimal_upto number_upto octet octet_before_colon mac port_number port_word new_port port_words command_of field_named is_field_left_out shorthand_named keyword_named item_named reserved_port_named is_action_left_out action_named value_in whole_value value_of bits_stated field_stated words with_part with_shorthand number_once with_valued with_bare with_item items.read_items kept match_of read_match up_to_end items is_closed argument_of port_of actions.output drop_item actions_of_item read_items read_actions edit_from edit_in changes_to with_line with_lines script_of with_edit with_sync sync_time time_of seconds_with_fraction seconds_of fraction_of
+unfolding files_opened sources_opened later_opened traces_opened command_in script_in file_in traces_after run_in verdict capture_of format_of record_fault frames_from little_endian_at digits_upto decimal_upto number_upto octet octet_before_colon mac port_number port_word new_port port_words command_of command_line.command_in command_line.files_in clap_on_literals field_named is_field_left_out shorthand_named keyword_named item_named reserved_port_named is_action_left_out action_named value_in whole_value value_of bits_stated field_stated words with_part with_shorthand number_once with_valued with_bare with_item items.read_items kept match_of read_match up_to_end items is_closed argument_of port_of actions.output drop_item actions_of_item read_items read_actions edit_from edit_in changes_to with_line with_lines script_of with_edit with_sync sync_time time_of seconds_with_fraction seconds_of fraction_of
 opened e a = files_opened said (files e a)
 
 nothing_is_opened_after_a_refusal :
@@ -169,7 +228,18 @@ nothing_is_opened_after_a_refusal :
 unfolding opened
 nothing_is_opened_after_a_refusal = (refl, (refl, refl))
 
+nothing_is_opened_for_what_a_number_makes : files_opened (codes "--generate=7" ∷ []) (files None None) ≡ []
+unfolding files_opened command_in digits_upto decimal_upto command_of command_line.command_in command_line.files_in clap_on_literals
+nothing_is_opened_for_what_a_number_makes = refl
+
 -- ---- what is printed
+
+-- the words that the program takes are told
+abbrev usage : List ℕ
+usage = codes "usage: megaswitch [--workers N] [--steps FILE] [--flow-limit N] EDITS OUT PORT=FILE...\n"
+
+other_words_end_with_2 : (status_of Usage ≡ 2) × (text_of Usage ≡ usage)
+other_words_end_with_2 = (refl, refl)
 
 the_text_of_a_read_fault : read_fault_text (codes "a") ≡ codes "read fault: a" ++ 10 ∷ []
 the_text_of_a_read_fault = refl
@@ -187,7 +257,8 @@ the_texts_of_faulty_traces = (refl, (refl, (refl, (refl, (refl, (refl, refl)))))
 
 abbrev limits_and_their_texts : List (Quantity × List ℕ)
 limits_and_their_texts =
-    (EditsBytes, codes "limit: edits-bytes 33554432\n") ∷ (Line, codes "limit: line 4096\n") ∷ (Edits, codes "limit: edits 32768\n") ∷
+    (EditsBytes, codes "limit: edits-bytes 33554432\n") ∷ (StepsBytes, codes "limit: steps-bytes 4194304\n") ∷
+    (StepCount, codes "limit: steps 131072\n") ∷ (Line, codes "limit: line 4096\n") ∷ (Edits, codes "limit: edits 32768\n") ∷
     (Syncs, codes "limit: syncs 63\n") ∷ (Actions, codes "limit: actions 64\n") ∷ (Changes, codes "limit: changes 1048576\n") ∷
     (TraceBytes, codes "limit: trace-bytes 268435456\n") ∷ (Frames, codes "limit: frames 131072\n") ∷ []
 

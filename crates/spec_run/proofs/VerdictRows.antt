@@ -2,20 +2,22 @@
 use Rattle.std.specs.Prelude.{◌≡◌, ℕ, false, List, [], ◌∷◌, map, replicate, bytes_eq, if◌then◌else◌, Option, Some, None, Result, Ok, Err, codes, refl}
 use Rattle.std.specs.Result.{result_ok}
 use Rattle.std.specs.Option.{option_map}
-use Rattle.spec_base.specs.Bytes.{big_endian_at, little_endian_at}
+use Rattle.spec_base.specs.Bytes.{little_endian_at}
 use Rattle.spec_pcap.specs.declared.fault.PcapFault.{PcapFault}
 use Rattle.spec_pcap.specs.declared.fault.PcapFault.TheVariants.{ShortHeader, Magic, Version, LinkType, ShortRecord, TooLong, Fraction, TooManyFrames}
 use Rattle.spec_pcap.specs.Pcap.{Frame, Capture, format_of, record_fault, capture_of, frames_from, header, record_header, file_of}
 use Rattle.spec_case.specs.Run.{Run}
 use Rattle.spec_tables.specs.Changes.{changes_to}
 use Rattle.spec_numbers.specs.Numbers.{digits_upto, decimal_upto}
+use Rattle.clap.proofs.OnLiterals.{clap_on_literals}
+use Rattle.spec_words.specs.Words as command_line
 use Rattle.spec_words.specs.Words.{PortWord, port_number, port_word, new_port, port_words, command_of}
 use Rattle.spec_flow_text.specs.declared.fault.TextFault.TheVariants as text
 use Rattle.spec_script.specs.declared.fault.ScriptFault.{ScriptFault}
 use Rattle.spec_script.specs.declared.fault.ScriptFault.TheVariants as script
 use Rattle.spec_script.specs.Script.{with_line, with_lines, script_of}
 use Rattle.spec_run.specs.declared.quantity.Quantity.TheVariants.{Line, Edits, Syncs, Actions, TraceBytes, Frames}
-use Rattle.spec_run.specs.Verdict.{Files, Refusal, Missing, Text, Trace, Limit, command_in, script_in, file_in, refused_script, refused_trace, traces_after, traces_in, traces_opened, files_opened, verdict}
+use Rattle.spec_run.specs.Verdict.{Files, Refusal, Text, Trace, Limit, command_in, script_in, file_in, refused_script, refused_trace, traces_after, traces_in, traces_opened, later_opened, sources_opened, files_opened, run_in, verdict}
 
 -- 60 bytes from 00:00:00:00:00:01 to 00:00:00:00:00:02, of the type 0x88b5 for local experiments (IEEE 802)
 abbrev frame : Frame
@@ -80,24 +82,29 @@ said = codes "e" ∷ codes "o" ∷ codes "1=a" ∷ codes "2=" ∷ []
 the_traces_are_opened_after_the_edits_within_the_same_room :
     (a : Option (List ℕ)) → files_opened said (with_no_edits a)
     ≡ codes "e" ∷ traces_opened (with_no_edits a) 268435456 131072 (word 1 (codes "a") ∷ word 2 [] ∷ [])
-unfolding files_opened command_in script_in digits_upto decimal_upto port_number port_word new_port port_words command_of changes_to with_line with_lines script_of
+unfolding files_opened sources_opened later_opened command_in script_in digits_upto decimal_upto port_number port_word new_port port_words command_of command_line.command_in command_line.files_in clap_on_literals changes_to with_line with_lines script_of
 the_traces_are_opened_after_the_edits_within_the_same_room a = refl
 
 abbrev run_of : List (List ℕ) → Files → Option Run
 run_of words files = option_map (λ accepted. accepted.run) (result_ok (verdict words files))
 
-a_board_keeps_8192_megaflows_and_no_step_is_given :
-    run_of said (with_no_edits (Some (file_of false (frame ∷ []))))
-    ≡ Some (record {
-      ports = 1 ∷ 2 ∷ [];
-      edits = [];
-      syncs = [];
-      traces = capture ∷ record { nanos = false; frames = [] } ∷ [];
-      flow_limit = 8192;
-      steps = [];
-    })
-unfolding verdict command_in script_in traces_after file_in capture_of format_of record_fault frames_from little_endian_at header record_header digits_upto decimal_upto port_number port_word new_port port_words command_of changes_to with_line with_lines script_of
-a_board_keeps_8192_megaflows_and_no_step_is_given = refl
+-- what the words and the files give, and no step
+abbrev run_with : ℕ → Run
+run_with limit = record {
+  ports = 1 ∷ 2 ∷ [];
+  edits = [];
+  syncs = [];
+  traces = capture ∷ record { nanos = false; frames = [] } ∷ [];
+  flow_limit = limit;
+  steps = [];
+}
+
+abbrev gives_run : List (List ℕ) → ℕ → Type 0
+gives_run words limit = run_of words (with_no_edits (Some (file_of false (frame ∷ [])))) ≡ Some (run_with limit)
+
+a_board_keeps_as_many_megaflows_as_the_words_say_or_8192 : (gives_run said 8192) × (gives_run (codes "--flow-limit=1" ∷ said) 1)
+unfolding verdict run_in command_in script_in traces_after file_in capture_of format_of record_fault frames_from little_endian_at header record_header digits_upto decimal_upto port_number port_word new_port port_words command_of command_line.command_in command_line.files_in clap_on_literals changes_to with_line with_lines script_of
+a_board_keeps_as_many_megaflows_as_the_words_say_or_8192 = (refl, refl)
 
 -- ---- faults
 

@@ -1,5 +1,6 @@
--- The files that a run writes.
-use Rattle.std.specs.Prelude.{◌≡◌, ℕ, ◌==◌, List, [], ◌∷◌, ◌++◌, map, filter, Ok, codes}
+-- What a run writes: files, and a summary that is printed.
+use Rattle.std.specs.Prelude.{◌≡◌, ℕ, ◌==◌, Bool, true, false, IsTrue, List, [], ◌∷◌, ◌++◌, length, map, filter, Option, Some, None, Ok, codes}
+use Rattle.std.specs.Option.{is_some}
 use Rattle.std.specs.List.{flat_map}
 use Rattle.std.specs.Fmt.{decimal}
 use Rattle.spec_base.specs.Files.{File}
@@ -8,7 +9,13 @@ use Rattle.spec_actions.specs.declared.action.DpAction.{DpAction}
 use Rattle.spec_case.specs.declared.arrival.Arrival.{Arrival}
 use Rattle.spec_case.specs.Run.{Run, frame_at, is_nanos}
 use Rattle.spec_case.specs.Arrivals.{arrivals, in_order}
+use Rattle.spec_board.specs.Scheduled.{scheduled}
 use Rattle.spec_board.specs.Texts.{Journal, journals_text}
+use Rattle.spec_words.specs.Words.{Input, Files as FilesNamed, Made}
+use Rattle.spec_dumps.specs.declared.ran.Ran.{Ran}
+use Rattle.spec_dumps.specs.Rules.{rules_text}
+use Rattle.spec_dumps.specs.Megaflows.{megaflows_text}
+use Rattle.spec_dumps.specs.Summary.{summary}
 use Rattle.spec_exec.specs.Sent.{Piece, sent}
 use Rattle.spec_run.specs.Journals.{AreJournals, actions_for}
 use Rattle.spec_run.specs.Verdict.{Files, Accepted, verdict}
@@ -35,19 +42,59 @@ port_file_name out port = out ++ (codes ".p" ++ (decimal port ++ codes ".pcap"))
 abbrev pub port_file : List ℕ → Run → List Journal → ℕ → File
 port_file out run journals port = (port_file_name out port, file_of (is_nanos run) (frames_out run journals port))
 
--- OUT.journal
+-- OUT.rules, OUT.megaflows and OUT.journal
+abbrev pub rules_file : List ℕ → Run → List Journal → File
+rules_file out run journals = (out ++ codes ".rules", rules_text run journals)
+
+abbrev pub megaflows_file : List ℕ → Run → List Journal → File
+megaflows_file out run journals = (out ++ codes ".megaflows", megaflows_text run journals)
+
 abbrev pub journal_file : List ℕ → List Journal → File
 journal_file out journals = (out ++ codes ".journal", journals_text journals)
 
--- the files of a run by its journals: one for each port, in the order of the words, and the journals themselves
+-- the files of a run by its journals: one for each port, in the order of the words, then its rules, its megaflows and the
+-- journals themselves
 abbrev pub files_of : List ℕ → Run → List Journal → List File
-files_of out run journals = map (port_file out run journals) run.ports ++ journal_file out journals ∷ []
+files_of out run journals =
+    map (port_file out run journals) run.ports
+    ++ rules_file out run journals ∷ megaflows_file out run journals ∷ journal_file out journals ∷ []
 
--- The words and the files are accepted, and after the files written before exactly those of the run were written, by its
--- journals.
-pub record IsDone (words : List (List ℕ)) (files : Files) (before after : List File) : Type 0 where
+-- the begin of the names of what is written, where something is: nothing is where a number makes what is read
+abbrev pub out_of : Input → Option (List ℕ)
+out_of (FilesNamed edits steps out ports) = Some out
+out_of (Made number) = None
+
+abbrev pub output_of : Option (List ℕ) → Run → List Journal → List File
+output_of None run journals = []
+output_of (Some out) run journals = files_of out run journals
+
+-- whether steps are given
+abbrev pub has_steps : Input → Bool
+has_steps (FilesNamed edits steps out ports) = is_some steps
+has_steps (Made number) = false
+
+-- what is told of given steps: how many they are, and how many of them were not met
+abbrev pub ran_of : Bool → Run → Option Ran
+ran_of true run = Some (record { steps = length run.steps; unmet = (scheduled run).unmet })
+ran_of false run = None
+
+-- The words and the files are accepted, and these are journals of the run.
+pub record Decided (words : List (List ℕ)) (files : Files) : Type 0 where
   pub accepted : Accepted
   pub is_verdict : verdict words files ≡ Ok accepted
   pub journals : List Journal
   pub are_journals : AreJournals accepted.command.workers accepted.run journals
-  pub written : after ≡ before ++ files_of accepted.command.out accepted.run journals
+
+-- the files of such a run, and the summary that is printed
+abbrev pub files_by : {words : List (List ℕ)} {files : Files} → Decided words files → List File
+files_by d = output_of (out_of d.accepted.command.input) d.accepted.run d.journals
+
+abbrev pub summary_by : {words : List (List ℕ)} {files : Files} → Decided words files → List ℕ
+summary_by d = summary d.accepted.run d.journals (ran_of (has_steps d.accepted.command.input) d.accepted.run)
+
+-- After the files written before exactly those of the run were written. After what was printed before, where that is told,
+-- exactly its summary was printed.
+pub record IsDone (words : List (List ℕ)) (files : Files) (before after : List File) (tells : Bool) (said said_now : List ℕ) : Type 0 where
+  pub decided : Decided words files
+  pub written : after ≡ before ++ files_by decided
+  pub printed : IsTrue tells → said_now ≡ said ++ summary_by decided

@@ -10,16 +10,22 @@ use Rattle.spec_flow_text.specs.declared.fault.TextFault.{TextFault}
 use Rattle.spec_flow_text.specs.declared.fault.TextFault.TheVariants as text
 use Rattle.spec_script.specs.declared.fault.ScriptFault.{ScriptFault}
 use Rattle.spec_script.specs.declared.fault.ScriptFault.TheVariants as script
+use Rattle.spec_steps.specs.declared.fault.StepsFault.{StepsFault}
+use Rattle.spec_steps.specs.declared.fault.StepsFault.TheVariants as given
 use Rattle.spec_run.specs.declared.quantity.Quantity.{Quantity}
-use Rattle.spec_run.specs.declared.quantity.Quantity.TheVariants.{Line, Edits, Syncs}
+use Rattle.spec_run.specs.declared.quantity.Quantity.TheVariants.{Line, Edits, Syncs, Steps as StepCount}
 use Rattle.spec_run.specs.Limits.{limit_of, quantity_name}
-use Rattle.spec_run.specs.Verdict.{Files, Refusal, NotBuilt, Missing, Text, Trace, Limit, verdict}
+use Rattle.spec_run.specs.Verdict.{Files, Refusal, Usage, NotBuilt, Missing, Text, Steps, Trace, Limit, verdict}
 
 -- all is done
 abbrev pub done_status : ℕ
 done_status = 0
 
--- the file of edits is wrong
+-- the words are none that the program takes
+abbrev pub usage_status : ℕ
+usage_status = 2
+
+-- the file of edits or the steps file is wrong
 abbrev pub text_status : ℕ
 text_status = 3
 
@@ -42,9 +48,13 @@ limit_status = 7
 abbrev pub out_of_memory_status : ℕ
 out_of_memory_status = 8
 
--- an input has a form that isn't built
+-- the words ask for something that isn't built
 abbrev pub not_built_status : ℕ
 not_built_status = 9
+
+-- which words the program takes
+abbrev pub usage_text : List ℕ
+usage_text = line_of (codes "usage: megaswitch [--workers N] [--steps FILE] [--flow-limit N] EDITS OUT PORT=FILE...")
 
 abbrev pub read_fault_text : List ℕ → List ℕ
 read_fault_text name = line_of (codes "read fault: " ++ name)
@@ -106,6 +116,12 @@ script_text name script.TooManyEdits = limit_text Edits
 script_text name script.TooManySyncs = limit_text Syncs
 script_text name script.OutOfMemory = out_of_memory_text
 
+abbrev pub steps_text : List ℕ → StepsFault → List ℕ
+steps_text name (given.Line line why) = place_text name line (column_of why) (line_reason why)
+steps_text name given.LineTooLong = limit_text Line
+steps_text name given.TooManySteps = limit_text StepCount
+steps_text name given.OutOfMemory = out_of_memory_text
+
 abbrev pub trace_text : List ℕ → PcapFault → List ℕ
 trace_text name fault = name ++ line_of (codes ": " ++ reason fault)
 
@@ -113,24 +129,29 @@ trace_text name fault = name ++ line_of (codes ": " ++ reason fault)
 
 -- the status that a refusal ends with; a file that isn't there can't be opened, so that reading fails
 abbrev pub status_of : Refusal → ℕ
+status_of Usage = usage_status
 status_of (NotBuilt what) = not_built_status
 status_of (Missing name) = read_fault_status
 status_of (Text name fault) = text_status
+status_of (Steps name fault) = text_status
 status_of (Trace name fault) = trace_status
 status_of (Limit q) = limit_status
 
 -- the text that is printed with it
 abbrev pub text_of : Refusal → List ℕ
+text_of Usage = usage_text
 text_of (NotBuilt what) = not_built_text what
 text_of (Missing name) = read_fault_text name
 text_of (Text name fault) = script_text name fault
+text_of (Steps name fault) = steps_text name fault
 text_of (Trace name fault) = trace_text name fault
 text_of (Limit q) = limit_text q
 
 -- whether a status tells that the words or the files are refused
 abbrev pub is_refusal : ℕ → Bool
 is_refusal status =
-    (status == text_status) || ((status == trace_status) || ((status == limit_status) || (status == not_built_status)))
+    (status == usage_status)
+    || ((status == text_status) || ((status == trace_status) || ((status == limit_status) || (status == not_built_status))))
 
 -- The verdict is a refusal that ends with this status.
 pub record IsRefused (words : List (List ℕ)) (files : Files) (status : ℕ) : Type 0 where

@@ -1,35 +1,44 @@
--- What becomes of a run before anything is written. The words come first, then the file of edits, then the traces in the
--- order of the words; the first input that is refused decides.
-use Rattle.std.specs.Prelude.{ℕ, ◌-◌, nat_lt, false, if◌then◌else◌, List, [], ◌∷◌, ◌++◌, length, map, Option, Result, Ok, Err, codes}
+-- What becomes of a run before anything is written. The words come first, then the file of edits, then the steps file,
+-- then the traces in the order of the words; the first input that is refused decides.
+use Rattle.std.specs.Prelude.{ℕ, ◌-◌, ◌==◌, nat_lt, false, if◌then◌else◌, List, [], ◌∷◌, ◌++◌, length, map, Option, Some, None, Result, Ok, Err, codes}
 use Rattle.std.specs.Option.{ok_or}
+use Rattle.spec_base.specs.Files.{File, lookup_or_empty}
 use Rattle.spec_pcap.specs.declared.fault.PcapFault.{PcapFault}
 use Rattle.spec_pcap.specs.declared.fault.PcapFault.TheVariants.{TooManyFrames}
 use Rattle.spec_pcap.specs.Pcap.{Capture, capture_of}
+use Rattle.spec_case.specs.declared.run_step.RunStep.{RunStep}
 use Rattle.spec_case.specs.Run.{Run}
-use Rattle.spec_words.specs.Words.{PortWord, Command, command_of, has_trace}
+use Rattle.spec_words.specs.Words.{PortWord, Input, Files as FilesNamed, Made, Command, command_of, has_trace}
 use Rattle.spec_tables.specs.Changes.{changes_to}
 use Rattle.spec_flow_text.specs.declared.fault.TextFault.TheVariants as text
 use Rattle.spec_script.specs.declared.fault.ScriptFault.{ScriptFault}
 use Rattle.spec_script.specs.declared.fault.ScriptFault.TheVariants as script
 use Rattle.spec_script.specs.Script.{Script, script_of}
+use Rattle.spec_steps.specs.declared.fault.StepsFault.{StepsFault}
+use Rattle.spec_steps.specs.declared.fault.StepsFault.TheVariants as given
+use Rattle.spec_steps.specs.Steps as steps_file
+use Rattle.spec_made.specs.Made.{edits_made, trace_made}
 use Rattle.spec_run.specs.declared.quantity.Quantity.{Quantity}
-use Rattle.spec_run.specs.declared.quantity.Quantity.TheVariants.{EditsBytes, Line, Edits, Syncs, Actions, Changes, TraceBytes, Frames}
-use Rattle.spec_run.specs.Limits.{most_edits_bytes, most_changes, most_trace_bytes, most_frames}
+use Rattle.spec_run.specs.declared.quantity.Quantity.TheVariants.{EditsBytes, StepsBytes, Line, Edits, Syncs, Actions, Steps as StepCount, Changes, TraceBytes, Frames}
+use Rattle.spec_run.specs.Limits.{most_edits_bytes, most_steps_bytes, most_changes, most_trace_bytes, most_frames}
 
 -- the bytes of a file by its name, where there is one
 abbrev pub Files : Type 0
 Files = List ℕ → Option (List ℕ)
 
--- Why there is no run: an input, by name, whose form isn't built, a file that isn't there, the file of edits by its name
--- and what is wrong with it, a trace likewise, or a quantity that is above its limit.
+-- Why there is no run: words that the program doesn't take, something by name that they ask for and that isn't built, a
+-- file that isn't there, the file of edits by its name and what is wrong with it, the steps file and a trace likewise, or a
+-- quantity that is above its limit.
 pub data Refusal : Type 0 where
+  Usage : Refusal
   NotBuilt : List ℕ → Refusal
   Missing : List ℕ → Refusal
   Text : List ℕ → ScriptFault → Refusal
+  Steps : List ℕ → StepsFault → Refusal
   Trace : List ℕ → PcapFault → Refusal
   Limit : Quantity → Refusal
 
--- a command, and the run that its files give
+-- a command, and the run that what it reads gives
 pub record Accepted : Type 0 where
   pub command : Command
   pub run : Run
@@ -39,18 +48,52 @@ abbrev pub ◌>>=◌ : {A B : Type 0} → Result A Refusal → (A → Result B R
 Ok a >>= f = f a
 Err e >>= f = Err e
 
--- ---- the words and the edits
+-- ---- the words
 
--- the name under which refused words are told
-abbrev pub words_name : List ℕ
-words_name = codes "words"
+-- workers aren't built
+abbrev pub command_built : Command → Result Command Refusal
+command_built c = if c.workers == 0 then Ok c else Err (NotBuilt (codes "workers"))
 
 unfoldable pub command_in : List (List ℕ) → Result Command Refusal
-command_in words = ok_or (command_of words) (NotBuilt words_name)
+command_in words = ok_or (command_of words) Usage >>= command_built
+
+-- ---- what is read
+
+-- the names of what is read: the file of edits, the steps file where there is one, and the traces of the ports
+pub record Sources : Type 0 where
+  pub edits : List ℕ
+  pub steps : Option (List ℕ)
+  pub ports : List PortWord
+
+-- What a number makes is read as if it were files: one of edits, and a trace for each port, which the port's number names.
+abbrev pub made_trace : ℕ → List ℕ → PortWord
+made_trace port name = record { port = port; file = name }
+
+abbrev pub made_sources : Sources
+made_sources = record {
+  edits = codes "edits";
+  steps = None;
+  ports = made_trace 1 (codes "1") ∷ made_trace 2 (codes "2") ∷ made_trace 3 (codes "3") ∷ made_trace 4 (codes "4") ∷ [];
+}
+
+abbrev pub made_list : ℕ → List File
+made_list number =
+    (made_sources.edits, edits_made number) ∷ map (λ (w : PortWord). (w.file, trace_made number w.port)) made_sources.ports
+
+abbrev pub sources_of : Input → Sources
+sources_of (FilesNamed edits steps out ports) = record { edits = edits; steps = steps; ports = ports }
+sources_of (Made number) = made_sources
+
+-- where it is read
+abbrev pub files_for : Files → Input → Files
+files_for files (FilesNamed edits steps out ports) = files
+files_for files (Made number) = lookup_or_empty (made_list number)
 
 -- the bytes of a file that has to be there
 abbrev pub bytes_in : Files → List ℕ → Result (List ℕ) Refusal
 bytes_in files name = ok_or (files name) (Missing name)
+
+-- ---- the edits
 
 -- a file of edits with this fault is refused
 abbrev pub refused_script : List ℕ → ScriptFault → Refusal
@@ -75,6 +118,28 @@ with_few_changes s = if nat_lt most_changes (changes_to s.edits (length s.edits)
 
 unfoldable pub script_in : Files → List ℕ → Result Script Refusal
 script_in files name = bytes_in files name >>= script_within name >>= with_few_changes
+
+-- ---- the steps
+
+-- a steps file with this fault is refused
+abbrev pub refused_steps : List ℕ → StepsFault → Refusal
+refused_steps name given.LineTooLong = Limit Line
+refused_steps name given.TooManySteps = Limit StepCount
+refused_steps name fault = Steps name fault
+
+abbrev pub steps_or_refusal : List ℕ → Result (List RunStep) StepsFault → Result (List RunStep) Refusal
+steps_or_refusal name (Ok steps) = Ok steps
+steps_or_refusal name (Err fault) = Err (refused_steps name fault)
+
+-- a file of so many bytes at most, for a switch of these ports
+abbrev pub steps_within : List ℕ → List ℕ → List ℕ → Result (List RunStep) Refusal
+steps_within ports name bytes =
+    if nat_lt most_steps_bytes (length bytes) then Err (Limit StepsBytes) else steps_or_refusal name (steps_file.steps_of ports bytes)
+
+-- no step is given where there is no file
+abbrev pub steps_in : Files → List ℕ → Option (List ℕ) → Result (List RunStep) Refusal
+steps_in files ports None = Ok []
+steps_in files ports (Some name) = bytes_in files name >>= steps_within ports name
 
 -- ---- the traces
 
@@ -121,27 +186,32 @@ traces_in files ports = traces_after files [] most_trace_bytes most_frames ports
 
 -- ---- the whole
 
--- how many megaflows a board keeps at most, where the words don't say
-abbrev pub default_flow_limit : ℕ
-default_flow_limit = 8192
+abbrev pub ports_said : List PortWord → List ℕ
+ports_said ports = map (λ (w : PortWord). w.port) ports
 
--- No step is given.
-abbrev pub run_of : Command → Script → List Capture → Run
-run_of command script traces = record {
-  ports = map (λ (w : PortWord). w.port) command.ports;
+abbrev pub run_of : ℕ → Sources → Script → List RunStep → List Capture → Run
+run_of flow_limit sources script steps traces = record {
+  ports = ports_said sources.ports;
   edits = script.edits;
   syncs = script.syncs;
   traces = traces;
-  flow_limit = default_flow_limit;
-  steps = [];
+  flow_limit = flow_limit;
+  steps = steps;
 }
+
+-- the run that files give, where each port has at most so many megaflows
+unfoldable pub run_in : Files → ℕ → Sources → Result Run Refusal
+run_in files flow_limit sources =
+    script_in files sources.edits
+    >>= (λ script. steps_in files (ports_said sources.ports) sources.steps
+    >>= (λ steps. traces_in files sources.ports
+    >>= (λ traces. Ok (run_of flow_limit sources script steps traces))))
 
 unfoldable pub verdict : List (List ℕ) → Files → Result Accepted Refusal
 verdict words files =
     command_in words
-    >>= (λ command. script_in files command.edits
-    >>= (λ script. traces_in files command.ports
-    >>= (λ traces. Ok (record { command = command; run = run_of command script traces }))))
+    >>= (λ command. run_in (files_for files command.input) command.flow_limit (sources_of command.input)
+    >>= (λ run. Ok (record { command = command; run = run })))
 
 -- ---- what is opened
 
@@ -149,6 +219,11 @@ verdict words files =
 abbrev pub if_passed : {A : Type 0} → Result A Refusal → (A → List (List ℕ)) → List (List ℕ)
 if_passed (Ok a) names = names a
 if_passed (Err e) names = []
+
+-- the name of the steps file, where there is one
+abbrev pub steps_names : Option (List ℕ) → List (List ℕ)
+steps_names None = []
+steps_names (Some name) = name ∷ []
 
 -- the name of a port's trace, if it has one
 abbrev pub trace_names : PortWord → List (List ℕ)
@@ -161,7 +236,20 @@ traces_opened files bytes_left frames_left (w ∷ ws) =
     trace_names w
     ++ if_passed (trace_in files bytes_left frames_left w) (λ t. traces_opened files (bytes_left - t.size) (frames_left - length t.capture.frames) ws)
 
+-- the steps file and the traces
+unfoldable pub later_opened : Files → Sources → List (List ℕ)
+later_opened files s =
+    steps_names s.steps
+    ++ if_passed (steps_in files (ports_said s.ports) s.steps) (λ _. traces_opened files most_trace_bytes most_frames s.ports)
+
+unfoldable pub sources_opened : Files → Sources → List (List ℕ)
+sources_opened files s = s.edits ∷ if_passed (script_in files s.edits) (λ _. later_opened files s)
+
+-- nothing is opened where a number makes what is read
+abbrev pub opened_for : Files → Input → List (List ℕ)
+opened_for files (FilesNamed edits steps out ports) = sources_opened files (sources_of (FilesNamed edits steps out ports))
+opened_for files (Made number) = []
+
 -- the files that are opened in reading, each only where none before it is refused
 unfoldable pub files_opened : List (List ℕ) → Files → List (List ℕ)
-files_opened words files =
-    if_passed (command_in words) (λ command. command.edits ∷ if_passed (script_in files command.edits) (λ _. traces_opened files most_trace_bytes most_frames command.ports))
+files_opened words files = if_passed (command_in words) (λ command. opened_for files command.input)

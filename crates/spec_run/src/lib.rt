@@ -4,8 +4,8 @@
 //! - `Verdict`: the first refusal in the order of reading, or the run that the words and the files give.
 //! - `Journals`: the journals of a run: those of its schedule, each of them legal and complete, and each frame decided
 //!   once, as a plain scan of one version of the tables decides it, within its window.
-//! - `Outputs`: the files that a run writes, by name and byte.
-//! - `CutShort`: how far they are written where writing ends early.
+//! - `Outputs`: the files that a run writes, by name and byte, and the summary that it prints.
+//! - `CutShort`: how far they are written and printed where writing ends early.
 //! - `Statuses`: the exit statuses, the texts that go with them, and when a text is printed whole.
 //!
 //! Whoever reads these, the specification crates below them and the contract of `run_switch`, with the traits of

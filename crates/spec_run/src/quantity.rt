@@ -3,7 +3,9 @@
 pub enum Quantity {
     /// The bytes of the file of edits.
     EditsBytes,
-    /// The bytes of a line of the file of edits, without its line feed.
+    /// The bytes of the steps file.
+    StepsBytes,
+    /// The bytes of a line of the file of edits or of the steps file, without its line feed.
     Line,
     /// The edits of the file.
     Edits,
@@ -11,6 +13,8 @@ pub enum Quantity {
     Syncs,
     /// The actions of a flow.
     Actions,
+    /// The steps of the steps file.
+    Steps,
     /// The rules that all edits together add, give actions to and remove.
     Changes,
     /// The bytes of all traces.

@@ -1,65 +1,92 @@
 -- Worked rows: the words of the command line.
-use Rattle.std.specs.Prelude.{◌≡◌, ℕ, List, [], ◌∷◌, ◌++◌, map, Option, Some, None, codes, refl}
+use Rattle.std.specs.Prelude.{◌≡◌, ℕ, List, [], ◌∷◌, ◌++◌, Option, Some, None, true, codes, map, refl}
 use Rattle.std.specs.List.{range_with_len}
 use Rattle.std.specs.Option.{option_map}
 use Rattle.std.specs.Fmt.{digits, decimal}
+use Rattle.clap.specs.Faults.{is_simple_and_free}
+use Rattle.clap.proofs.OnLiterals.{clap_on_literals}
 use Rattle.spec_numbers.specs.Numbers.{digits_upto, decimal_upto}
-use Rattle.spec_words.specs.Words.{PortWord, port_number, port_word, new_port, port_words, command_of}
+use Rattle.spec_words.specs.Words.{Command, Input, Files, Made, PortWord, app, port_number, port_word, new_port, port_words, files_in, command_in, command_of}
+
+-- of this command `clap` says exactly which words it takes, and what they say
+the_command_is_simple : is_simple_and_free app ≡ true
+the_command_is_simple = refl
 
 abbrev word : ℕ → List ℕ → PortWord
 word port file = record { port = port; file = file }
 
-abbrev accepted : List (List ℕ) → List PortWord → Type 0
-accepted ports words = command_of (codes "e" ∷ codes "o" ∷ ports) ≡ Some (record { edits = codes "e"; out = codes "o"; ports = words; workers = 0 })
+abbrev command : ℕ → ℕ → Input → Command
+command workers limit input = record { workers = workers; flow_limit = limit; input = input }
 
-any_port_may_have_a_trace :
-    (accepted (codes "1=a=b" ∷ codes "2=" ∷ []) (word 1 (codes "a=b") ∷ word 2 [] ∷ []))
-    × ((accepted (codes "1=" ∷ codes "2=a" ∷ []) (word 1 [] ∷ word 2 (codes "a") ∷ []))
-    × ((accepted (codes "2=a" ∷ codes "1=b" ∷ []) (word 2 (codes "a") ∷ word 1 (codes "b") ∷ []))
-    × (accepted (codes "1=" ∷ []) (word 1 [] ∷ []))))
-unfolding command_of port_words new_port port_word port_number decimal_upto digits_upto
-any_port_may_have_a_trace = (refl, (refl, (refl, refl)))
+abbrev says : List (List ℕ) → Command → Type 0
+says words said = command_of words ≡ Some said
 
 abbrev refused : List (List ℕ) → Type 0
-refused ports = command_of (codes "e" ∷ codes "o" ∷ ports) ≡ None
+refused words = command_of words ≡ None
 
-no_command :
-    (refused []) × ((refused (codes "1=a" ∷ codes "1=" ∷ [])) × ((refused (codes "0=a" ∷ [])) × ((refused (codes "0x1=a" ∷ []))
-    × ((refused (codes "1" ∷ [])) × (refused (codes "1=a" ∷ codes "--trace" ∷ []))))))
-unfolding command_of port_words new_port port_word port_number decimal_upto digits_upto
-no_command = (refl, (refl, (refl, (refl, (refl, refl)))))
+-- what one port of these names says
+abbrev one_port : Option (List ℕ) → Input
+one_port steps = Files (codes "e") steps (codes "o") (word 1 (codes "a") ∷ [])
 
-no_command_without_names :
-    (command_of (codes "e" ∷ []) ≡ None) × ((command_of ([] ∷ codes "o" ∷ codes "1=a" ∷ []) ≡ None)
-    × (command_of (codes "e" ∷ [] ∷ codes "1=a" ∷ []) ≡ None))
-unfolding command_of port_words new_port port_word port_number decimal_upto digits_upto
-no_command_without_names = (refl, (refl, refl))
+names_and_ports_stand_in_order :
+    (says (codes "e" ∷ codes "o" ∷ codes "1=a=b" ∷ codes "2=" ∷ []) (command 0 8192 (Files (codes "e") None (codes "o") (word 1 (codes "a=b") ∷ word 2 [] ∷ []))))
+    × (says (codes "e" ∷ codes "o" ∷ codes "65279=" ∷ []) (command 0 8192 (Files (codes "e") None (codes "o") (word 65279 [] ∷ []))))
+unfolding command_of command_in files_in port_words new_port port_word port_number decimal_upto digits_upto clap_on_literals
+names_and_ports_stand_in_order = (refl, refl)
 
--- what the words say of the ports, of EDITS and of OUT, where they are accepted
-abbrev ports_of : List (List ℕ) → Option (List PortWord)
-ports_of words = option_map (λ command. command.ports) (command_of words)
+options_stand_anywhere :
+    (says (codes "--workers" ∷ codes "16" ∷ codes "e" ∷ codes "--flow-limit=1" ∷ codes "o" ∷ codes "1=a" ∷ []) (command 16 1 (one_port None)))
+    × (says (codes "e" ∷ codes "o" ∷ codes "1=a" ∷ codes "--steps" ∷ codes "s" ∷ codes "--workers=0" ∷ []) (command 0 8192 (one_port (Some (codes "s")))))
+unfolding command_of command_in files_in port_words new_port port_word port_number decimal_upto digits_upto clap_on_literals
+options_stand_anywhere = (refl, refl)
 
-abbrev edits_of : List (List ℕ) → Option (List ℕ)
-edits_of words = option_map (λ command. command.edits) (command_of words)
+after_two_hyphens_words_are_names :
+    says (codes "--" ∷ codes "--steps" ∷ codes "-o" ∷ codes "1=-a" ∷ []) (command 0 8192 (Files (codes "--steps") None (codes "-o") (word 1 (codes "-a") ∷ [])))
+unfolding command_of command_in files_in port_words new_port port_word port_number decimal_upto digits_upto clap_on_literals
+after_two_hyphens_words_are_names = refl
 
-abbrev out_of : List (List ℕ) → Option (List ℕ)
-out_of words = option_map (λ command. command.out) (command_of words)
+a_number_makes_the_input :
+    (says (codes "--generate" ∷ codes "7" ∷ []) (command 0 8192 (Made 7)))
+    × (says (codes "--flow-limit" ∷ codes "65536" ∷ codes "--generate=4294967295" ∷ codes "--workers" ∷ codes "2" ∷ []) (command 2 65536 (Made 4294967295)))
+unfolding command_of command_in files_in port_words new_port port_word port_number decimal_upto digits_upto clap_on_literals
+a_number_makes_the_input = (refl, refl)
 
-the_first_word_is_edits_and_the_second_is_out :
-    (edits_of (codes "e" ∷ codes "o" ∷ codes "1=a" ∷ []) ≡ Some (codes "e"))
-    × ((out_of (codes "e" ∷ codes "o" ∷ codes "1=a" ∷ []) ≡ Some (codes "o"))
-    × (ports_of (codes "e" ∷ codes "o" ∷ codes "1=a" ∷ []) ≡ Some (word 1 (codes "a") ∷ [])))
-unfolding command_of port_words new_port port_word port_number decimal_upto digits_upto
-the_first_word_is_edits_and_the_second_is_out = (refl, (refl, refl))
+numbers_have_their_ranges :
+    (refused (codes "--workers" ∷ codes "17" ∷ codes "e" ∷ codes "o" ∷ codes "1=" ∷ []))
+    × ((refused (codes "--workers" ∷ codes "02" ∷ codes "e" ∷ codes "o" ∷ codes "1=" ∷ []))
+    × ((refused (codes "--flow-limit" ∷ codes "0" ∷ codes "e" ∷ codes "o" ∷ codes "1=" ∷ []))
+    × ((refused (codes "--flow-limit" ∷ codes "65537" ∷ codes "e" ∷ codes "o" ∷ codes "1=" ∷ []))
+    × ((refused (codes "--generate" ∷ codes "4294967296" ∷ [])) × (refused (codes "--generate=" ∷ []))))))
+unfolding command_of command_in files_in port_words new_port port_word port_number decimal_upto digits_upto clap_on_literals
+numbers_have_their_ranges = (refl, (refl, (refl, (refl, (refl, refl)))))
 
--- words for the ports from 1 on, so many, without traces
-abbrev ports_from_1 : ℕ → List (List ℕ)
-ports_from_1 n = codes "e" ∷ codes "o" ∷ map (λ port. decimal port ++ codes "=") (range_with_len 1 n)
+ports_differ_and_are_from_1_to_65279 :
+    (refused (codes "e" ∷ codes "o" ∷ codes "1=a" ∷ codes "1=" ∷ [])) × ((refused (codes "e" ∷ codes "o" ∷ codes "0=a" ∷ []))
+    × ((refused (codes "e" ∷ codes "o" ∷ codes "65280=a" ∷ [])) × ((refused (codes "e" ∷ codes "o" ∷ codes "01=a" ∷ []))
+    × ((refused (codes "e" ∷ codes "o" ∷ codes "1" ∷ [])) × ((refused (codes "e" ∷ codes "o" ∷ []))
+    × (refused (codes "e" ∷ [])))))))
+unfolding command_of command_in files_in port_words new_port port_word port_number decimal_upto digits_upto clap_on_literals
+ports_differ_and_are_from_1_to_65279 = (refl, (refl, (refl, (refl, (refl, (refl, refl))))))
+
+-- what these ports say, after EDITS and OUT
+abbrev says_ports : List (List ℕ) → List PortWord → Type 0
+says_ports ports words = says (codes "e" ∷ codes "o" ∷ ports) (command 0 8192 (Files (codes "e") None (codes "o") words))
+
+any_port_may_have_a_trace :
+    (says_ports (codes "1=" ∷ codes "2=a" ∷ []) (word 1 [] ∷ word 2 (codes "a") ∷ []))
+    × ((says_ports (codes "2=a" ∷ codes "1=b" ∷ []) (word 2 (codes "a") ∷ word 1 (codes "b") ∷ []))
+    × (says_ports (codes "1=" ∷ []) (word 1 [] ∷ [])))
+unfolding command_of command_in files_in port_words new_port port_word port_number decimal_upto digits_upto clap_on_literals
+any_port_may_have_a_trace = (refl, (refl, refl))
+
+-- the words of so many ports without traces
+abbrev ports_upto : ℕ → List (List ℕ)
+ports_upto n = map (λ port. decimal port ++ codes "=") (range_with_len 1 n)
 
 a_switch_has_at_most_32_ports :
-    (ports_of (ports_from_1 32) ≡ Some (map (λ port. word port []) (range_with_len 1 32)))
-    × (ports_of (ports_from_1 33) ≡ None)
-unfolding command_of port_words new_port port_word port_number decimal_upto digits_upto digits
+    (says_ports (ports_upto 32) (map (λ port. word port []) (range_with_len 1 32)))
+    × (refused (codes "e" ∷ codes "o" ∷ ports_upto 33))
+unfolding command_of command_in files_in digits port_words new_port port_word port_number decimal_upto digits_upto clap_on_literals
 a_switch_has_at_most_32_ports = (refl, refl)
 
 -- a port is a decimal number from 1 to 65279, without zeros before other digits
@@ -67,22 +94,36 @@ abbrev ports_and_what_they_are : List (List ℕ × Option ℕ)
 ports_and_what_they_are =
     (codes "1", Some 1) ∷ (codes "10", Some 10) ∷ (codes "65279", Some 65279) ∷ (codes "65280", None) ∷
     (codes "0", None) ∷ (codes "01", None) ∷ (codes "00", None) ∷ (codes "0010", None) ∷ (codes "", None) ∷
-    (codes "+1", None) ∷ (codes " 1", None) ∷ (codes "1 ", None) ∷ (codes "a", None) ∷ []
-
-abbrev port_in : List ℕ → Option (List PortWord)
-port_in port = ports_of (codes "e" ∷ codes "o" ∷ (port ++ codes "=a") ∷ [])
+    (codes "+1", None) ∷ (codes " 1", None) ∷ (codes "1 ", None) ∷ (codes "a", None) ∷ (codes "0x1", None) ∷ []
 
 a_port_is_a_decimal_number_without_leading_zeros :
-    map (λ row. port_in row.0) ports_and_what_they_are
-    ≡ map (λ row. option_map (λ port. word port (codes "a") ∷ []) row.1) ports_and_what_they_are
-unfolding command_of port_words new_port port_word port_number decimal_upto digits_upto
+    map (λ row. port_word (row.0 ++ codes "=a")) ports_and_what_they_are
+    ≡ map (λ row. option_map (λ port. word port (codes "a")) row.1) ports_and_what_they_are
+unfolding port_word port_number decimal_upto digits_upto
 a_port_is_a_decimal_number_without_leading_zeros = refl
 
--- no option is built, wherever it stands
-no_word_is_an_option :
-    (command_of (codes "-e" ∷ codes "o" ∷ codes "1=a" ∷ []) ≡ None)
-    × ((command_of (codes "e" ∷ codes "-o" ∷ codes "1=a" ∷ []) ≡ None)
-    × ((command_of (codes "e" ∷ codes "o" ∷ codes "-1=a" ∷ []) ≡ None)
-    × (command_of (codes "e" ∷ codes "o" ∷ codes "1=a" ∷ codes "-2=a" ∷ []) ≡ None)))
-unfolding command_of port_words new_port port_word port_number decimal_upto digits_upto
-no_word_is_an_option = (refl, (refl, (refl, refl)))
+names_are_not_empty :
+    (refused ([] ∷ codes "o" ∷ codes "1=" ∷ [])) × ((refused (codes "e" ∷ [] ∷ codes "1=" ∷ []))
+    × (refused (codes "--steps=" ∷ codes "e" ∷ codes "o" ∷ codes "1=" ∷ [])))
+unfolding command_of command_in files_in port_words new_port port_word port_number decimal_upto digits_upto clap_on_literals
+names_are_not_empty = (refl, (refl, refl))
+
+-- a word that begins with a hyphen is no name and no port
+a_hyphen_begins_an_option :
+    (refused (codes "-e" ∷ codes "o" ∷ codes "1=a" ∷ [])) × ((refused (codes "e" ∷ codes "-o" ∷ codes "1=a" ∷ []))
+    × ((refused (codes "e" ∷ codes "o" ∷ codes "-1=a" ∷ [])) × (refused (codes "e" ∷ codes "o" ∷ codes "1=a" ∷ codes "-2=a" ∷ []))))
+unfolding command_of command_in files_in port_words new_port port_word port_number decimal_upto digits_upto clap_on_literals
+a_hyphen_begins_an_option = (refl, (refl, (refl, refl)))
+
+what_cannot_stand_together :
+    (refused (codes "--workers=1" ∷ codes "--steps=s" ∷ codes "e" ∷ codes "o" ∷ codes "1=" ∷ []))
+    × ((refused (codes "--generate=7" ∷ codes "e" ∷ [])) × ((refused (codes "--generate=7" ∷ codes "--steps=s" ∷ []))
+    × (refused (codes "--workers=1" ∷ codes "--workers=1" ∷ codes "e" ∷ codes "o" ∷ codes "1=" ∷ []))))
+unfolding command_of command_in files_in port_words new_port port_word port_number decimal_upto digits_upto clap_on_literals
+what_cannot_stand_together = (refl, (refl, (refl, refl)))
+
+unknown_options_and_requests_for_help_are_refused :
+    (refused (codes "--trace" ∷ codes "e" ∷ codes "o" ∷ codes "1=" ∷ [])) × ((refused (codes "--help" ∷ [])) × ((refused (codes "-h" ∷ []))
+    × ((refused (codes "--steps" ∷ [])) × (refused []))))
+unfolding command_of command_in files_in port_words new_port port_word port_number decimal_upto digits_upto clap_on_literals
+unknown_options_and_requests_for_help_are_refused = (refl, (refl, (refl, (refl, refl))))

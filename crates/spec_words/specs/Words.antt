@@ -1,25 +1,107 @@
--- The words of the command line: EDITS, OUT and then ports, at least one, each with the trace that comes in there or
--- with none.
-use Rattle.std.specs.Prelude.{ℕ, ◌==◌, nat_le, nat_eq, Bool, not, ◌&&◌, if◌then◌else◌, List, [], ◌∷◌, ◌++◌, length, Option, Some, None}
-use Rattle.std.specs.List.{starts_with, list_any, list_all}
-use Rattle.std.specs.Option.{option_map}
-use Rattle.spec_numbers.specs.Characters.{equals_sign, hyphen}
+-- The words of the command line:
+--
+--     [--workers N] [--steps FILE] [--flow-limit N] EDITS OUT PORT=FILE PORT=..
+--     --generate N [--workers N] [--flow-limit N]
+--
+-- Which word is an option, which its value and which a positional is what `clap` has of this command, in which each
+-- argument may be left out and no one has to do with another. What may stand together, and numbers, are tested after it.
+use Rattle.std.specs.Prelude.{ℕ, ◌==◌, nat_le, Bool, true, not, ◌&&◌, ◌||◌, if◌then◌else◌, List, [], ◌∷◌, ◌++◌, length, Option, Some, None, unwrap_or, codes}
+use Rattle.std.specs.List.{list_any}
+use Rattle.std.specs.Option.{option_map, option_map_or, is_none}
+use Rattle.clap.specs.Words.{App, Row, Rule, new_app, new_rule, with_rule, matches_of, first_of, all_of, fault_of, Kinds}
+use Rattle.clap.specs.Simple.{on_top}
+use Rattle.clap.specs.declared.builder.action.ArgAction.TheVariants.{Append}
+use Rattle.spec_numbers.specs.Characters.{equals_sign}
 use Rattle.spec_numbers.specs.Numbers.{◌>>=◌, split_once, decimal_upto, last_port, nonzero}
+
+-- ---- the command
+
+-- an option `--NAME VALUE` or `--NAME=VALUE`
+abbrev pub option : List ℕ → Rule
+option name = record (new_rule name) { long = Some name }
+
+abbrev pub positional : List ℕ → Rule
+positional name = new_rule name
+
+-- the last positional, which may stand several times
+abbrev pub several : List ℕ → Rule
+several name = record (new_rule name) { action = Some Append }
+
+-- the words are those after the program's name, and none asks for help
+abbrev pub plain_app : App
+plain_app = on_top (λ s. record s { no_binary_name = true; disable_help_flag = true }) (new_app (codes "megaswitch"))
+
+abbrev pub app : App
+app =
+    with_rule (with_rule (with_rule (with_rule (with_rule (with_rule (with_rule plain_app
+    (option (codes "workers"))) (option (codes "steps"))) (option (codes "flow-limit"))) (option (codes "generate")))
+    (positional (codes "EDITS"))) (positional (codes "OUT"))) (several (codes "TRACE"))
+
+-- ---- what is said
 
 -- `PORT=FILE`: a port, and the name of its trace, which is empty where it has none
 pub record PortWord : Type 0 where
   pub port : ℕ
   pub file : List ℕ
 
--- How many workers carry the run out: none where it is carried out without threads, as every command has it so far.
-pub record Command : Type 0 where
-  pub edits : List ℕ
-  pub out : List ℕ
-  pub ports : List PortWord
-  pub workers : ℕ
-
 abbrev pub has_trace : PortWord → Bool
 has_trace w = not (length w.file == 0)
+
+-- what is run: files, with a steps file where there is one; or what a number makes
+pub data Input : Type 0 where
+  Files : List ℕ → Option (List ℕ) → List ℕ → List PortWord → Input
+  Made : ℕ → Input
+
+-- how many workers there are, the most megaflows of a port, and what is run
+pub record Command : Type 0 where
+  pub workers : ℕ
+  pub flow_limit : ℕ
+  pub input : Input
+
+-- ---- limits
+
+abbrev pub most_workers : ℕ
+most_workers = 16
+
+abbrev pub most_flows : ℕ
+most_flows = 65536
+
+abbrev pub default_flow_limit : ℕ
+default_flow_limit = 8192
+
+-- the greatest number that makes an input
+abbrev pub most_made : ℕ
+most_made = 4294967295
+
+abbrev pub most_ports : ℕ
+most_ports = 32
+
+-- ---- numbers and names
+
+-- the number of an option, where it stands and is one up to the most: decimal digits without leading zeros
+abbrev pub number_of : ℕ → List ℕ → List Row → Option (Option ℕ)
+number_of most name rows =
+    option_map_or (λ text. option_map (λ n. Some n) (decimal_upto most text)) (first_of name rows) (Some None)
+
+abbrev pub workers_of : List Row → Option ℕ
+workers_of rows = option_map (λ n. unwrap_or n 0) (number_of most_workers (codes "workers") rows)
+
+-- the flow limit is at least 1
+abbrev pub flow_limit_of : List Row → Option ℕ
+flow_limit_of rows = number_of most_flows (codes "flow-limit") rows >>= (λ n. nonzero (unwrap_or n default_flow_limit))
+
+-- a name that isn't empty
+abbrev pub name_in : List ℕ → Option (List ℕ)
+name_in text = if length text == 0 then None else Some text
+
+abbrev pub name_of : List ℕ → List Row → Option (List ℕ)
+name_of id rows = first_of id rows >>= name_in
+
+-- the name of the steps file, where there is one
+abbrev pub steps_of : List Row → Option (Option (List ℕ))
+steps_of rows = option_map_or (λ text. option_map (λ name. Some name) (name_in text)) (first_of (codes "steps") rows) (Some None)
+
+-- ---- ports
 
 -- the number of a port in the words: decimal digits, from 1 to the last port
 unfoldable pub port_number : List ℕ → Option ℕ
@@ -45,25 +127,56 @@ unfoldable pub port_words : List PortWord → List (List ℕ) → Option (List P
 port_words before [] = Some before
 port_words before (word ∷ words) = new_port before word >>= (λ w. port_words (before ++ w ∷ []) words)
 
--- the most ports of a switch
-abbrev pub most_ports : ℕ
-most_ports = 32
+-- one port and more, and not too many
+abbrev pub ports_of : List Row → Option (List PortWord)
+ports_of rows =
+    all_of (codes "TRACE") rows
+    >>= (λ words. if nat_le 1 (length words) && nat_le (length words) most_ports then port_words [] words else None)
 
--- whether a word is no option
-abbrev pub is_plain : List ℕ → Bool
-is_plain word = not (starts_with nat_eq word (hyphen ∷ []))
+-- ---- commands
 
--- whether EDITS and OUT are names, no word is an option, and there is a port and not too many
-abbrev pub is_well_formed : List ℕ → List ℕ → List (List ℕ) → Bool
-is_well_formed edits out ports =
-    not (length edits == 0) && not (length out == 0) && is_plain edits && is_plain out && list_all is_plain ports
-    && not (length ports == 0) && nat_le (length ports) most_ports
+-- the name of the steps file, where there is one; there is none where there are workers
+abbrev pub may_have_steps : ℕ → Option (List ℕ) → Bool
+may_have_steps workers steps = is_none steps || (workers == 0)
 
-abbrev pub command_with : List ℕ → List ℕ → List PortWord → Command
-command_with edits out ports = record { edits = edits; out = out; ports = ports; workers = 0 }
+abbrev pub given_steps : ℕ → List Row → Option (Option (List ℕ))
+given_steps workers rows = steps_of rows >>= (λ steps. if may_have_steps workers steps then Some steps else None)
+
+unfoldable pub files_in : ℕ → List Row → Option Input
+files_in workers rows = do
+  edits ← name_of (codes "EDITS") rows
+  out ← name_of (codes "OUT") rows
+  steps ← given_steps workers rows
+  ports ← ports_of rows
+  Some (Files edits steps out ports)
+
+-- nothing else says what is run
+abbrev pub is_alone : List Row → Bool
+is_alone rows =
+    is_none (first_of (codes "EDITS") rows) && is_none (first_of (codes "OUT") rows) && is_none (all_of (codes "TRACE") rows)
+    && is_none (first_of (codes "steps") rows)
+
+abbrev pub made_in : List Row → ℕ → Option Input
+made_in rows number = if is_alone rows then Some (Made number) else None
+
+abbrev pub input_by : ℕ → List Row → Option ℕ → Option Input
+input_by workers rows None = files_in workers rows
+input_by workers rows (Some number) = made_in rows number
+
+-- what the matches of the command say
+unfoldable pub command_in : List Row → Option Command
+command_in rows = do
+  workers ← workers_of rows
+  limit ← flow_limit_of rows
+  number ← number_of most_made (codes "generate") rows
+  input ← input_by workers rows number
+  Some (record { workers = workers; flow_limit = limit; input = input })
+
+-- where `clap` finds no fault
+abbrev pub where_whole : Kinds → Option Command → Option Command
+where_whole [] said = said
+where_whole (k ∷ ks) said = None
 
 -- what the words of the command line say
 unfoldable pub command_of : List (List ℕ) → Option Command
-command_of [] = None
-command_of (edits ∷ []) = None
-command_of (edits ∷ out ∷ words) = if is_well_formed edits out words then option_map (command_with edits out) (port_words [] words) else None
+command_of words = where_whole (fault_of app words) (command_in (matches_of app words))

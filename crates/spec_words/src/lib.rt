@@ -1,2 +1,4 @@
-//! The words of the command line, and what they spell. A word is its bytes. `Words` says which form is built so far.
+//! The words of the command line, and what they ask for. A word is its bytes.
+//!
+//! - `Words`: the command, as `clap` knows commands, and what its matches say.
 #![tactic(auto)]

@@ -1,12 +1,10 @@
 //! Blocks: the boards of a run are carried through them.
-ghost use Rattle.std.specs.Prelude.{◌≡◌, ℕ, ◌+◌, ◌≤◌, ◌<◌, [], All, IsTrue, OnOk, IfOk};
-ghost use Rattle.std.specs.List.{list_all};
+ghost use Rattle.std.specs.Prelude.{◌≡◌, ℕ, ◌+◌, ◌≤◌, ◌<◌, All, OnOk, IfOk};
 ghost use Rattle.spec_case.specs.Run.{last_version};
 ghost use Rattle.spec_case.specs.Blocks.{AreInOrder, hi, last_block, last_place};
 ghost use Rattle.spec_board.specs.Schedules as schedules;
 ghost use Rattle.pmd_board.specs.BoardView.{state_of};
-ghost use Rattle.spec_tables.specs.Edits.{has_sound_actions};
-ghost use Rattle.spec_run.specs.Journals.{AreJournals, IsByLastVersion};
+ghost use Rattle.spec_run.specs.Journals.{IsByLastVersion};
 ghost use Rattle.step_runner.specs.Progress.{IsPast, IsSameBoard, IsSwept, OnlyPlans};
 ghost use Rattle.step_runner.specs.Scheduled.{under_way, schedule_of, block_to_finish, HasDone, AreOnlyPlanned, IsNew, TookTurn, TookTurns};
 ghost use Rattle.step_runner.specs.Finished.{AreFinished, journals_in};
@@ -192,28 +190,6 @@ pub fn finish<C: Case>(
         All (IsNew C.run.flow_limit) boards → All (IsByLastVersion C.run) done) }
 {
     let left = finish_blocks(alloc, run, edits, boards, tables)?;
-    recall_laws(left.as_slice());
-    let done = Finished::new(alloc, run, left)?;
-    Ok(done)
-}
-
-/// Carries new boards of a run that no steps are given of to the end. The journals are those of the run's schedule.
-///
-/// It takes memory for the boards, the tables and the arrivals of all frames; there may be none.
-pub fn finish_from_new<C: Case>(
-    alloc: Global,
-    run: &RunData<C>,
-    edits: &RunEdits<C>,
-    flow_limit: u32,
-) -> Result<Finished<C>, AllocError>
-    requires sound { IsTrue (list_all has_sound_actions C.run.edits) }
-    requires limit { flow_limit ≡ C.run.flow_limit }
-    requires steps { C.run.steps ≡ [] }
-    ensures { IfOk result (AreJournals 0 C.run) }
-{
-    let boards = Boards::new(alloc, run, flow_limit)?;
-    let mut tables = Tables::new(alloc);
-    let left = finish_blocks(alloc, run, edits, boards, &mut tables)?;
     recall_laws(left.as_slice());
     let done = Finished::new(alloc, run, left)?;
     Ok(done)

@@ -11,8 +11,8 @@
 //! - `Boards` is a list with one board for each port of the run, in the order of the words, each with the run's flow
 //!   limit. It is made anew, or of a list that is tested.
 //! - `finish_block` and `finish` take the steps of the schedule that `spec_board` defines, from the boards and the
-//!   version at which they find them. `finish_from_new` gives the journals of the run's whole schedule, in which each
-//!   frame was decided under the last version of its block.
+//!   version at which they find them. Where they find new boards, each frame is decided under the last version of its
+//!   block.
 //! - `Finished` is seen as its journals, and they are whole (`spec_run`): there is one for each port, each is legal and
 //!   complete, each frame is decided once and within its window, and each rule is credited with or owed what it is due.
 //!   It lends the boards, the arrivals in their order, and each arrived frame with the actions that were decided for
@@ -38,7 +38,7 @@
 //!
 //! # What is left to others
 //!
-//! Given schedules of steps, and the threads of workers: neither is built yet. What is written of finished boards,
+//! Given steps (`given_steps`), and the threads of workers, which aren't built yet. What is written of finished boards,
 //! `egress_capture` and `flow_dump` write; what datapath actions make of a frame is `action_exec`'s.
 #![tactic(auto)]
 
@@ -55,4 +55,4 @@ pub use boards::Boards;
 pub use closing::close_phase;
 pub use decided_frame::DecidedFrame;
 pub use finished::Finished;
-pub use finishing::{finish, finish_block, finish_from_new};
+pub use finishing::{finish, finish_block};

@@ -1,4 +1,3 @@
 pub mod Journals
 pub mod Leaving
-pub mod Opened
-pub mod Texts
+pub mod Ending

@@ -1,54 +1,86 @@
--- What a call makes of a run.
-use Rattle.std.specs.Prelude.{◌≡◌, ℕ, ◌⊎◌, List, ◌++◌, Err, string_bytes}
-use Rattle.spec_base.specs.Files.{File}
+-- What stands where a run was refused, before the refusal is told.
+use Rattle.std.specs.Prelude.{◌≡◌, ℕ, ◌⊎◌, Bool, true, false, List, Option, Some, None, Err, IsTrue, string_bytes}
 use Rattle.spec_case.specs.Run.{Run}
 use Rattle.spec_board.specs.Texts.{Journal}
-use Rattle.spec_run.specs.Verdict.{verdict}
+use Rattle.spec_dumps.specs.declared.ran.Ran.{Ran}
+use Rattle.spec_run.specs.Verdict.{files_opened, verdict}
 use Rattle.spec_run.specs.Journals.{AreJournals}
-use Rattle.spec_run.specs.Outputs.{files_of}
-use Rattle.spec_run.specs.CutShort.{IsCutRun, IsPartOfRun}
-use Rattle.edge_io.specs.declared.outside.InUse.{InUse}
-use Rattle.edge_io.specs.Counts.{Counts}
-use Rattle.edge_io.specs.Shelf.{Told}
-use Rattle.edge_io.specs.ReadAll.{OnlyRead}
+use Rattle.spec_run.specs.CutShort.{IsCutRun, IsPartOfRun, IsCutSummary}
+use Rattle.edge_io.specs.declared.outside.Failed.{Failed}
+use Rattle.edge_io.specs.declared.outside.InUse.TheVariants.{Nothing}
+use Rattle.edge_io.specs.declared.outside.Shelf as shelf
+use Rattle.edge_io.specs.declared.outside.Sink as sink
+use Rattle.edge_io.specs.Counts.{HasCause, with_fault}
 use Rattle.edge_io.specs.Opened.{HasOpened}
+use Rattle.edge_io.specs.ReadAll.{OnlyRead}
 use Rattle.edge_io.specs.Written.{written}
-use Rattle.switch_refusals.specs.declared.refusal.InputRefusal.TheVariants as input
-use Rattle.switch_refusals.specs.Refused as reading
+use Rattle.switch_refusals.specs.declared.refusal.InputRefusal.{InputRefusal}
+use Rattle.switch_refusals.specs.Refused.{Explains, IfReadFault, HasReadCause, HasOpenedUntil}
 use Rattle.switch_output.specs.declared.refusal.WriteRefusal.{WriteRefusal}
 use Rattle.switch_output.specs.declared.refusal.WriteRefusal.TheVariants.{WriteFault, OutOfMemory}
+use Rattle.switch_output.specs.declared.refusal.OutputRefusal.TheVariants.{Files, Summary}
+use Rattle.switch_output.specs.Refused.{HasWriteCause}
 use Rattle.switch_app.specs.declared.refusal.Refusal.{Refusal}
-use Rattle.switch_app.specs.declared.refusal.Refusal.TheVariants.{Reading, Writing}
-use Rattle.switch_output.specs.Refused as writing
-use Rattle.switch_output.specs.Refused.{IsCutIn}
+use Rattle.switch_app.specs.declared.refusal.Refusal.TheVariants.{Reading, Output}
 
--- After the files before, exactly those of the run were written, by its journals.
-pub record Writes (workers : ℕ) (run : Run) (out : List ℕ) (before after : List File) : Type 0 where
+-- what is told of a run of given steps, where there are some
+abbrev pub told_if : Bool → Ran → Option Ran
+told_if true ran = Some ran
+told_if false ran = None
+
+-- This holds of journals of the run.
+pub record ByJournals (workers : ℕ) (run : Run) (P : List Journal → Type 0) : Type 0 where
   pub journals : List Journal
   pub are_journals : AreJournals workers run journals
-  pub made : after ≡ before ++ files_of out run journals
+  pub holds : P journals
 
--- The files of the run, by its journals, were cut short at one of them.
-pub record StopsIn (workers : ℕ) (run : Run) (out : List ℕ) (before now : List File) (r : WriteRefusal) : Type 0 where
-  pub journals : List Journal
-  pub are_journals : AreJournals workers run journals
-  pub cut : IsCutIn (files_of out run journals) before now r
+module _ {S K : Type 0} (g : shelf.Ghosts S) (h : sink.Ghosts K) (old new : S) (said saying : K) where
+  -- Nothing was done.
+  pub record IsUntouched : Type 0 where
+    pub told : IsTrue g.tells → g.told new ≡ g.told old
+    pub counts : g.counts new ≡ g.counts old
+    pub unsaid : saying ≡ said
 
--- What stands after a refusal, and why it came.
-abbrev pub Leaves : List (List ℕ) → Told → Told → InUse → Refusal → Type 0
-Leaves words before now in_use (Reading (input.Input fault)) = (verdict words before.holds ≡ Err (reading.fault_view fault)) × OnlyRead before now
-Leaves words before now in_use (Reading (input.ReadFault name)) = (now.last ≡ name.now) × OnlyRead before now
-Leaves words before now in_use (Reading input.OutOfMemory) = OnlyRead before now
-Leaves words before now in_use (Writing (WriteFault name)) =
-    IsCutRun words before.holds before.done (written in_use now) now.last × (now.last ≡ string_bytes name)
-Leaves words before now in_use (Writing OutOfMemory) = OnlyRead before now ⊎ IsPartOfRun words before.holds before.done (written in_use now)
+module _ {S K : Type 0} (g : shelf.Ghosts S) (h : sink.Ghosts K) (words : List (List ℕ)) (old new : S) (said saying : K) where
+  -- The words and the files were not read, and nothing was written or printed.
+  pub record LeavesUnread (r : InputRefusal) : Type 0 where
+    pub verdict : IsTrue g.tells → Explains (verdict words (g.told old).holds) r
+    pub named : IsTrue g.tells → IfReadFault r (λ name. (g.told new).last ≡ name)
+    pub unwritten : IsTrue g.tells → OnlyRead (g.told old) (g.told new)
+    pub opened : IsTrue g.tells → HasOpenedUntil (g.told old) (g.told new) (files_opened words (g.told old).holds) r
+    pub cause : HasReadCause (g.counts old) (g.counts new) r
+    pub unsaid : saying ≡ said
 
--- Of the files that are opened in reading all were, but where reading failed.
-abbrev pub HasOpenedUntil : Told → Told → List (List ℕ) → Refusal → Type 0
-HasOpenedUntil before now names (Reading r) = reading.HasOpenedUntil before now names r
-HasOpenedUntil before now names (Writing r) = HasOpened before now names
+  -- The files that are opened in reading were opened.
+  abbrev pub HasRead : Type 0
+  HasRead = IsTrue g.tells → HasOpened (g.told old) (g.told new) (files_opened words (g.told old).holds)
 
--- Only a fault changes the counts of the shelf.
-abbrev pub HasRunCause : Counts → Counts → Refusal → Type 0
-HasRunCause before now (Reading r) = reading.HasReadCause before now r
-HasRunCause before now (Writing r) = writing.HasWriteCause before now r
+  -- how far the files of the run were written
+  abbrev pub IsWritten : WriteRefusal → Type 0
+  IsWritten (WriteFault name) =
+      IsCutRun words (g.told old).holds (g.told old).done (written (g.in_use new) (g.told new)) (g.told new).last
+      × ((g.told new).last ≡ string_bytes name)
+  IsWritten OutOfMemory =
+      OnlyRead (g.told old) (g.told new)
+      ⊎ IsPartOfRun words (g.told old).holds (g.told old).done (written (g.in_use new) (g.told new))
+
+  -- The files were not written whole, and nothing was printed.
+  pub record LeavesUnwritten (r : WriteRefusal) : Type 0 where
+    pub run : IsTrue g.tells → IsWritten r
+    pub opened : HasRead
+    pub cause : HasWriteCause (g.counts old) (g.counts new) r
+    pub unsaid : saying ≡ said
+
+  -- They were, and the summary was not printed whole.
+  pub record LeavesUnsaid (f : Failed) : Type 0 where
+    pub run : IsTrue g.tells
+        → IsCutSummary words (g.told old).holds (g.told old).done (g.told new).done h.tells (h.written said) (h.written saying)
+    pub opened : HasRead
+    pub no_file : g.in_use new ≡ Nothing
+    pub counts : g.counts new ≡ g.counts old
+    pub cause : HasCause {T = Unit {0}} with_fault (h.faults said) (h.faults saying) (Err f)
+
+  abbrev pub Leaves : Refusal → Type 0
+  Leaves (Reading r) = LeavesUnread r
+  Leaves (Output (Files r)) = LeavesUnwritten r
+  Leaves (Output (Summary f)) = LeavesUnsaid f

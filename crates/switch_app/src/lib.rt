@@ -1,55 +1,58 @@
 //! The switch over traces: what the program does, as one call.
 //!
-//! `run_switch` reads a file of edits and the traces of its ports, decides every frame, and writes a capture file for
-//! each port and a journal of what was done. The outside is a *shelf* of files and a *sink* for text, which the caller
-//! hands in: real ones in the program, and in tests ones in memory that fail when they are told to.
+//! `run_switch` reads a file of edits, perhaps a steps file, and the traces of its ports, decides every frame, writes a
+//! capture file for each port and dumps of what stands then, and prints a summary. The outside is a *shelf* of files and
+//! a *sink* for text, which the caller hands in: real ones in the program, and in tests ones in memory that fail when they
+//! are told to.
 //!
 //! # What is promised
 //!
-//! The contract of `run_switch` says it by status, in the words of the specification crates, chiefly `spec_run`. What
-//! is said of names and bytes holds where the shelf, or the sink, tells them.
+//! The contract of `run_switch` is one definition, `Ends` (specs/Ends.antt): the ways to end, by the status, and what
+//! holds with each, in the words of the specification crates, chiefly `spec_run`. What is said of names and bytes holds
+//! where the shelf, or the sink, tells them.
 //!
 //! - Where all is done, the verdict accepts the words and the files, and the files written are exactly those of the
-//!   run: one for each port, in the order of the words, and after them the one of the journals.
-//! - The journals are those of the run's schedule, one for each port, and each is legal and complete: each step is one
-//!   that may be taken where it stands and has the result that it has there, exactly one of them decides each frame of
-//!   the port's trace, and at the end a sweep of the last version is completed.
+//!   run: one for each port, in the order of the words, and after them its rules, its megaflows and its journals. Exactly
+//!   its summary is printed. Where a number makes what is read, the summary is all.
+//! - The journals are those of the run's schedule, one for each port: the given steps that are met, and then what is left.
+//!   Each is legal and complete: each step is one that may be taken where it stands and has the result that it has there,
+//!   exactly one of them decides each frame of the port's trace, and at the end a sweep of the last version is completed.
 //! - A frame is decided as a plain priority scan of one version of the tables decides it. That version is in the
 //!   frame's *window*: it is of the frame's block, which lies between two sync points, it is no older than the last
 //!   sweep completed before, and no newer than the newest version that the board had carried.
 //! - The bytes of a port's file are those of the frames that these decisions send there, in the order of time, ingress
 //!   port and place.
 //! - Every other status has its cause. An input is refused as the verdict refuses it. A fault in reading is told only
-//!   where calls of reading failed, and one in writing only where exactly one call of writing did; with every other
-//!   status the counts of the shelf stand. So no fault is passed over, and none is told where no call failed. That
-//!   memory ran out is no part of the proof.
-//! - Files are opened only to read the edits and then the traces, each once, and only where none before it is refused.
+//!   where calls of reading failed, and one in writing only where exactly one call of writing, or of printing the summary,
+//!   did; with every other status the counts of the shelf stand. So no fault is passed over, and none is told where no
+//!   call failed. That memory ran out is no part of the proof.
+//! - Files are opened only to read the edits, the steps and then the traces, each once, and only where none before it is
+//!   refused.
 //! - Nothing is written before the run is accepted. Where writing fails or memory runs out, the files before are whole,
 //!   one has a prefix of its bytes, and none after it is written.
 //! - The text of the status is printed, and nothing else: all of it where the sink needs no memory and didn't fail, and
-//!   else a prefix.
+//!   else a prefix. Nothing is printed after a fault in printing the summary.
 //! - A run that is accepted and meets no fault is done, unless memory runs out.
 //!
 //! # How
 //!
-//! Reading comes first and whole (`switch_input`). What was read is one run, and `decide_and_write` has it as its type
+//! Reading comes first and whole (`switch_input`). What was read is one run, and `decide_and_tell` has it as its type
 //! parameter: every board, and every fact of a board, speaks of it.
 //!
-//! Each port's board is run to its end, which decides every frame; it keeps 8,192 megaflows at most. The tables
-//! follow the edits meanwhile (`step_runner`). Only then files are written (`switch_output`), of boards whose type
-//! says that they are finished. So what takes memory by the size of the run is taken before the first file, but for 4
-//! bytes a frame: between files there is but a name, and a line of the journal. Why a run was refused is told without
-//! memory (`switch_refusals`).
+//! Each port's board takes the given steps and is then run to its end, which decides every frame; it keeps as many
+//! megaflows at most as the words say. The tables follow the edits meanwhile (`given_steps`, `step_runner`). Only then
+//! files are written and the summary is printed (`switch_output`), of boards whose type says that they are finished. Why
+//! a run was refused is told without memory (`switch_refusals`).
 //!
 //! `run_switch` is handed a runtime and a gate for workers, which aren't built yet, and a call that may wait need not
 //! return. So all that a run does without workers, which every run is so far, is a call of its own without a runtime
-//! (`run_alone`), with every clause of `run_switch`, and that it returns is a part of its proof.
+//! (`run_alone`), with the same clause, and that it returns is a part of its proof.
 //!
 //! # What is left to others
 //!
 //! Words, files and the rules of the edits to `switch_input`, the edits under the run's name to `run_edits`, the run
-//! and its blocks to `run_case`, boards to `step_runner`, the files to `switch_output`, texts and statuses to
-//! `switch_refusals`, and all that touches the system to `edge_io`.
+//! and its blocks to `run_case`, boards to `given_steps` and `step_runner`, what is written to `switch_output`, texts and
+//! statuses to `switch_refusals`, and all that touches the system to `edge_io`.
 #![tactic(auto)]
 
 mod refusal;

@@ -1,16 +1,16 @@
 ghost use Rattle.std.specs.Prelude.{◌≡◌};
-ghost use Rattle.switch_app.specs.declared.refusal.Refusal.TheVariants.{Reading, Writing};
+ghost use Rattle.switch_app.specs.declared.refusal.Refusal.TheVariants.{Reading, Output};
 
 use switch_input::InputRefusal;
-use switch_output::WriteRefusal;
+use switch_output::OutputRefusal;
 
 /// Why a run was refused.
 #[derive(Debug, Drop)]
 pub enum Refusal<'a> {
     /// The words and the files were not read.
     Reading(InputRefusal<'a>),
-    /// They were, and the files of the run were not written.
-    Writing(WriteRefusal),
+    /// They were, and what became of the run was not told whole.
+    Output(OutputRefusal),
 }
 
 impl<'a> From<InputRefusal<'a>> for Refusal<'a> {
@@ -21,10 +21,10 @@ impl<'a> From<InputRefusal<'a>> for Refusal<'a> {
     }
 }
 
-impl From<WriteRefusal> for Refusal<'_> {
-    ghost from_gives = { λ r e. e ≡ Writing r };
+impl From<OutputRefusal> for Refusal<'_> {
+    ghost from_gives = { λ r e. e ≡ Output r };
 
-    fn from(refusal: WriteRefusal) -> Self {
-        Refusal::Writing(refusal)
+    fn from(refusal: OutputRefusal) -> Self {
+        Refusal::Output(refusal)
     }
 }

@@ -1,91 +1,108 @@
 ghost use Rattle.std.specs.Prelude.{◌≡◌, ◌⊎◌, IsTrue, IsOk, OnOk, IfErr};
 ghost use Rattle.spec_base.specs.Counts.{Rose};
-ghost use Rattle.spec_run.specs.Verdict.{verdict, files_opened};
-ghost use Rattle.spec_run.specs.Outputs.{IsDone};
-ghost use Rattle.spec_run.specs.CutShort.{IsCutRun, IsPartOfRun};
-ghost use Rattle.spec_run.specs.Statuses.{done_status, read_fault_status, write_fault_status, out_of_memory_status, status_of as refusal_status, is_refusal, IsRefused, Prints, PrintsRefusal, read_fault_text, write_fault_text, out_of_memory_text};
+ghost use Rattle.spec_dumps.specs.Summary.{summary};
+ghost use Rattle.spec_run.specs.Verdict.{verdict};
+ghost use Rattle.spec_run.specs.Outputs.{out_of, output_of, has_steps, ran_of};
+ghost use Rattle.spec_run.specs.Statuses.{done_status, read_fault_status, out_of_memory_status, status_of as refusal_status};
 ghost use Rattle.edge_io.specs.declared.outside.InUse.TheVariants.{Nothing};
-ghost use Rattle.edge_io.specs.Counts.{ReadFailed, with_write_fault};
-ghost use Rattle.edge_io.specs.ReadAll.{OnlyRead};
-ghost use Rattle.edge_io.specs.Opened.{HasOpened, HasOpenedPrefix, HasOpenedUpTo};
-ghost use Rattle.edge_io.specs.Written.{written};
-ghost use Rattle.switch_input.specs.WordViews.{texts};
-ghost use Rattle.switch_input.specs.InputViews.{accepted_view, IsBuilt};
-ghost use Rattle.switch_output.specs.Refused.{IfWriteFault, HasWriteCause};
-ghost use Rattle.switch_app.specs.RunViews.{Writes, StopsIn, Leaves, HasOpenedUntil, HasRunCause};
+ghost use Rattle.command_words.specs.CommandViews.{texts, input_view};
+ghost use Rattle.switch_input.specs.InputViews.{run_view, IsBuilt};
+ghost use Rattle.switch_output.specs.declared.refusal.OutputRefusal.TheVariants.{Files};
+ghost use Rattle.switch_output.specs.declared.refusal.WriteRefusal.TheVariants.{OutOfMemory};
+ghost use Rattle.switch_output.specs.Put.{name_in, PutsWhole, CutsOut};
+ghost use Rattle.switch_app.specs.Ends.{Ends, IsAllDone};
+ghost use Rattle.switch_app.specs.RunViews.{told_if, ByJournals, IsUntouched, Leaves};
 
 use crate::refusal::Refusal;
 use crate::say::say_refusal;
 use crate::status::status_of;
 use edge_io::{Gate, Shelf, Sink};
+use given_steps::run_schedule;
 use run_case::{Case, RunData};
 use run_edits::RunEdits;
+use spec_dumps::Ran;
 use std::alloc::Global;
 use std::marker::Brand;
 use std::sync::Wait;
 use std::thread::Threads;
-use step_runner::finish_from_new;
-use switch_input::{Inputs, ports_of, read_inputs};
-use switch_output::{WriteRefusal, write_files};
+use switch_input::{Input, Inputs, read_inputs};
+use switch_output::{OutputRefusal, put_out};
 use switch_refusals::DONE;
 
-/// How many megaflows each board may have, where no word says so.
-const DEFAULT_FLOW_LIMIT: u32 = 8192;
+// The begin of the names of what is written, where something is.
+fn out_of<'a>(input: &Input<'a>) -> Option<&'a str>
+    ensures { name_in result ≡ out_of (input_view input.now) }
+{
+    match input {
+        Input::Files { out, .. } => Some(*out),
+        Input::Made { .. } => None,
+    }
+}
 
-// Decides all frames of a run, and then writes its files.
-fn decide_and_write<C: Case, S: Shelf>(
+// What is told of given steps, where there are some.
+fn told_of(input: &Input<'_>, ran: Ran) -> Option<Ran>
+    ensures { result ≡ told_if (has_steps (input_view input.now)) ran }
+{
+    match input {
+        Input::Files { steps, .. } => steps.map(|_| ran),
+        Input::Made { .. } => None,
+    }
+}
+
+// Decides all frames of a run, and then tells what became of it: writes its files, where it has some, and prints its summary.
+fn decide_and_tell<C: Case, S: Shelf, K: Sink>(
     alloc: Global,
     shelf: &mut S,
+    say: &mut K,
     inputs: Inputs<'_>,
-) -> Result<(), WriteRefusal>
+) -> Result<(), OutputRefusal>
     requires in_use { S.in_use shelf.old ≡ Nothing }
-    requires run { C.run ≡ (accepted_view inputs).run }
+    requires run { C.run ≡ run_view inputs }
     requires built { IsBuilt inputs }
-    ensures in_use { OnOk result (S.in_use shelf.new ≡ Nothing) }
-    ensures ok { IsTrue S.tells
-        → OnOk result (Writes inputs.entry.command.workers C.run inputs.entry.command.out.now
-        (S.told shelf.old).done (S.told shelf.new).done) }
-    ensures err { IsTrue S.tells
-        → IfErr result (λ r. (r ≡ WriteRefusal.OutOfMemory) × (S.told shelf.new ≡ S.told shelf.old)
-        ⊎ StopsIn inputs.entry.command.workers C.run inputs.entry.command.out.now
-        (S.told shelf.old).done (written (S.in_use shelf.new) (S.told shelf.new)) r) }
-    ensures named { IsTrue S.tells
-        → IfErr result (λ r. IfWriteFault r (λ name. (S.told shelf.new).last ≡ name)) }
+    ensures ok { let input = input_view inputs.entry.command.input in
+        OnOk result (ByJournals inputs.entry.command.workers C.run (λ journals.
+        PutsWhole S.Shelf K.Sink shelf.old shelf.new say.old say.new
+        (output_of (out_of input) C.run journals)
+        (summary C.run journals (ran_of (has_steps input) C.run)))) }
+    ensures err { let input = input_view inputs.entry.command.input in
+        IfErr result (λ r. (r ≡ Files OutOfMemory)
+        × IsUntouched S.Shelf K.Sink shelf.old shelf.new say.old say.new
+        ⊎ ByJournals inputs.entry.command.workers C.run (λ journals.
+        CutsOut S.Shelf K.Sink shelf.old shelf.new say.old say.new
+        (output_of (out_of input) C.run journals)
+        (summary C.run journals (ran_of (has_steps input) C.run)) r)) }
     ensures opened { IsTrue S.tells → (S.told shelf.new).opened ≡ (S.told shelf.old).opened }
-    ensures counts { OnOk result (S.counts shelf.new ≡ S.counts shelf.old) }
-    ensures cause { IfErr result (HasWriteCause (S.counts shelf.old) (S.counts shelf.new)) }
 {
     let Inputs {
         command,
+        ports,
         script,
+        rules,
+        steps,
         traces,
     } = inputs;
-    let ports = ports_of(alloc, &command.ports)?;
     let edits = RunEdits::<C>::new(script.edits);
     let run = RunData::<C>::new(alloc, ports, edits.count(), script.syncs, traces)?;
-    let finished = finish_from_new(alloc, &run, &edits, DEFAULT_FLOW_LIMIT)?;
-    write_files(alloc, shelf, command.out, &run, &finished)
+    let (finished, ran) = run_schedule(alloc, &run, &edits, command.flow_limit, &steps)?;
+    let out = out_of(&command.input);
+    let told = told_of(&command.input, ran);
+    put_out(alloc, shelf, say, out, &run, &rules, &finished, told)
 }
 
-fn run<'a, S: Shelf>(alloc: Global, words: &'a [String], shelf: &mut S) -> Result<(), Refusal<'a>>
+fn run<'a, S: Shelf, K: Sink>(
+    alloc: Global,
+    words: &'a [String],
+    shelf: &mut S,
+    say: &mut K,
+) -> Result<(), Refusal<'a>>
     requires { S.in_use shelf.old ≡ Nothing }
-    ensures in_use { OnOk result (S.in_use shelf.new ≡ Nothing) }
-    ensures ok { IsTrue S.tells
-        → OnOk result (IsDone (texts words.now) (S.told shelf.old).holds
-        (S.told shelf.old).done (S.told shelf.new).done) }
-    ensures err { IsTrue S.tells
-        → IfErr result (Leaves (texts words.now) (S.told shelf.old) (S.told shelf.new)
-        (S.in_use shelf.new)) }
-    ensures opened { IsTrue S.tells → OnOk result (HasOpened (S.told shelf.old) (S.told shelf.new)
-        (files_opened (texts words.now) (S.told shelf.old).holds)) }
-    ensures opened_until { IsTrue S.tells
-        → IfErr result (HasOpenedUntil (S.told shelf.old) (S.told shelf.new)
-        (files_opened (texts words.now) (S.told shelf.old).holds)) }
-    ensures counts { OnOk result (S.counts shelf.new ≡ S.counts shelf.old) }
-    ensures cause { IfErr result (HasRunCause (S.counts shelf.old) (S.counts shelf.new)) }
+    ensures ok { OnOk result
+        (IsAllDone S.Shelf K.Sink (texts words.now) shelf.old shelf.new say.old say.new) }
+    ensures err { IfErr result
+        (Leaves S.Shelf K.Sink (texts words.now) shelf.old shelf.new say.old say.new) }
 {
     let inputs = read_inputs(alloc, words, shelf)?;
-    decide_and_write::<Brand, S>(alloc, shelf, inputs)?;
+    decide_and_tell::<Brand, S, K>(alloc, shelf, say, inputs)?;
     Ok(())
 }
 
@@ -98,83 +115,10 @@ pub(crate) fn run_alone<S: Shelf, K: Sink>(
     say: &mut K,
 ) -> u8
     requires { S.in_use shelf.old ≡ Nothing }
-    ensures only { (result ≡ done_status) ⊎ ((result ≡ read_fault_status)
-        ⊎ ((result ≡ write_fault_status)
-        ⊎ ((result ≡ out_of_memory_status) ⊎ IsTrue (is_refusal result)))) }
-
-    // All is done: exactly the files of the run are written, by its journals, nothing is printed, and nothing failed.
-    ensures done { IsTrue S.tells → result ≡ done_status
-        → IsDone (texts words.now) (S.told shelf.old).holds
-        (S.told shelf.old).done (S.told shelf.new).done }
-    ensures done_leaves_no_file { result ≡ done_status → S.in_use shelf.new ≡ Nothing }
-    ensures done_without_fault { result ≡ done_status → S.counts shelf.new ≡ S.counts shelf.old }
-    ensures done_says_nothing { result ≡ done_status → say.new ≡ say.old }
-
-    // Reading failed: in the last file that was opened, before which none is refused. Nothing is written.
-    ensures read_fault { result ≡ read_fault_status
-        → ReadFailed (S.counts shelf.old) (S.counts shelf.new) }
-    ensures read_fault_at { IsTrue S.tells → result ≡ read_fault_status
-        → HasOpenedUpTo (S.told shelf.old) (S.told shelf.new)
-        (files_opened (texts words.now) (S.told shelf.old).holds) (S.told shelf.new).last }
-    ensures read_fault_writes_nothing { IsTrue S.tells → result ≡ read_fault_status
-        → OnlyRead (S.told shelf.old) (S.told shelf.new) }
-    ensures read_fault_text { IsTrue S.tells → IsTrue K.tells → result ≡ read_fault_status
-        → Prints K.needs_memory (K.faults say.old) (K.faults say.new) (K.written say.old)
-        (K.written say.new) (read_fault_text (S.told shelf.new).last) }
-
-    // Writing failed: the run was accepted, the files before the last name are whole, and it has a prefix of its bytes.
-    ensures write_fault { result ≡ write_fault_status
-        → S.counts shelf.new ≡ with_write_fault (S.counts shelf.old) }
-    ensures write_fault_at { IsTrue S.tells → result ≡ write_fault_status
-        → IsCutRun (texts words.now) (S.told shelf.old).holds (S.told shelf.old).done
-        (written (S.in_use shelf.new) (S.told shelf.new)) (S.told shelf.new).last }
-    ensures write_fault_text { IsTrue S.tells → IsTrue K.tells → result ≡ write_fault_status
-        → Prints K.needs_memory (K.faults say.old) (K.faults say.new) (K.written say.old)
-        (K.written say.new) (write_fault_text (S.told shelf.new).last) }
-
-    // Out of memory: nothing failed. A name is written only where the run was accepted, and then as far as it goes.
-    ensures out_of_memory_without_fault { result ≡ out_of_memory_status
-        → S.counts shelf.new ≡ S.counts shelf.old }
-    ensures out_of_memory { IsTrue S.tells → result ≡ out_of_memory_status
-        → OnlyRead (S.told shelf.old) (S.told shelf.new)
-        ⊎ IsPartOfRun (texts words.now) (S.told shelf.old).holds (S.told shelf.old).done
-        (written (S.in_use shelf.new) (S.told shelf.new)) }
-    ensures out_of_memory_text { IsTrue K.tells → result ≡ out_of_memory_status
-        → Prints K.needs_memory (K.faults say.old) (K.faults say.new) (K.written say.old)
-        (K.written say.new) out_of_memory_text }
-
-    // The words or a file are refused: the verdict is a refusal of this status, which is the first in the order of reading.
-    // Nothing failed, and nothing is written.
-    ensures refused { IsTrue S.tells → IsTrue (is_refusal result)
-        → IsRefused (texts words.now) (S.told shelf.old).holds result }
-    ensures refused_without_fault { IsTrue (is_refusal result)
-        → S.counts shelf.new ≡ S.counts shelf.old }
-    ensures refused_writes_nothing { IsTrue S.tells → IsTrue (is_refusal result)
-        → OnlyRead (S.told shelf.old) (S.told shelf.new) }
-    ensures refused_text { IsTrue S.tells → IsTrue K.tells → IsTrue (is_refusal result)
-        → PrintsRefusal (texts words.now) (S.told shelf.old).holds K.needs_memory (K.faults say.old)
-        (K.faults say.new) (K.written say.old) (K.written say.new) }
-
-    // Files are opened only to read the edits and then the traces, each once and only where none before it is refused:
-    // a prefix of these, and all of them unless reading fails or memory runs out.
-    ensures opened { IsTrue S.tells → HasOpenedPrefix (S.told shelf.old) (S.told shelf.new)
-        (files_opened (texts words.now) (S.told shelf.old).holds) }
-    ensures opened_all { IsTrue S.tells
-        → ¬ (result ≡ read_fault_status) → ¬ (result ≡ out_of_memory_status)
-        → HasOpened (S.told shelf.old) (S.told shelf.new)
-        (files_opened (texts words.now) (S.told shelf.old).holds) }
-
-    // What is refused ends with the status of its refusal, and what is accepted is done, unless a count rises or memory runs
-    // out.
-    ensures refusal { IsTrue S.tells → IfErr (verdict (texts words.now) (S.told shelf.old).holds)
-        (λ r. (result ≡ refusal_status r)
-        ⊎ ((result ≡ read_fault_status) ⊎ (result ≡ out_of_memory_status))) }
-    ensures accepted { IsTrue S.tells → IsOk (verdict (texts words.now) (S.told shelf.old).holds)
-        → ¬ Rose (S.counts shelf.old).reading (S.counts shelf.new).reading
-        → ¬ Rose (S.counts shelf.old).writing (S.counts shelf.new).writing
-        → (result ≡ done_status) ⊎ (result ≡ out_of_memory_status) }
+    ensures { let words = texts words.now in
+        Ends S.Shelf K.Sink words shelf.old shelf.new say.old say.new result }
 {
-    match run(alloc, words, shelf) {
+    match run(alloc, words, shelf, say) {
         Ok(()) => DONE,
         Err(refusal) => {
             say_refusal(say, &refusal);
@@ -183,11 +127,14 @@ pub(crate) fn run_alone<S: Shelf, K: Sink>(
     }
 }
 
-/// Runs the switch: reads the file of edits and the traces that the words name, decides every frame once, and writes a
-/// file for each port and the journals of all.
+/// Runs the switch: reads what the words name, decides every frame once, writes a file for each port and the dumps of the
+/// run, and prints its summary.
 ///
-/// The words are those after the program's name: `EDITS OUT PORT=FILE PORT=..`. Each port may have a trace; where
-/// nothing stands after its `=` no frame comes in there.
+/// The words are those after the program's name:
+/// `[--workers N] [--steps FILE] [--flow-limit N] EDITS OUT PORT=FILE..`, or `--generate N [--workers N] [--flow-limit N]`.
+/// Each port may have a trace; where nothing stands after its `=` no frame comes in there. A port keeps at most as many
+/// megaflows as the flow limit says, from 1 to 65,536, and 8,192 where none is given. Other words end with status 2;
+/// workers above 0 aren't built yet and end with status 9.
 ///
 /// EDITS has a line for each edit of the tables, as ovs-ofctl(8) writes flows: a word (`add` where it is left out,
 /// `modify`, `modify_strict`, `delete`, `delete_strict`), a match of fields with values and masks, a table, a priority and
@@ -198,13 +145,17 @@ pub(crate) fn run_alone<S: Shelf, K: Sink>(
 /// time are decided under no more than the edits before the line, and those from it on under no fewer. Which version it
 /// was stands in the journal.
 ///
-/// `OUT.pN.pcap` has the frames that go out at port N, and `OUT.journal` the steps of each port's board, in the order in
-/// which they were taken.
+/// The steps file has a step of a board a line, as `rx 1`, which are taken first, where they are met; then the run goes on
+/// to its end. With `--generate` the edits and the traces are those that the number makes, and nothing is written.
+///
+/// `OUT.pN.pcap` has the frames that go out at port N, `OUT.rules` the rules with their counts, `OUT.megaflows` the
+/// megaflows that stand in the caches, and `OUT.journal` the steps of each port's board, in the order in which they were
+/// taken.
 ///
 /// The answer is the exit status; `spec_run` has the statuses, and the text that is printed with each. Of a text a prefix
-/// may stand, where the sink fails or is out of memory. Words that aren't in this form end with status 9.
+/// may stand, where the sink fails or is out of memory.
 ///
-/// The runtime and the gate are for workers, which no word asks for yet. By its bounds the call may wait, so that it returns
+/// The runtime and the gate are for workers, which aren't built yet. By its bounds the call may wait, so that it returns
 /// is no part of what is proved of it; it is proved of all that it does without workers.
 pub fn run_switch<R: Threads + Wait + Sync, S: Shelf, K: Sink, G: Gate + Sync>(
     rt: &R,
@@ -215,71 +166,10 @@ pub fn run_switch<R: Threads + Wait + Sync, S: Shelf, K: Sink, G: Gate + Sync>(
     gate: &G,
 ) -> u8
     requires { S.in_use shelf.old ≡ Nothing }
-    ensures only { (result ≡ done_status) ⊎ ((result ≡ read_fault_status)
-        ⊎ ((result ≡ write_fault_status)
-        ⊎ ((result ≡ out_of_memory_status) ⊎ IsTrue (is_refusal result)))) }
 
-    // All is done: exactly the files of the run are written, by its journals, nothing is printed, and nothing failed.
-    ensures done { IsTrue S.tells → result ≡ done_status
-        → IsDone (texts words.now) (S.told shelf.old).holds
-        (S.told shelf.old).done (S.told shelf.new).done }
-    ensures done_leaves_no_file { result ≡ done_status → S.in_use shelf.new ≡ Nothing }
-    ensures done_without_fault { result ≡ done_status → S.counts shelf.new ≡ S.counts shelf.old }
-    ensures done_says_nothing { result ≡ done_status → say.new ≡ say.old }
-
-    // Reading failed: in the last file that was opened, before which none is refused. Nothing is written.
-    ensures read_fault { result ≡ read_fault_status
-        → ReadFailed (S.counts shelf.old) (S.counts shelf.new) }
-    ensures read_fault_at { IsTrue S.tells → result ≡ read_fault_status
-        → HasOpenedUpTo (S.told shelf.old) (S.told shelf.new)
-        (files_opened (texts words.now) (S.told shelf.old).holds) (S.told shelf.new).last }
-    ensures read_fault_writes_nothing { IsTrue S.tells → result ≡ read_fault_status
-        → OnlyRead (S.told shelf.old) (S.told shelf.new) }
-    ensures read_fault_text { IsTrue S.tells → IsTrue K.tells → result ≡ read_fault_status
-        → Prints K.needs_memory (K.faults say.old) (K.faults say.new) (K.written say.old)
-        (K.written say.new) (read_fault_text (S.told shelf.new).last) }
-
-    // Writing failed: the run was accepted, the files before the last name are whole, and it has a prefix of its bytes.
-    ensures write_fault { result ≡ write_fault_status
-        → S.counts shelf.new ≡ with_write_fault (S.counts shelf.old) }
-    ensures write_fault_at { IsTrue S.tells → result ≡ write_fault_status
-        → IsCutRun (texts words.now) (S.told shelf.old).holds (S.told shelf.old).done
-        (written (S.in_use shelf.new) (S.told shelf.new)) (S.told shelf.new).last }
-    ensures write_fault_text { IsTrue S.tells → IsTrue K.tells → result ≡ write_fault_status
-        → Prints K.needs_memory (K.faults say.old) (K.faults say.new) (K.written say.old)
-        (K.written say.new) (write_fault_text (S.told shelf.new).last) }
-
-    // Out of memory: nothing failed. A name is written only where the run was accepted, and then as far as it goes.
-    ensures out_of_memory_without_fault { result ≡ out_of_memory_status
-        → S.counts shelf.new ≡ S.counts shelf.old }
-    ensures out_of_memory { IsTrue S.tells → result ≡ out_of_memory_status
-        → OnlyRead (S.told shelf.old) (S.told shelf.new)
-        ⊎ IsPartOfRun (texts words.now) (S.told shelf.old).holds (S.told shelf.old).done
-        (written (S.in_use shelf.new) (S.told shelf.new)) }
-    ensures out_of_memory_text { IsTrue K.tells → result ≡ out_of_memory_status
-        → Prints K.needs_memory (K.faults say.old) (K.faults say.new) (K.written say.old)
-        (K.written say.new) out_of_memory_text }
-
-    // The words or a file are refused: the verdict is a refusal of this status, which is the first in the order of reading.
-    // Nothing failed, and nothing is written.
-    ensures refused { IsTrue S.tells → IsTrue (is_refusal result)
-        → IsRefused (texts words.now) (S.told shelf.old).holds result }
-    ensures refused_without_fault { IsTrue (is_refusal result)
-        → S.counts shelf.new ≡ S.counts shelf.old }
-    ensures refused_writes_nothing { IsTrue S.tells → IsTrue (is_refusal result)
-        → OnlyRead (S.told shelf.old) (S.told shelf.new) }
-    ensures refused_text { IsTrue S.tells → IsTrue K.tells → IsTrue (is_refusal result)
-        → PrintsRefusal (texts words.now) (S.told shelf.old).holds K.needs_memory (K.faults say.old)
-        (K.faults say.new) (K.written say.old) (K.written say.new) }
-
-    // Files are opened only to read the edits and then the traces, each once and only where none before it is refused:
-    // a prefix of these, and all of them unless reading fails or memory runs out.
-    ensures opened { IsTrue S.tells → HasOpenedPrefix (S.told shelf.old) (S.told shelf.new)
-        (files_opened (texts words.now) (S.told shelf.old).holds) }
-    ensures opened_all { IsTrue S.tells
-        → ¬ (result ≡ read_fault_status) → ¬ (result ≡ out_of_memory_status)
-        → HasOpened (S.told shelf.old) (S.told shelf.new)
-        (files_opened (texts words.now) (S.told shelf.old).holds) }
+    // What the status is, and what is written, printed and opened with it, and which counts rose.
+    ensures ends { let words = texts words.now in
+        Ends S.Shelf K.Sink words shelf.old shelf.new say.old say.new result }
 
     // What is refused ends with the status of its refusal, and what is accepted is done, unless a count rises or memory runs
     // out.
@@ -289,6 +179,7 @@ pub fn run_switch<R: Threads + Wait + Sync, S: Shelf, K: Sink, G: Gate + Sync>(
     ensures accepted { IsTrue S.tells → IsOk (verdict (texts words.now) (S.told shelf.old).holds)
         → ¬ Rose (S.counts shelf.old).reading (S.counts shelf.new).reading
         → ¬ Rose (S.counts shelf.old).writing (S.counts shelf.new).writing
+        → ¬ Rose (K.faults say.old) (K.faults say.new)
         → (result ≡ done_status) ⊎ (result ≡ out_of_memory_status) }
 {
     let _ = rt;

@@ -1,9 +1,10 @@
 //! The exit status of a refusal, as `spec_run` has it.
 ghost use Rattle.std.specs.Prelude.{◌≡◌};
-ghost use Rattle.switch_app.specs.Refused.{write_status, status_of};
+ghost use Rattle.switch_app.specs.Refused.{write_status, output_status, status_of};
 
 use crate::refusal::Refusal;
-use switch_output::WriteRefusal;
+use edge_io::Failed;
+use switch_output::{OutputRefusal, WriteRefusal};
 use switch_refusals::{OUT_OF_MEMORY, WRITE_FAULT, input_status};
 
 fn write_status(refusal: &WriteRefusal) -> u8
@@ -15,12 +16,22 @@ fn write_status(refusal: &WriteRefusal) -> u8
     }
 }
 
+fn output_status(refusal: &OutputRefusal) -> u8
+    ensures { result ≡ output_status refusal.now }
+{
+    match refusal {
+        OutputRefusal::Files(refusal) => write_status(refusal),
+        OutputRefusal::Summary(Failed::Fault) => WRITE_FAULT,
+        OutputRefusal::Summary(Failed::OutOfMemory) => OUT_OF_MEMORY,
+    }
+}
+
 /// The exit status of a refusal.
 pub fn status_of(refusal: &Refusal<'_>) -> u8
     ensures { result ≡ status_of refusal.now }
 {
     match refusal {
         Refusal::Reading(refusal) => input_status(refusal),
-        Refusal::Writing(refusal) => write_status(refusal),
+        Refusal::Output(refusal) => output_status(refusal),
     }
 }

@@ -1,6 +1,7 @@
 pub mod Lists
-pub mod PortWords
 pub mod Stages
 pub mod Opened
 pub mod Walk
+pub mod MadeFiles
+pub mod Untouched
 pub mod Verdicts

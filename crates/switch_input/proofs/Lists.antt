@@ -1,19 +1,20 @@
--- Tests of lists that are seen through a view.
-use Rattle.std.proofs.Common.{◌≡◌, Bool, List, [], ◌∷◌, map, refl, ap}
-use Rattle.std.specs.Prelude.{◌||◌}
-use Rattle.std.specs.List.{list_any, list_all}
-use Rattle.std.proofs.lemmas.List.Folds.{list_all-map}
-use Rattle.switch_input.specs.declared.words.PortWord.{PortWord}
-use Rattle.switch_input.specs.WordViews.{ports_view, ports_said}
-
-pub any_in_view : {X : Type 0} (p : X → Bool) → {Y : Type 0} (view : Y → X) (ys : List Y) → list_any p (map view ys) ≡ list_any (λ y. p (view y)) ys
-any_in_view p view [] = refl
-any_in_view p view (y ∷ ys) = ap (λ b. p (view y) || b) (any_in_view p view ys)
-
-pub all_in_view : {X : Type 0} (p : X → Bool) → {Y : Type 0} (view : Y → X) (ys : List Y) → list_all p (map view ys) ≡ list_all (λ y. p (view y)) ys
-all_in_view p view ys = list_all-map p view ys
+-- Lists that are seen through a view.
+use Rattle.std.proofs.Common.{◌≡◌, List, [], ◌∷◌, suc, length, map, refl, ap}
+use Rattle.std.specs.Prelude.{nat_eq}
+use Rattle.std.specs.List.{IsDistinct}
+use Rattle.command_words.specs.declared.ports.PortWord.{PortWord}
+use Rattle.command_words.specs.PortViews.{ports_view, ports_said}
 
 -- the ports of words, without their view
 pub ports_in_view : (ports : List PortWord) → ports_said (ports_view ports) ≡ map (λ (w : PortWord). w.port) ports
 ports_in_view [] = refl
 ports_in_view (w ∷ ports) = ap (λ ps. w.port ∷ ps) (ports_in_view ports)
+
+pub four_differ : IsDistinct nat_eq (1 ∷ 2 ∷ 3 ∷ 4 ∷ [])
+unfolding IsDistinct
+four_differ = ((refl, (refl, (refl, tt))), ((refl, (refl, tt)), ((refl, tt), (tt, tt))))
+
+-- how many ports there are
+pub count_said : (ports : List PortWord) → length (ports_said (ports_view ports)) ≡ length ports
+count_said [] = refl
+count_said (w ∷ ports) = ap suc (count_said ports)

@@ -1,22 +1,130 @@
 -- The verdict, and what is opened, from the stages.
-use Rattle.std.proofs.Common.{◌≡◌, ℕ, List, [], ◌∷◌, refl, sym, ap, ◌∙◌}
-use Rattle.std.specs.Prelude.{Ok}
+use Rattle.std.proofs.Common.{◌≡◌, ℕ, List, [], ◌∷◌, ◌++◌, refl, sym, ap, subst, ◌∙◌}
+use Rattle.std.specs.Prelude.{Result, Ok, Err, IfOk, IfErr}
 use Rattle.std.proofs.lemmas.List.{append-nil}
 use Rattle.spec_pcap.specs.Pcap.{Capture}
+use Rattle.spec_case.specs.declared.run_step.RunStep.{RunStep}
+use Rattle.spec_case.specs.Run.{Run}
 use Rattle.spec_script.specs.Script.{Script}
-use Rattle.spec_words.specs.Words.{Command}
 use Rattle.spec_run.specs.Limits.{most_trace_bytes, most_frames}
-use Rattle.spec_run.specs.Verdict.{Files, run_of, command_in, script_in, traces_in, verdict, if_passed, traces_opened, files_opened}
+use Rattle.spec_run.specs.Verdict.{Files, Refusal, Accepted, Sources, ports_said, run_of, command_in, script_in, steps_in, traces_in, run_in, files_for, verdict, if_passed, steps_names, traces_opened, later_opened, sources_opened, opened_for, files_opened}
+use Rattle.command_words.specs.declared.reading.Command.{Command}
+use Rattle.command_words.specs.CommandViews.{input_view, command_view}
+use Rattle.switch_input.specs.declared.inputs.Inputs.{Inputs}
+use Rattle.switch_input.specs.InputViews.{sources_for, run_view, accepted_view}
 use Rattle.switch_refusals.specs.declared.refusal.InputRefusal.{InputRefusal}
 use Rattle.switch_refusals.specs.declared.refusal.InputRefusal.TheVariants.{Input, ReadFault, OutOfMemory}
 use Rattle.switch_refusals.specs.Refused.{IfInput, IfReadFault, Explains, HasOpenedUntil}
 use Rattle.edge_io.specs.Shelf.{Told}
-use Rattle.edge_io.specs.Opened.{HasOpened}
+use Rattle.edge_io.specs.Opened.{HasOpened, HasOpenedPrefix}
 use Rattle.switch_input.proofs.Opened.{HasLeft, opened_none, all_left, none_left, left_later, opened_until}
 
-module _ (words : List (List ℕ)) (files : Files) where
-  -- ---- the words
+-- nothing was opened yet
+pub none_yet : (t : Told) (names : List (List ℕ)) → HasOpenedPrefix t t names
+none_yet t names = (all_left t names).0
 
+-- what is read
+
+module _ (files : Files) (flow_limit : ℕ) (s : Sources) where
+  -- ---- the edits
+
+  pub script_explains : (r : InputRefusal) → Explains (script_in files s.edits) r → Explains (run_in files flow_limit s) r
+  unfolding run_in
+  script_explains (Input fault) why = rw why refl
+  script_explains (ReadFault name) why = tt
+  script_explains OutOfMemory why = tt
+
+  -- what is opened after the edits
+  abbrev later : List (List ℕ)
+  later = if_passed (script_in files s.edits) (λ _. later_opened files s)
+
+  edits_first : sources_opened files s ≡ s.edits ∷ later
+  unfolding sources_opened
+  edits_first = refl
+
+  none_later : (r : InputRefusal) → Explains (script_in files s.edits) r → IfInput r (λ _. later ≡ [])
+  none_later (Input fault) why = rw why refl
+  none_later (ReadFault name) why = tt
+  none_later OutOfMemory why = tt
+
+  pub edits_opened : (old now : Told) (r : InputRefusal) → Explains (script_in files s.edits) r → HasOpenedUntil old now (s.edits ∷ []) r
+      → HasOpenedUntil old now (sources_opened files s) r
+  edits_opened old now r why until =
+      opened_until old old now _ _ (all_left old (sources_opened files s)) (s.edits ∷ []) later edits_first r (none_later r why) until
+
+  module _ (script : Script) (is_script : script_in files s.edits ≡ Ok script) where
+    -- ---- the steps
+
+    pub steps_explain : (r : InputRefusal) → Explains (steps_in files (ports_said s.ports) s.steps) r → Explains (run_in files flow_limit s) r
+    unfolding run_in
+    steps_explain (Input fault) why = rw (is_script, why) refl
+    steps_explain (ReadFault name) why = tt
+    steps_explain OutOfMemory why = tt
+
+    -- what is opened after the steps file
+    abbrev last : List (List ℕ)
+    last = if_passed (steps_in files (ports_said s.ports) s.steps) (λ _. traces_opened files most_trace_bytes most_frames s.ports)
+
+    steps_next : sources_opened files s ≡ s.edits ∷ (steps_names s.steps ++ last)
+    unfolding sources_opened later_opened
+    steps_next = rw is_script refl
+
+    none_last : (r : InputRefusal) → Explains (steps_in files (ports_said s.ports) s.steps) r → IfInput r (λ _. last ≡ [])
+    none_last (Input fault) why = rw why refl
+    none_last (ReadFault name) why = tt
+    none_last OutOfMemory why = tt
+
+    module _ (old mid : Told) (first : HasOpened old mid (s.edits ∷ [])) where
+      edits_done : HasLeft old mid (steps_names s.steps ++ last) (sources_opened files s)
+      edits_done = left_later old old mid _ _ (all_left old (sources_opened files s)) (s.edits ∷ []) (steps_names s.steps ++ last) steps_next first
+
+      pub steps_opened : (now : Told) (r : InputRefusal) → Explains (steps_in files (ports_said s.ports) s.steps) r → HasOpenedUntil mid now (steps_names s.steps) r
+          → HasOpenedUntil old now (sources_opened files s) r
+      steps_opened now r why until = opened_until old mid now _ _ edits_done (steps_names s.steps) last refl r (none_last r why) until
+
+    module _ (steps : List RunStep) (are_steps : steps_in files (ports_said s.ports) s.steps ≡ Ok steps) where
+      -- ---- the traces
+
+      pub traces_explain : (r : InputRefusal) → Explains (traces_in files s.ports) r → Explains (run_in files flow_limit s) r
+      unfolding run_in
+      traces_explain (Input fault) why = rw (is_script, are_steps, why) refl
+      traces_explain (ReadFault name) why = tt
+      traces_explain OutOfMemory why = tt
+
+      abbrev traces : List (List ℕ)
+      traces = traces_opened files most_trace_bytes most_frames s.ports
+
+      none_after : (r : InputRefusal) → IfInput r (λ _. let none : List (List ℕ) = [] in none ≡ [])
+      none_after (Input fault) = refl
+      none_after (ReadFault name) = tt
+      none_after OutOfMemory = tt
+
+      module _ (old mid late : Told) (first : HasOpened old mid (s.edits ∷ [])) (second : HasOpened mid late (steps_names s.steps)) where
+        steps_done : HasLeft old late traces (sources_opened files s)
+        steps_done =
+            let left : HasLeft old late last (sources_opened files s) = left_later old mid late _ _ (edits_done old mid first) (steps_names s.steps) last refl second in
+            rw are_steps at left
+
+        pub traces_until : (now : Told) (r : InputRefusal) → HasOpenedUntil late now traces r → HasOpenedUntil old now (sources_opened files s) r
+        traces_until now r until = opened_until old late now _ _ steps_done traces [] (sym (append-nil traces)) r (none_after r) until
+
+        pub all_opened : (now : Told) → HasOpened late now traces → HasOpened old now (sources_opened files s)
+        all_opened now opened = none_left old now _ (left_later old late now _ _ steps_done traces [] (sym (append-nil traces)) opened)
+
+      -- ---- the whole
+
+      pub gives_run : (traces : List Capture) → traces_in files s.ports ≡ Ok traces → run_in files flow_limit s ≡ Ok (run_of flow_limit s script steps traces)
+      unfolding run_in
+      gives_run traces are_traces = rw (is_script, are_steps, are_traces) refl
+
+      pub gives_run_of : (other : Sources) → s ≡ other → (traces : List Capture) → traces_in files s.ports ≡ Ok traces
+          → run_in files flow_limit other ≡ Ok (run_of flow_limit other script steps traces)
+      gives_run_of other same traces are_traces =
+          subst (λ (x : Sources). run_in files flow_limit x ≡ Ok (run_of flow_limit x script steps traces)) same (gives_run traces are_traces)
+
+-- the words, and what is read for them
+
+module _ (words : List (List ℕ)) (files : Files) where
   pub command_explains : (r : InputRefusal) → Explains (command_in words) r → Explains (verdict words files) r
   unfolding verdict
   command_explains (Input fault) why = rw why refl
@@ -27,67 +135,33 @@ module _ (words : List (List ℕ)) (files : Files) where
   unfolding files_opened
   words_opened t (Input fault) why never = rw why (opened_none t)
   words_opened t (ReadFault name) why never = absurd never
-  words_opened t OutOfMemory why never = (all_left t (files_opened words files)).0
+  words_opened t OutOfMemory why never = none_yet t (files_opened words files)
 
-  module _ (command : Command) (is_command : command_in words ≡ Ok command) where
-    -- ---- the edits
+  module _ (command : Command) (is_command : command_in words ≡ Ok (command_view command)) where
+    -- the run that is read for the command
+    abbrev run_for : Result Run Refusal
+    run_for = run_in (files_for files (input_view command.input)) command.flow_limit (sources_for command)
 
-    pub script_explains : (r : InputRefusal) → Explains (script_in files command.edits) r → Explains (verdict words files) r
+    explains_run : (r : InputRefusal) → Explains run_for r → Explains (verdict words files) r
     unfolding verdict
-    script_explains (Input fault) why = rw (is_command, why) refl
-    script_explains (ReadFault name) why = tt
-    script_explains OutOfMemory why = tt
+    explains_run (Input fault) why = rw (is_command, why) refl
+    explains_run (ReadFault name) why = tt
+    explains_run OutOfMemory why = tt
 
-    -- what is opened after the edits
-    abbrev later : List (List ℕ)
-    later = if_passed (script_in files command.edits) (λ _. traces_opened files most_trace_bytes most_frames command.ports)
+    accepts_run : (run : Run) → run_for ≡ Ok run → verdict words files ≡ Ok (record { command = command_view command; run = run })
+    unfolding verdict
+    accepts_run run is_run = rw (is_command, is_run) refl
 
-    edits_first : files_opened words files ≡ command.edits ∷ later
+    pub run_explains : (result : Result Inputs InputRefusal) → IfErr result (Explains run_for) → IfErr result (Explains (verdict words files))
+    run_explains (Ok i) why = tt
+    run_explains (Err r) why = explains_run r why
+
+    pub accepts : (result : Result Inputs InputRefusal) → IfOk result (λ i. i.command ≡ command) → IfOk result (λ i. run_for ≡ Ok (run_view i))
+        → IfOk result (λ i. verdict words files ≡ Ok (accepted_view i))
+    accepts (Ok i) same is_run =
+        accepts_run (run_view i) is_run ∙ ap (λ (c : Command). let a : Result Accepted Refusal = Ok (record { command = command_view c; run = run_view i }) in a) (sym same)
+    accepts (Err r) same is_run = tt
+
+    pub names_for : files_opened words files ≡ opened_for files (input_view command.input)
     unfolding files_opened
-    edits_first = rw is_command refl
-
-    none_later : (r : InputRefusal) → Explains (script_in files command.edits) r → IfInput r (λ _. later ≡ [])
-    none_later (Input fault) why = rw why refl
-    none_later (ReadFault name) why = tt
-    none_later OutOfMemory why = tt
-
-    pub edits_opened : (old now : Told) (r : InputRefusal) → Explains (script_in files command.edits) r → HasOpenedUntil old now (command.edits ∷ []) r
-        → HasOpenedUntil old now (files_opened words files) r
-    edits_opened old now r why until =
-        opened_until old old now _ _ (all_left old (files_opened words files)) (command.edits ∷ []) later edits_first r (none_later r why) until
-
-    module _ (script : Script) (is_script : script_in files command.edits ≡ Ok script) where
-      -- ---- the traces
-
-      pub traces_explain : (r : InputRefusal) → Explains (traces_in files command.ports) r → Explains (verdict words files) r
-      unfolding verdict
-      traces_explain (Input fault) why = rw (is_command, is_script, why) refl
-      traces_explain (ReadFault name) why = tt
-      traces_explain OutOfMemory why = tt
-
-      abbrev traces : List (List ℕ)
-      traces = traces_opened files most_trace_bytes most_frames command.ports
-
-      all_names : files_opened words files ≡ command.edits ∷ traces
-      all_names = edits_first ∙ ap (λ passed. command.edits ∷ if_passed passed (λ _. traces)) is_script
-
-      module _ (old mid now : Told) (first : HasOpened old mid (command.edits ∷ [])) where
-        edits_done : HasLeft old mid traces (files_opened words files)
-        edits_done = left_later old old mid _ _ (all_left old (files_opened words files)) (command.edits ∷ []) traces all_names first
-
-        none_after : (r : InputRefusal) → IfInput r (λ _. let none : List (List ℕ) = [] in none ≡ [])
-        none_after (Input fault) = refl
-        none_after (ReadFault name) = tt
-        none_after OutOfMemory = tt
-
-        pub traces_until : (r : InputRefusal) → HasOpenedUntil mid now traces r → HasOpenedUntil old now (files_opened words files) r
-        traces_until r until = opened_until old mid now _ _ edits_done traces [] (sym (append-nil traces)) r (none_after r) until
-
-        pub all_opened : HasOpened mid now traces → HasOpened old now (files_opened words files)
-        all_opened opened = none_left old now _ (left_later old mid now _ _ edits_done traces [] (sym (append-nil traces)) opened)
-
-      -- ---- the whole
-
-      pub accepts : (traces : List Capture) → traces_in files command.ports ≡ Ok traces → verdict words files ≡ Ok (record { command = command; run = run_of command script traces })
-      unfolding verdict
-      accepts traces are_traces = rw (is_command, is_script, are_traces) refl
+    names_for = rw is_command refl

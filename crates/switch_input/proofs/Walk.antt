@@ -7,11 +7,11 @@ use Rattle.spec_run.specs.Verdict.{Files, Refusal, TraceFile, trace_in, if_passe
 use Rattle.edge_io.specs.Shelf.{Told}
 use Rattle.edge_io.specs.ReadAll.{OnlyRead}
 use Rattle.edge_io.specs.Opened.{HasOpened}
-use Rattle.switch_input.specs.declared.words.PortWord.{PortWord}
+use Rattle.command_words.specs.declared.ports.PortWord.{PortWord}
 use Rattle.switch_refusals.specs.declared.refusal.InputRefusal.{InputRefusal}
 use Rattle.switch_refusals.specs.declared.refusal.InputRefusal.TheVariants.{Input, ReadFault, OutOfMemory}
 use Rattle.switch_refusals.specs.Refused.{IfInput, Explains, HasOpenedUntil}
-use Rattle.switch_input.specs.WordViews.{port_view, ports_view}
+use Rattle.command_words.specs.PortViews.{port_view, ports_view}
 use Rattle.switch_input.proofs.Opened.{HasLeft, none_left, left_later, opened_until}
 
 here : (ports : List PortWord) (i : ℕ) (d : PortWord) → i < length ports → ports_view (drop i ports) ≡ port_view (get_or ports i d) ∷ ports_view (drop (i + 1) ports)

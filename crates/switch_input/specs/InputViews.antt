@@ -1,34 +1,44 @@
 -- What was read, as the definitions see it.
-use Rattle.std.specs.Prelude.{◌≡◌, ◌≤◌, nat_eq, All, IsTrue, length}
-use Rattle.std.specs.List.{list_all, IsDistinct}
+use Rattle.std.specs.Prelude.{◌≡◌, ◌≤◌, All, IsTrue, length}
+use Rattle.std.specs.List.{list_all}
 use Rattle.spec_pcap.specs.Pcap.{Capture}
+use Rattle.spec_case.specs.Run.{Run}
 use Rattle.spec_case.specs.Blocks.{AreInOrder}
 use Rattle.spec_script.specs.Script.{most_edits, most_syncs}
+use Rattle.spec_steps.specs.Steps.{most_steps}
 use Rattle.spec_run.specs.Limits.{most_frames}
 use Rattle.spec_run.specs.Verdict as verdicts
 use Rattle.spec_tables.specs.Edits.{has_sound_actions}
+use Rattle.rule_tables.specs.History.{history_of}
 use Rattle.edit_script.specs.ScriptViews.{script_view}
+use Rattle.command_words.specs.declared.reading.Command.{Command}
+use Rattle.command_words.specs.CommandViews.{input_view, command_view}
 use Rattle.switch_input.specs.declared.inputs.Inputs.{Inputs}
 use Rattle.switch_input.specs.declared.reading.TraceFile.{TraceFile}
-use Rattle.switch_input.specs.WordViews.{ports_view, ports_said, command_view}
 
 abbrev pub trace_view : TraceFile → verdicts.TraceFile
 trace_view t = record { size = t.size; capture = t.trace }
 
--- the command, and the run that its files give
-abbrev pub accepted_view : Inputs → verdicts.Accepted
-accepted_view i = record {
-  command = command_view i.command;
-  run = verdicts.run_of (command_view i.command) (script_view i.script) i.traces.items;
-}
+-- what is read for a command, by its names
+abbrev pub sources_for : Command → verdicts.Sources
+sources_for c = verdicts.sources_of (input_view c.input)
 
--- What was read has the form that is built, and is within its limits.
+-- the run that was read
+abbrev pub run_view : Inputs → Run
+run_view i = verdicts.run_of i.command.flow_limit (sources_for i.command) (script_view i.script) i.steps.items i.traces.items
+
+-- the command, and the run that what it reads gives
+abbrev pub accepted_view : Inputs → verdicts.Accepted
+accepted_view i = record { command = command_view i.command; run = run_view i }
+
+-- What was read has the form that is built, and is within its limits. The rules are those that the edits make.
 pub record IsBuilt (i : Inputs) : Type 0 where
-  pub some_port : 1 ≤ length i.command.ports.items
-  pub distinct_ports : IsDistinct nat_eq (ports_said (ports_view i.command.ports.items))
-  pub trace_each : length i.traces.items ≡ length i.command.ports.items
+  pub ports : i.ports ≡ verdicts.ports_said (sources_for i.command).ports
+  pub trace_each : length i.traces.items ≡ length i.ports
   pub few_frames : All (λ (t : Capture). length t.frames ≤ most_frames) i.traces.items
   pub sound : IsTrue (list_all has_sound_actions i.script.edits.items)
   pub few_edits : length i.script.edits.items ≤ most_edits
   pub few_syncs : length i.script.syncs.items ≤ most_syncs
   pub in_order : AreInOrder i.script.syncs.items (length i.script.edits.items)
+  pub few_steps : length i.steps.items ≤ most_steps
+  pub rules : i.rules ≡ history_of i.script.edits.items

@@ -1,3 +1,4 @@
-pub mod WordViews
+pub mod SourceViews
+pub mod MadeViews
 pub mod EditsViews
 pub mod InputViews

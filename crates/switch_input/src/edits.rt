@@ -1,4 +1,4 @@
-//! The file of edits: its bytes, the script that they say, and how many rules its edits change.
+//! The file of edits: its bytes, the script that they say, and the rules that its edits make.
 //!
 //! Each stage of the verdict on it is a function of its own, in the verdict's order.
 ghost use Rattle.std.specs.Prelude.{◌≡◌, ◌<◌, ◌≤◌, ◌^◌, [], ◌∷◌, length, Ok, IsTrue, OnOk, IfOk, IfErr};
@@ -11,6 +11,7 @@ ghost use Rattle.spec_script.specs.declared.fault.ScriptFault.TheVariants as scr
 ghost use Rattle.spec_run.specs.Limits.{most_edits_bytes};
 ghost use Rattle.spec_run.specs.Verdict.{refused_script, script_within, with_few_changes, script_in};
 ghost use Rattle.spec_tables.specs.Edits.{has_sound_actions};
+ghost use Rattle.rule_tables.specs.History.{history_of};
 ghost use Rattle.edit_script.specs.ScriptViews.{script_view};
 ghost use Rattle.switch_input.specs.EditsViews.{script_in_bytes};
 ghost use Rattle.switch_refusals.specs.Refused.{fault_view, IfInput, IfReadFault, Explains, HasReadCause, OpensInTurn};
@@ -19,10 +20,18 @@ use crate::reading::read_file;
 use crate::rules::rules_of;
 use edge_io::Shelf;
 use edit_script::{Script, ScriptFault, read_script};
+use rule_tables::VersionedRules;
 use spec_flow_text::TextFault;
 use spec_run::Quantity;
 use std::alloc::Global;
 use switch_refusals::{InputFault, InputRefusal, MOST_CHANGES, MOST_EDITS_BYTES};
+
+/// The script of a file of edits, and the rules of all versions that its edits make.
+#[derive(Drop)]
+pub struct EditsFile {
+    pub script: Script,
+    pub rules: VersionedRules,
+}
 
 // What becomes of a run whose file of edits has this fault.
 fn refused(name: &str, fault: ScriptFault) -> InputRefusal<'_>
@@ -61,11 +70,12 @@ fn script_of<'a>(alloc: Global, name: &'a str, bytes: &[u8]) -> Result<Script, I
     }
 }
 
-// Tests that the edits change no more rules than they may, by applying them.
+// The rules of all versions that the edits make, where they change no more than they may.
 #[tactic(auto, unfolding(rule_tables::specs::History::history_of))]
-fn limit_changes<'a>(alloc: Global, script: &Script) -> Result<(), InputRefusal<'a>>
+fn few_rules_of<'a>(alloc: Global, script: &Script) -> Result<VersionedRules, InputRefusal<'a>>
     requires { length script.now.edits.items < 2 ^ 32 }
     ensures ok { OnOk result (with_few_changes (script_view script.now) ≡ Ok (script_view script.now)) }
+    ensures rules { IfOk result (λ rules. rules ≡ history_of script.now.edits.items) }
     ensures err { IfErr result (Explains (with_few_changes (script_view script.now))) }
     ensures no_fault { IfErr result (λ r. IfReadFault r (λ _. ⊥)) }
 {
@@ -73,39 +83,43 @@ fn limit_changes<'a>(alloc: Global, script: &Script) -> Result<(), InputRefusal<
     if rules.changes() > MOST_CHANGES {
         return Err(InputRefusal::Input(InputFault::Limit(Quantity::Changes)));
     }
-    Ok(())
+    Ok(rules)
 }
 
-// The script of the bytes of a file, where it is accepted.
-fn edits_in<'a>(alloc: Global, name: &'a str, bytes: &[u8]) -> Result<Script, InputRefusal<'a>>
+// The script of the bytes of a file and the rules of its edits, where they are accepted.
+fn edits_in<'a>(alloc: Global, name: &'a str, bytes: &[u8]) -> Result<EditsFile, InputRefusal<'a>>
     requires { length bytes.now ≤ most_edits_bytes }
-    ensures ok { IfOk result (λ s. script_in_bytes name.now bytes.now ≡ Ok (script_view s)) }
-    ensures sound { IfOk result (λ s. IsTrue (list_all has_sound_actions s.edits.items)) }
-    ensures few_edits { IfOk result (λ s. length s.edits.items ≤ most_edits) }
-    ensures few_syncs { IfOk result (λ s. length s.syncs.items ≤ most_syncs) }
-    ensures in_order { IfOk result (λ s. AreInOrder s.syncs.items (length s.edits.items)) }
+    ensures ok { IfOk result (λ e. script_in_bytes name.now bytes.now ≡ Ok (script_view e.script)) }
+    ensures rules { IfOk result (λ e. e.rules ≡ history_of e.script.edits.items) }
+    ensures sound { IfOk result (λ e. IsTrue (list_all has_sound_actions e.script.edits.items)) }
+    ensures few_edits { IfOk result (λ e. length e.script.edits.items ≤ most_edits) }
+    ensures few_syncs { IfOk result (λ e. length e.script.syncs.items ≤ most_syncs) }
+    ensures in_order { IfOk result
+        (λ e. AreInOrder e.script.syncs.items (length e.script.edits.items)) }
     ensures err { IfErr result (Explains (script_in_bytes name.now bytes.now)) }
     ensures no_fault { IfErr result (λ r. IfReadFault r (λ _. ⊥)) }
 {
     let script = script_of(alloc, name, bytes)?;
-    limit_changes(alloc, &script)?;
-    Ok(script)
+    let rules = few_rules_of(alloc, &script)?;
+    Ok(EditsFile { script, rules })
 }
 
-/// Reads the file of edits.
+/// Reads the file of edits, and applies the edits.
 pub fn read_edits<'a, S: Shelf>(
     alloc: Global,
     shelf: &mut S,
     name: &'a str,
-) -> Result<Script, InputRefusal<'a>>
+) -> Result<EditsFile, InputRefusal<'a>>
     requires { S.in_use shelf.old ≡ Nothing }
     ensures in_use { OnOk result (S.in_use shelf.new ≡ Nothing) }
     ensures ok { IsTrue S.tells
-        → IfOk result (λ s. script_in (S.told shelf.old).holds name.now ≡ Ok (script_view s)) }
-    ensures sound { IfOk result (λ s. IsTrue (list_all has_sound_actions s.edits.items)) }
-    ensures few_edits { IfOk result (λ s. length s.edits.items ≤ most_edits) }
-    ensures few_syncs { IfOk result (λ s. length s.syncs.items ≤ most_syncs) }
-    ensures in_order { IfOk result (λ s. AreInOrder s.syncs.items (length s.edits.items)) }
+        → IfOk result (λ e. script_in (S.told shelf.old).holds name.now ≡ Ok (script_view e.script)) }
+    ensures rules { IfOk result (λ e. e.rules ≡ history_of e.script.edits.items) }
+    ensures sound { IfOk result (λ e. IsTrue (list_all has_sound_actions e.script.edits.items)) }
+    ensures few_edits { IfOk result (λ e. length e.script.edits.items ≤ most_edits) }
+    ensures few_syncs { IfOk result (λ e. length e.script.syncs.items ≤ most_syncs) }
+    ensures in_order { IfOk result
+        (λ e. AreInOrder e.script.syncs.items (length e.script.edits.items)) }
     ensures err { IsTrue S.tells → IfErr result (Explains (script_in (S.told shelf.old).holds name.now)) }
     ensures fault { IfErr result (λ r. IfReadFault r (λ n. n ≡ name.now)) }
     ensures named { IsTrue S.tells → IfErr result (λ r. IfReadFault r (λ n. (S.told shelf.new).last ≡ n)) }

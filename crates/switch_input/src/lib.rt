@@ -1,48 +1,59 @@
-//! What a run of the switch begins with: the words and the files that they name, read whole.
+//! What a run of the switch begins with: the words and what they name, read whole.
 //!
 //! # What?
 //!
-//! The words of the command line name a file of edits and a trace for each port, or none. `read_inputs` reads the words,
-//! then the edits and then the traces, from a shelf of files, up to the first that is refused.
+//! The words of the command line name a file of edits, perhaps a steps file, and a trace for each port, or none; or they
+//! have a number that makes edits and traces. `read_inputs` reads the words, then the edits, the steps and the traces, from
+//! a shelf of files, up to the first that is refused.
 //!
 //! # What is promised
 //!
 //! `spec_run` has the verdict on words and files: the run that they give, or their first refusal in the order of reading.
 //! Where the shelf tells its bytes, `read_inputs` answers just that.
 //!
-//! - What was read is what the verdict accepts: the command, the edits and the sync points, and a trace for each port. All
-//!   of it has the form that is built, and is within the limits. The actions of the edits are sound.
-//! - An input is refused only as the verdict refuses it: the words as a form that isn't built, the edits or a
-//!   trace by the name and the first fault, or a quantity as above its limit.
+//! - What was read is what the verdict accepts: the command, the edits and the sync points, the given steps, and a trace for
+//!   each port. All of it has the form that is built, and is within the limits. The actions of the edits are sound.
+//! - The rules of all versions that the edits make are handed on with it.
+//! - An input is refused only as the verdict refuses it: words that the program doesn't take, what they ask for and isn't
+//!   built by its name, the edits, the steps or a trace by the name and the first fault, or a quantity as above its limit.
 //! - The files that are opened are those that the verdict opens, each once and in its order: all of them, or those up to the
 //!   one at which reading failed, or, out of memory, a prefix. So none is opened after one that is refused.
+//! - Where a number makes what is read, the shelf isn't touched.
 //! - A read fault is told only where calls of reading failed, and of the file that was last asked for.
 //! - Nothing else is refused, unless memory runs out. Whatever the answer is, nothing is written, and all but a read fault
 //!   leave the counts of the shelf as they stood.
 //!
 //! # How
 //!
-//! Each stage of the verdict has a function whose contract is that stage: `read_command`, `read_edits`, and `read_traces`,
-//! which goes from port to port and gives each trace the room that those before it left. The whole is the chain of their
-//! answers, as the verdict is the chain of the stages. They meet the shelf in `read_file` alone. The bytes of a trace are
-//! read into the memory where they stay.
+//! Each stage of the verdict has a function whose contract is that stage: `read_command`, `read_edits`, `read_steps`, and
+//! `read_traces`, which goes from port to port and gives each trace the room that those before it left. The whole is the
+//! chain of their answers, as the verdict is the chain of the stages. They meet the shelf in `read_file` alone. The bytes of
+//! a trace are read into the memory where they stay.
 //!
-//! How many rules the edits change is limited, so they are applied here, one after the other, before a trace is read. The
-//! store that they make is given up then: whoever decides frames makes the tables of each version anew as it comes to it.
+//! What a number makes is put on a shelf in memory that never fails (`edge_memory`), and read from it by the same function
+//! as files. So whatever limits files limits that too, and it takes the memory for its bytes twice while it is read.
+//!
+//! How many rules the edits change is limited, so they are applied here, one after the other, before anything else is read.
+//! The store that they make is kept for whoever prints rules; whoever decides frames makes the tables of each version anew
+//! as it comes to it.
 //!
 //! # What is left to others
 //!
-//! Numbers to `text_numbers`, scripts to `edit_script`, what an edit does to `rule_tables`, capture files to `pcap_reader`,
-//! and all that touches the system to `edge_io`. What refusals are told as is for `switch_refusals`, and what becomes of
-//! the run for `switch_app`. No board is known here, so that reading and deciding are proved side by side.
+//! What the words say to `command_words`, scripts to `edit_script`, what an edit does to `rule_tables`, steps files to
+//! `step_script`, capture files to `pcap_reader`, what a number makes to `trace_gen`, and all that touches the system to
+//! `edge_io`. What refusals are told as is for `switch_refusals`, and what becomes of the run for `switch_app`. No board is
+//! known here, so that reading and deciding are proved side by side.
 #![tactic(auto)]
 
+mod command;
 mod edits;
 mod inputs;
+mod made;
 mod reading;
 mod rules;
-mod words;
+mod sources;
+mod steps;
 
+pub use command_words::{Command, Input, PortWord};
 pub use inputs::{Inputs, read_inputs};
 pub use switch_refusals::{InputFault, InputRefusal};
-pub use words::{Command, PortWord, ports_of};

@@ -4,11 +4,11 @@ ghost use Rattle.edge_io.specs.declared.outside.InUse.TheVariants.{Nothing};
 ghost use Rattle.edge_io.specs.ReadAll.{OnlyRead};
 ghost use Rattle.spec_run.specs.Limits.{most_trace_bytes, most_frames};
 ghost use Rattle.spec_run.specs.Verdict.{refused_trace, file_in, trace_in, traces_in, trace_names, traces_opened};
-ghost use Rattle.switch_input.specs.WordViews.{port_view, ports_view};
+ghost use Rattle.command_words.specs.PortViews.{port_view, ports_view};
 ghost use Rattle.switch_input.specs.InputViews.{trace_view};
 ghost use Rattle.switch_refusals.specs.Refused.{fault_view, IfInput, IfReadFault, Explains, HasReadCause, OpensInTurn};
 
-use crate::words::PortWord;
+use command_words::PortWord;
 use edge_io::{ReadFault, Shelf, read_all};
 use pcap_reader::{PcapFault, Trace, read_trace};
 use spec_run::Quantity;

@@ -1,14 +1,21 @@
 -- The files of a run, one after the other, as they are written.
-use Rattle.std.proofs.Common.{◌≡◌, ℕ, zero, suc, ◌+◌, ◌<◌, List, [], ◌∷◌, ◌++◌, length, get_or, take, map, Some, refl, sym, ap, ◌∙◌, append_assoc}
-use Rattle.std.specs.Prelude.{Result, Ok, Err, OnOk, OnErr, IfErr, slice_get}
-use Rattle.std.proofs.lemmas.List.{take_more, map_push, length-map}
+use Rattle.std.proofs.Common.{◌≡◌, ℕ, zero, suc, ◌+◌, ◌<◌, List, [], ◌∷◌, ◌++◌, length, get_or, take, map, Some, refl, sym, ap, ◌∙◌, append_assoc, inl, arith}
+use Rattle.std.specs.Prelude.{Result, Ok, Err, String, string_bytes, slice_get}
+use Rattle.std.proofs.lemmas.List.{take_more, map_push, length-map, append-nil}
 use Rattle.std.proofs.lemmas.Option.{slice_get-get_or}
 use Rattle.std.proofs.Math.ListN.{get_or-map}
+use Rattle.std.specs.declared.alloc.Global.{Global}
 use Rattle.spec_base.specs.Files.{File, IsPrefixOf}
 use Rattle.spec_run.specs.CutShort.{IsCutShort}
-use Rattle.edge_io.specs.Shelf.{Told, kept}
+use Rattle.edge_io.specs.Shelf.{Told}
 use Rattle.switch_output.specs.declared.refusal.WriteRefusal.{WriteRefusal}
-use Rattle.switch_output.specs.Refused.{IfWriteFault, IsCutIn}
+use Rattle.edge_io.specs.declared.outside.Shelf as shelf
+use Rattle.edge_io.specs.declared.outside.Failed.{Failed}
+use Rattle.edge_io.specs.declared.outside.Failed.TheVariants as failed
+use Rattle.edge_io.specs.declared.outside.InUse.TheVariants.{Nothing}
+use Rattle.edge_io.specs.Written.{WritesFile}
+use Rattle.switch_output.specs.declared.refusal.WriteRefusal.TheVariants.{OutOfMemory}
+use Rattle.switch_output.specs.Refused.{write_refusal, IfWriteFault, IsCutIn, WritesInTurn}
 
 pub files_more : (file : ℕ → File) (ports : List ℕ) (i : ℕ) (done before now : List File) → i < length ports
     → before ≡ done ++ map file (take i ports) → now ≡ before ++ file (get_or ports i 0) ∷ [] → now ≡ done ++ map file (take (i + 1) ports)
@@ -33,7 +40,7 @@ cut_here file ports i done before now lt so_far prefix =
       prefix = rw (firsts, ← so_far) prefix;
     }
 
--- ---- one file more, after these
+-- ---- more files, after these
 
 nothing-at : (i : ℕ) (f : File) → slice_get {X = File} [] i ≡ Some f → ⊥
 nothing-at zero f e = cc e
@@ -58,20 +65,24 @@ cut_before files more file done now cut = record {
   prefix = rw (take-first files cut.whole more file cut.next) cut.prefix;
 }
 
-take-whole : (files : List File) (more : List File) → take (length files) (files ++ more) ≡ files
-take-whole [] more = refl
-take-whole (x ∷ files) more = ap (λ ys. x ∷ ys) (take-whole files more)
+get-after : (files more : List File) (i : ℕ) → slice_get (files ++ more) (length files + i) ≡ slice_get more i
+get-after [] more i = let e : 0 + i ≡ i = omega arith in ap (λ n. slice_get more n) e
+get-after (x ∷ files) more i =
+    let e : length (x ∷ files) + i ≡ suc (length files + i) = omega arith in
+    ap (λ n. slice_get (x ∷ files ++ more) n) e ∙ get-after files more i
 
-get-after : (files : List File) (f : File) → slice_get (files ++ f ∷ []) (length files) ≡ Some f
-get-after [] f = refl
-get-after (x ∷ files) f = get-after files f
+take-after : (files more : List File) (i : ℕ) → take (length files + i) (files ++ more) ≡ files ++ take i more
+take-after [] more i = let e : 0 + i ≡ i = omega arith in ap (λ n. take n more) e
+take-after (x ∷ files) more i =
+    let e : length (x ∷ files) + i ≡ suc (length files + i) = omega arith in
+    ap (λ n. take n (x ∷ files ++ more)) e ∙ ap (λ ys. x ∷ ys) (take-after files more i)
 
--- the last file is cut short where the others are whole
-cut_last : (files : List File) (file : File) (done before now : List File) → before ≡ done ++ files → IsPrefixOf before file now → IsCutShort (files ++ file ∷ []) file done now
-cut_last files file done before now whole prefix = record {
-  whole = length files;
-  next = get-after files file;
-  prefix = rw (take-whole files (file ∷ []), ← whole) prefix;
+-- what is cut short among the later files is so among all, where the others are whole
+cut_after : (files more : List File) (file : File) (done now : List File) → IsCutShort more file (done ++ files) now → IsCutShort (files ++ more) file done now
+cut_after files more file done now cut = record {
+  whole = length files + cut.whole;
+  next = get-after files more cut.whole ∙ cut.next;
+  prefix = rw (take-after files more cut.whole, ← append_assoc done files (take cut.whole more)) cut.prefix;
 }
 
 -- ---- what a refusal says of it
@@ -82,16 +93,83 @@ pub cut_in_at : (file : ℕ → File) (ports all : List ℕ) (i : ℕ) (done bef
 cut_in_at file ports all i done before now r same lt so_far prefix named =
     rw (← same) (record { file = file (get_or ports i 0); cut = cut_here file ports i done before now lt so_far prefix; named = named })
 
-pub cut_in_first : (files : List File) (last : File) (done now : List File) (r : WriteRefusal) → IsCutIn files done now r → IsCutIn (files ++ last ∷ []) done now r
-cut_in_first files last done now r cut = record { file = cut.file; cut = cut_before files (last ∷ []) cut.file done now cut.cut; named = cut.named }
+cut_in_first : (files more : List File) (done now : List File) (r : WriteRefusal) → IsCutIn files done now r → IsCutIn (files ++ more) done now r
+cut_in_first files more done now r cut = record { file = cut.file; cut = cut_before files more cut.file done now cut.cut; named = cut.named }
 
-pub cut_in_last : {T : Type 0} (files : List File) (last : File) (done before now : List File) (result : Result T WriteRefusal) → before ≡ done ++ files
-    → OnErr result (IsPrefixOf before last now) → IfErr result (λ r. IfWriteFault r (λ name. name ≡ last.0)) → IfErr result (IsCutIn (files ++ last ∷ []) done now)
-cut_in_last files last done before now (Ok a) whole prefix named = tt
-cut_in_last files last done before now (Err r) whole prefix named = record { file = last; cut = cut_last files last done before now whole prefix; named = named }
+cut_in_later : (files more : List File) (done before now : List File) (r : WriteRefusal) → before ≡ done ++ files → IsCutIn more before now r → IsCutIn (files ++ more) done now r
+cut_in_later files more done before now r whole cut =
+    record { file = cut.file; cut = cut_after files more cut.file done now (rw (← whole) cut.cut); named = cut.named }
 
-pub last_whole : {T : Type 0} (files : List File) (last : File) (old mid new : Told) (result : Result T WriteRefusal) → mid.done ≡ old.done ++ files
-    → OnOk result (new ≡ kept mid last) → OnOk result (new.done ≡ old.done ++ (files ++ last ∷ []))
-last_whole files last old mid new (Err r) whole made = tt
-last_whole files last old mid new (Ok a) whole made =
-    ap (λ (w : Told). w.done) made ∙ ap (λ fs. fs ++ last ∷ []) whole ∙ append_assoc old.done files (last ∷ [])
+-- ---- files in turn
+
+module _ {S : Type 0} (g : shelf.Ghosts S) where
+  -- those after the one at which writing stopped don't matter
+  pub stopped_in_turn : {T U : Type 0} (old new : S) (files more : List File) (r : WriteRefusal) → WritesInTurn g old new {T = T} files (Err r)
+      → WritesInTurn g old new {T = U} (files ++ more) (Err r)
+  stopped_in_turn old new files more r w = record {
+    in_use = tt;
+    ok = λ t. tt;
+    err = λ t. cut_in_first files more _ _ r (w.err t);
+    named = w.named;
+    opened = w.opened;
+    counts = tt;
+    cause = w.cause;
+  }
+
+  -- more files after those that are whole
+  pub then_in_turn : {T U : Type 0} (old mid new : S) (files more : List File) (a : T) (result : Result U WriteRefusal)
+      → WritesInTurn g old mid files (Ok a) → WritesInTurn g mid new more result → WritesInTurn g old new (files ++ more) result
+  then_in_turn old mid new files more a (Ok b) first w = record {
+    in_use = w.in_use;
+    ok = λ t. w.ok t ∙ ap (λ done. done ++ more) (first.ok t) ∙ append_assoc (g.told old).done files more;
+    err = λ t. tt;
+    named = λ t. tt;
+    opened = λ t. w.opened t ∙ first.opened t;
+    counts = w.counts ∙ first.counts;
+    cause = tt;
+  }
+  then_in_turn old mid new files more a (Err r) first w = record {
+    in_use = tt;
+    ok = λ t. tt;
+    err = λ t. cut_in_later files more _ _ _ r (first.ok t) (w.err t);
+    named = w.named;
+    opened = λ t. w.opened t ∙ first.opened t;
+    counts = tt;
+    cause = rw (← first.counts) w.cause;
+  }
+
+  -- ---- one file, by what was done
+
+  -- none of these is written where there is no memory for a name
+  pub unwritten_in_turn : {T : Type 0} (now : S) (file : File) (more : List File) → g.in_use now ≡ Nothing → WritesInTurn g now now {T = T} (file ∷ more) (Err OutOfMemory)
+  unwritten_in_turn now file more none = record {
+    in_use = tt;
+    ok = λ t. tt;
+    err = λ t. record { file = file; cut = record { whole = 0; next = refl; prefix = rw (append-nil (g.told now).done, none) (inl refl) }; named = tt };
+    named = λ t. tt;
+    opened = λ t. refl;
+    counts = tt;
+    cause = refl;
+  }
+
+  -- one that is refused is cut short
+  pub refused_in_turn : {T U : Type 0} (old new : S) (name : String Global) (given out text : List ℕ) (f : Failed) → given ≡ string_bytes name → string_bytes name ≡ out
+      → WritesFile g old new {T = T} (given, text) (Err f) → WritesInTurn g old new {T = U} ((out, text) ∷ []) (Err (write_refusal name f))
+  refused_in_turn old new name given out text failed.Fault lent same w = let e : given ≡ out = lent ∙ same in rw (← e) (record {
+    in_use = tt;
+    ok = λ t. tt;
+    err = λ t. record { file = (given, text); cut = record { whole = 0; next = refl; prefix = rw (append-nil (g.told old).done) (w.err t) }; named = sym lent };
+    named = λ t. w.named t refl ∙ lent;
+    opened = w.opened;
+    counts = tt;
+    cause = w.cause.fault refl;
+  })
+  refused_in_turn old new name given out text failed.OutOfMemory lent same w = let e : given ≡ out = lent ∙ same in rw (← e) (record {
+    in_use = tt;
+    ok = λ t. tt;
+    err = λ t. record { file = (given, text); cut = record { whole = 0; next = refl; prefix = rw (append-nil (g.told old).done) (w.err t) }; named = tt };
+    named = λ t. tt;
+    opened = w.opened;
+    counts = tt;
+    cause = w.cause.no_memory refl;
+  })

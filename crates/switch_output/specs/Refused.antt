@@ -1,7 +1,10 @@
 -- What a refusal in writing says, and when it may come.
-use Rattle.std.specs.Prelude.{◌≡◌, ℕ, List, ◌++◌, Result, IsTrue, OnOk, OnErr, IfErr, string_bytes}
+use Rattle.std.specs.Prelude.{◌≡◌, ℕ, List, ◌++◌, Result, IsTrue, OnOk, OnErr, IfErr, String, string_bytes}
+use Rattle.std.specs.declared.alloc.Global.{Global}
 use Rattle.spec_base.specs.Files.{File, IsPrefixOf}
 use Rattle.spec_run.specs.CutShort.{IsCutShort}
+use Rattle.edge_io.specs.declared.outside.Failed.{Failed}
+use Rattle.edge_io.specs.declared.outside.Failed.TheVariants as failed
 use Rattle.edge_io.specs.declared.outside.InUse.TheVariants.{Nothing}
 use Rattle.edge_io.specs.declared.outside.Shelf as shelf
 use Rattle.edge_io.specs.Counts.{Counts, with_write_fault}
@@ -9,6 +12,11 @@ use Rattle.edge_io.specs.Shelf.{kept}
 use Rattle.edge_io.specs.Written.{written}
 use Rattle.switch_output.specs.declared.refusal.WriteRefusal.{WriteRefusal}
 use Rattle.switch_output.specs.declared.refusal.WriteRefusal.TheVariants.{WriteFault, OutOfMemory}
+
+-- what a refusal in writing the file of a name is
+abbrev pub write_refusal : String Global → Failed → WriteRefusal
+write_refusal name failed.Fault = WriteFault name
+write_refusal name failed.OutOfMemory = OutOfMemory
 
 -- This holds of the file's name, where it tells that writing failed.
 abbrev pub IfWriteFault : WriteRefusal → (List ℕ → Type 0) → Type 0

@@ -1,6 +1,8 @@
 ghost use Rattle.std.specs.Prelude.{◌≡◌};
 ghost use Rattle.switch_output.specs.declared.refusal.WriteRefusal.TheVariants.{OutOfMemory};
+ghost use Rattle.switch_output.specs.declared.refusal.OutputRefusal.TheVariants.{Files, Summary};
 
+use edge_io::Failed;
 use std::alloc::{AllocError, AllocFailed};
 
 /// Why the files of a run were not written.
@@ -24,5 +26,38 @@ impl<T: Drop> From<AllocFailed<T>> for WriteRefusal {
 
     fn from(_: AllocFailed<T>) -> Self {
         WriteRefusal::OutOfMemory
+    }
+}
+
+/// Why it was not told whole what became of a run that was decided.
+#[derive(Debug, Drop)]
+pub enum OutputRefusal {
+    /// Its files were not written.
+    Files(WriteRefusal),
+    /// They were, and its summary was not printed.
+    Summary(Failed),
+}
+
+impl From<WriteRefusal> for OutputRefusal {
+    ghost from_gives = { λ r e. e ≡ Files r };
+
+    fn from(refusal: WriteRefusal) -> Self {
+        OutputRefusal::Files(refusal)
+    }
+}
+
+impl From<Failed> for OutputRefusal {
+    ghost from_gives = { λ f e. e ≡ Summary f };
+
+    fn from(failed: Failed) -> Self {
+        OutputRefusal::Summary(failed)
+    }
+}
+
+impl From<AllocError> for OutputRefusal {
+    ghost from_gives = { λ _ e. e ≡ Files OutOfMemory };
+
+    fn from(_: AllocError) -> Self {
+        OutputRefusal::Files(WriteRefusal::OutOfMemory)
     }
 }

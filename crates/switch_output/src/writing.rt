@@ -1,14 +1,19 @@
-ghost use Rattle.std.specs.Prelude.{◌≡◌, ◌++◌, map, IfOk, string_bytes, codes};
+ghost use Rattle.std.specs.Prelude.{◌≡◌, [], ◌∷◌, ◌++◌, map, IsTrue, IfOk, string_bytes};
+ghost use Rattle.std.specs.List.{list_all};
+ghost use Rattle.spec_tables.specs.Edits.{has_sound_actions};
 ghost use Rattle.spec_case.specs.Arrivals.{in_order, arrivals as came_in};
-ghost use Rattle.spec_run.specs.Outputs.{port_file_name, port_file, journal_file, files_of};
+ghost use Rattle.spec_run.specs.Outputs.{port_file_name, port_file, rules_file, megaflows_file, journal_file, files_of, output_of};
+ghost use Rattle.rule_tables.specs.History.{history_of};
 ghost use Rattle.edge_io.specs.declared.outside.InUse.TheVariants.{Nothing};
 ghost use Rattle.egress_capture.specs.Filters.{AreFilters};
-ghost use Rattle.switch_output.specs.Refused.{WritesOne, WritesInTurn};
+ghost use Rattle.switch_output.specs.Refused.{write_refusal, WritesOne, WritesInTurn};
+ghost use Rattle.switch_output.specs.Put.{name_in};
 
 use crate::refusal::WriteRefusal;
 use edge_io::{Failed, Shelf};
 use egress_capture::{PortFilter, filters_of, write_port};
-use flow_dump::write_journals;
+use flow_dump::{write_journals, write_megaflows, write_rules};
+use rule_tables::VersionedRules;
 use run_case::{Case, RunData};
 use std::alloc::{AllocError, Global};
 use step_runner::Finished;
@@ -17,12 +22,6 @@ fn port_file_name(alloc: Global, out: &str, port: u16) -> Result<String, AllocEr
     ensures { IfOk result (λ name. string_bytes name ≡ port_file_name out.now port) }
 {
     format!(in alloc; "{out}.p{port}.pcap")
-}
-
-fn journal_file_name(alloc: Global, out: &str) -> Result<String, AllocError>
-    ensures { IfOk result (λ name. string_bytes name ≡ out.now ++ codes ".journal") }
-{
-    format!(in alloc; "{out}.journal")
 }
 
 // Writes the file of a port.
@@ -43,8 +42,7 @@ fn write_port_file<C: Case, S: Shelf>(
     let name = port_file_name(alloc, out, port)?;
     match write_port(alloc, shelf, name.as_str(), port, run, finished, filters) {
         Ok(()) => Ok(()),
-        Err(Failed::Fault) => Err(WriteRefusal::WriteFault { name }),
-        Err(Failed::OutOfMemory) => Err(WriteRefusal::OutOfMemory),
+        Err(failed) => Err(refused(name, failed)),
     }
 }
 
@@ -71,6 +69,63 @@ fn write_port_files<C: Case, S: Shelf>(
     Ok(())
 }
 
+// The name of a dump: the begin of the names, and its end.
+fn dump_name(alloc: Global, out: &str, end: &str) -> Result<String, AllocError>
+    ensures { IfOk result (λ name. string_bytes name ≡ out.now ++ end.now) }
+{
+    format!(in alloc; "{out}{end}")
+}
+
+// What a refusal in writing the file of this name is.
+fn refused(name: String, failed: Failed) -> WriteRefusal
+    ensures { result ≡ write_refusal name failed }
+{
+    match failed {
+        Failed::Fault => WriteRefusal::WriteFault { name },
+        Failed::OutOfMemory => WriteRefusal::OutOfMemory,
+    }
+}
+
+// Writes the dump of rules.
+fn write_rules_file<C: Case, S: Shelf>(
+    alloc: Global,
+    shelf: &mut S,
+    out: &str,
+    run: &RunData<C>,
+    rules: &VersionedRules,
+    finished: &Finished<C>,
+) -> Result<(), WriteRefusal>
+    requires in_use { S.in_use shelf.old ≡ Nothing }
+    requires edits { rules.now ≡ history_of C.run.edits }
+    requires sound { IsTrue (list_all has_sound_actions C.run.edits) }
+    ensures { let files = rules_file out.now C.run finished.now ∷ [] in
+        WritesInTurn S.Shelf shelf.old shelf.new files result }
+{
+    let name = dump_name(alloc, out, ".rules")?;
+    match write_rules(alloc, shelf, name.as_str(), run, rules, finished) {
+        Ok(()) => Ok(()),
+        Err(failed) => Err(refused(name, failed)),
+    }
+}
+
+// Writes the dump of megaflows.
+fn write_megaflows_file<C: Case, S: Shelf>(
+    alloc: Global,
+    shelf: &mut S,
+    out: &str,
+    finished: &Finished<C>,
+) -> Result<(), WriteRefusal>
+    requires { S.in_use shelf.old ≡ Nothing }
+    ensures { let files = megaflows_file out.now C.run finished.now ∷ [] in
+        WritesInTurn S.Shelf shelf.old shelf.new files result }
+{
+    let name = dump_name(alloc, out, ".megaflows")?;
+    match write_megaflows(alloc, shelf, name.as_str(), finished) {
+        Ok(()) => Ok(()),
+        Err(failed) => Err(refused(name, failed)),
+    }
+}
+
 // Writes the file of the journals.
 fn write_journal_file<C: Case, S: Shelf>(
     alloc: Global,
@@ -79,29 +134,54 @@ fn write_journal_file<C: Case, S: Shelf>(
     finished: &Finished<C>,
 ) -> Result<(), WriteRefusal>
     requires { S.in_use shelf.old ≡ Nothing }
-    ensures { let file = journal_file out.now finished.now in
-        WritesOne S.Shelf shelf.old shelf.new file result }
+    ensures { let files = journal_file out.now finished.now ∷ [] in
+        WritesInTurn S.Shelf shelf.old shelf.new files result }
 {
-    let name = journal_file_name(alloc, out)?;
+    let name = dump_name(alloc, out, ".journal")?;
     match write_journals(alloc, shelf, name.as_str(), finished) {
         Ok(()) => Ok(()),
-        Err(Failed::Fault) => Err(WriteRefusal::WriteFault { name }),
-        Err(Failed::OutOfMemory) => Err(WriteRefusal::OutOfMemory),
+        Err(failed) => Err(refused(name, failed)),
     }
 }
 
-/// Writes the files of all ports, in the order of the words, and then the journals of their boards.
-pub fn write_files<C: Case, S: Shelf>(
+// Writes the files of all ports, in the order of the words, and then the dumps.
+fn write_files<C: Case, S: Shelf>(
     alloc: Global,
     shelf: &mut S,
     out: &str,
     run: &RunData<C>,
+    rules: &VersionedRules,
     finished: &Finished<C>,
 ) -> Result<(), WriteRefusal>
     requires in_use { S.in_use shelf.old ≡ Nothing }
+    requires edits { rules.now ≡ history_of C.run.edits }
+    requires sound { IsTrue (list_all has_sound_actions C.run.edits) }
     ensures { let files = files_of out.now C.run finished.now in
         WritesInTurn S.Shelf shelf.old shelf.new files result }
 {
     write_port_files(alloc, shelf, out, run, finished)?;
+    write_rules_file(alloc, shelf, out, run, rules, finished)?;
+    write_megaflows_file(alloc, shelf, out, finished)?;
     write_journal_file(alloc, shelf, out, finished)
+}
+
+/// Writes what a run writes: where it has a name, the files of its ports and its dumps.
+pub(crate) fn write_out<C: Case, S: Shelf>(
+    alloc: Global,
+    shelf: &mut S,
+    out: Option<&str>,
+    run: &RunData<C>,
+    rules: &VersionedRules,
+    finished: &Finished<C>,
+) -> Result<(), WriteRefusal>
+    requires in_use { S.in_use shelf.old ≡ Nothing }
+    requires edits { rules.now ≡ history_of C.run.edits }
+    requires sound { IsTrue (list_all has_sound_actions C.run.edits) }
+    ensures { let files = output_of (name_in out.entry) C.run finished.now in
+        WritesInTurn S.Shelf shelf.old shelf.new files result }
+{
+    match out {
+        Some(out) => write_files(alloc, shelf, out, run, rules, finished),
+        None => Ok(()),
+    }
 }

@@ -7,17 +7,23 @@ use spec_run::Quantity;
 /// The most bytes of the file of edits: 32 MiB.
 pub const MOST_EDITS_BYTES: usize = 33_554_432;
 
-/// The most bytes of a line of the file of edits, without its line feed.
+/// The most bytes of the steps file: 4 MiB.
+pub const MOST_STEPS_BYTES: usize = 4_194_304;
+
+/// The most bytes of a line of the file of edits or of the steps file, without its line feed.
 const MOST_LINE_BYTES: usize = 4_096;
 
-/// The most edits of the file.
+/// The most edits of their file.
 const MOST_EDITS: usize = 32_768;
 
-/// The most sync lines of the file.
+/// The most sync lines of that file.
 const MOST_SYNCS: usize = 63;
 
 /// The most actions of a flow.
 const MOST_ACTIONS: usize = 64;
+
+/// The most steps of their file.
+const MOST_STEPS: usize = 131_072;
 
 /// The most rules that all edits together add, give actions to and remove.
 pub const MOST_CHANGES: u64 = 1_048_576;
@@ -34,10 +40,12 @@ pub(crate) fn limit_of(quantity: Quantity) -> usize
 {
     match quantity {
         Quantity::EditsBytes => MOST_EDITS_BYTES,
+        Quantity::StepsBytes => MOST_STEPS_BYTES,
         Quantity::Line => MOST_LINE_BYTES,
         Quantity::Edits => MOST_EDITS,
         Quantity::Syncs => MOST_SYNCS,
         Quantity::Actions => MOST_ACTIONS,
+        Quantity::Steps => MOST_STEPS,
         Quantity::Changes => MOST_CHANGES as usize,
         Quantity::TraceBytes => MOST_TRACE_BYTES,
         Quantity::Frames => MOST_FRAMES,
@@ -50,10 +58,12 @@ pub(crate) fn quantity_name(quantity: Quantity) -> &'static str
 {
     match quantity {
         Quantity::EditsBytes => "edits-bytes",
+        Quantity::StepsBytes => "steps-bytes",
         Quantity::Line => "line",
         Quantity::Edits => "edits",
         Quantity::Syncs => "syncs",
         Quantity::Actions => "actions",
+        Quantity::Steps => "steps",
         Quantity::Changes => "changes",
         Quantity::TraceBytes => "trace-bytes",
         Quantity::Frames => "frames",

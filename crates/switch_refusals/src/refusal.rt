@@ -4,15 +4,20 @@ ghost use Rattle.switch_refusals.specs.declared.refusal.InputRefusal.TheVariants
 use spec_pcap::PcapFault;
 use spec_run::Quantity;
 use spec_script::ScriptFault;
+use spec_steps::StepsFault;
 use std::alloc::{AllocError, AllocFailed};
 
 /// What is wrong with an input. Names are those of the words.
 #[derive(Clone, Copy, Debug)]
 pub enum InputFault<'a> {
-    /// It has a form that isn't built.
+    /// The words are none that the program takes.
+    Usage,
+    /// The words ask for something, by this name, that isn't built.
     NotBuilt { what: &'a str },
     /// The file of edits has a line that is wrong.
     Text { name: &'a str, fault: ScriptFault },
+    /// The steps file has a line that is wrong.
+    Steps { name: &'a str, fault: StepsFault },
     /// A trace is no capture file that is read.
     Trace { name: &'a str, fault: PcapFault },
     /// A quantity is above its limit.

@@ -1,7 +1,7 @@
 //! The texts of refusals. They are printed piece by piece, so that none takes memory.
 ghost use Rattle.std.specs.Prelude.{◌≡◌, ◌++◌, IsTrue, codes};
 ghost use Rattle.std.specs.Fmt.{decimal};
-ghost use Rattle.spec_run.specs.Statuses.{Prints, line_reason, column_of, place_text, script_text, trace_text, limit_text, text_of as refusal_text, write_fault_text, out_of_memory_text};
+ghost use Rattle.spec_run.specs.Statuses.{Prints, line_reason, column_of, place_text, script_text, steps_text, trace_text, limit_text, text_of as refusal_text, usage_text, write_fault_text, out_of_memory_text};
 ghost use Rattle.switch_refusals.specs.Refused.{fault_view};
 ghost use Rattle.switch_refusals.specs.Pieces.{joined};
 ghost use Rattle.switch_refusals.specs.Texts.{input_text};
@@ -14,6 +14,7 @@ use spec_flow_text::TextFault;
 use spec_pcap::PcapFault;
 use spec_run::Quantity;
 use spec_script::ScriptFault;
+use spec_steps::StepsFault;
 
 // Prints texts, one after the other, up to the first at which the sink fails.
 fn say_pieces<K: Sink>(say: &mut K, pieces: &[&str])
@@ -138,14 +139,21 @@ fn say_place<K: Sink>(say: &mut K, name: &str, line: u32, column: u32, reason: &
     say_pieces(say, &pieces);
 }
 
+// Prints what is wrong with a line of text, and where.
+fn say_line<K: Sink>(say: &mut K, name: &str, line: u32, why: TextFault)
+    ensures { IsTrue K.tells
+        → Prints K.needs_memory (K.faults say.old) (K.faults say.new) (K.written say.old) (K.written say.new)
+        (place_text name.now line (column_of why) (line_reason why)) }
+{
+    say_place(say, name, line, column_of(why), line_reason(why));
+}
+
 fn say_script<K: Sink>(say: &mut K, name: &str, fault: ScriptFault)
     ensures { IsTrue K.tells → Prints K.needs_memory (K.faults say.old) (K.faults say.new) (K.written say.old)
         (K.written say.new) (script_text name.now fault) }
 {
     match fault {
-        ScriptFault::Line { line, why } => {
-            say_place(say, name, line, column_of(why), line_reason(why));
-        }
+        ScriptFault::Line { line, why } => say_line(say, name, line, why),
         ScriptFault::SyncOrder { line } => say_place(say, name, line, 1, "sync order"),
         ScriptFault::LineTooLong => say_limit(say, Quantity::Line),
         ScriptFault::TooManyEdits => say_limit(say, Quantity::Edits),
@@ -154,13 +162,39 @@ fn say_script<K: Sink>(say: &mut K, name: &str, fault: ScriptFault)
     }
 }
 
+fn say_steps<K: Sink>(say: &mut K, name: &str, fault: StepsFault)
+    ensures { IsTrue K.tells → Prints K.needs_memory (K.faults say.old) (K.faults say.new) (K.written say.old)
+        (K.written say.new) (steps_text name.now fault) }
+{
+    match fault {
+        StepsFault::Line { line, why } => say_line(say, name, line, why),
+        StepsFault::LineTooLong => say_limit(say, Quantity::Line),
+        StepsFault::TooManySteps => say_limit(say, Quantity::Steps),
+        StepsFault::OutOfMemory => say_out_of_memory(say),
+    }
+}
+
+// Prints which words the program takes.
+fn say_usage<K: Sink>(say: &mut K)
+    ensures { IsTrue K.tells → Prints K.needs_memory (K.faults say.old) (K.faults say.new)
+        (K.written say.old) (K.written say.new) usage_text }
+{
+    let pieces = [
+        "usage: megaswitch [--workers N] [--steps FILE] [--flow-limit N] ",
+        "EDITS OUT PORT=FILE...\n",
+    ];
+    say_pieces(say, &pieces);
+}
+
 fn say_fault<K: Sink>(say: &mut K, fault: &InputFault<'_>)
     ensures { IsTrue K.tells → Prints K.needs_memory (K.faults say.old) (K.faults say.new) (K.written say.old)
         (K.written say.new) (refusal_text (fault_view fault.now)) }
 {
     match fault {
+        InputFault::Usage => say_usage(say),
         InputFault::NotBuilt { what } => say_pieces(say, &["not built: ", what, "\n"]),
         InputFault::Text { name, fault } => say_script(say, name, *fault),
+        InputFault::Steps { name, fault } => say_steps(say, name, *fault),
         InputFault::Trace { name, fault } => say_trace(say, name, *fault),
         InputFault::Limit(quantity) => say_limit(say, *quantity),
     }

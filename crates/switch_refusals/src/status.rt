@@ -7,7 +7,10 @@ use crate::refusal::{InputFault, InputRefusal};
 /// All was done.
 pub const DONE: u8 = 0;
 
-/// The file of edits is wrong.
+/// The words are none that the program takes.
+pub const USAGE: u8 = 2;
+
+/// The file of edits or the steps file is wrong.
 pub const TEXT: u8 = 3;
 
 /// A trace is no capture file that is read.
@@ -25,7 +28,7 @@ pub const LIMIT: u8 = 7;
 /// Memory ran out.
 pub const OUT_OF_MEMORY: u8 = 8;
 
-/// A form isn't built.
+/// Something that the words ask for isn't built.
 pub const NOT_BUILT: u8 = 9;
 
 /// The exit status where the words and the files were not read.
@@ -33,8 +36,9 @@ pub fn input_status(refusal: &InputRefusal<'_>) -> u8
     ensures { result ≡ input_status refusal.now }
 {
     match refusal {
+        InputRefusal::Input(InputFault::Usage) => USAGE,
         InputRefusal::Input(InputFault::NotBuilt { .. }) => NOT_BUILT,
-        InputRefusal::Input(InputFault::Text { .. }) => TEXT,
+        InputRefusal::Input(InputFault::Text { .. } | InputFault::Steps { .. }) => TEXT,
         InputRefusal::Input(InputFault::Trace { .. }) => TRACE,
         InputRefusal::Input(InputFault::Limit(_)) => LIMIT,
         InputRefusal::ReadFault { .. } => READ_FAULT,

@@ -1,270 +1,195 @@
-//! Runs with one frame that comes in by port 1, and what goes out of it at each port.
+//! Runs that show how frames are rewritten.
 
-/// A frame of port 1, edits, and what they send.
-pub struct Rewrite {
-    pub shows: &'static str,
-    pub edits: &'static str,
-    /// The frame in hexadecimal digits, header by header.
-    pub frame: &'static [&'static str],
-    pub sent: &'static [Sent],
-}
+use crate::cases::{Bytes, NO_FRAMES, Run, THREE_PORTS, WORDS};
+use crate::headers::{
+    FIRST_FRAGMENT, FROM_9, IPV4, TAG_5, TO_2, TTL_1, TTL_63, TTL_64, UDP, UNKNOWN,
+};
 
-/// A frame that goes out, in hexadecimal digits.
-pub struct Sent {
-    pub port: u8,
-    pub frame: &'static [&'static str],
-    pub times: usize,
-}
-
-// The addresses of Ethernet: from 00:00:00:00:00:01 to 00:00:00:00:00:02.
-const TO_2: &str = "000000000002000000000001";
-
-// The same, to 00:00:00:00:00:07.
-const TO_7: &str = "000000000007000000000001";
-
-// A payload of 46 bytes of a type that no field tells.
-const UNKNOWN: &str =
-    "88b50000000000000000000000000000000000000000000000000000000000000000000000000000000000000000000000";
-
-const IPV4: &str = "0800";
-
-// A header of IPv4 from 10.0.0.1 to 10.0.0.2 for UDP, with TTL 64.
-const TTL_64: &str = "4500001c00000000401166cf0a0000010a000002";
-
-const TTL_63: &str = "4500001c000000003f1167cf0a0000010a000002";
-
-const TTL_65: &str = "4500001c00000000411165cf0a0000010a000002";
-
-const TTL_1: &str = "4500001c000000000111a5cf0a0000010a000002";
-
-// The same from 10.0.0.9.
-const FROM_9: &str = "4500001c00000000401166c70a0000090a000002";
-
-// The first fragment of a datagram.
-const FIRST_FRAGMENT: &str = "4500001c00002000401146cf0a0000010a000002";
-
-// From port 1000 to 53, without a checksum.
-const UDP: &str = "03e8003500080000";
-
-// A segment of TCP from 10.0.0.5, port 40000, to port 80 of 192.0.2.7, with its checksum.
-const TO_WEB: &str = "45000028000000004006aec40a000005c0000207";
-
-const TO_WEB_LOWERED: &str = "45000028000000003f06afc40a000005c0000207";
-
-const TCP: &str = "9c40005000000001000000005002200027450000";
-
-// Tables that classify by address, lower the TTL, and choose a port by registers.
-const WEB: &str = "table=0,priority=100,arp,actions=flood
-table=0,priority=90,in_port=1,actions=load:1->reg0[],resubmit(,1)
-table=0,priority=0,actions=drop
-table=1,priority=50,ip,nw_dst=10.0.0.0/24,actions=load:1->reg1[],resubmit(,2)
-table=1,priority=40,ip,nw_dst=192.0.2.0/24,actions=dec_ttl,load:2->reg1[],resubmit(,2)
-table=1,priority=0,actions=drop
-table=2,priority=80,tcp,reg1=2,tp_dst=80,actions=output:reg1[0..15]
-table=2,priority=80,tcp,reg1=2,tp_dst=443,actions=output:3
-table=2,priority=0,actions=drop
-";
-
-// 1 lookup, 7 that it leads to, 8 that each of these leads to, and 8 that each of those leads to: 512.
-const LOOKUPS: &str =
-    "actions=resubmit(,1),resubmit(,1),resubmit(,1),resubmit(,1),resubmit(,1),resubmit(,1),resubmit(,1),2
-table=1,actions=resubmit(,2),resubmit(,2),resubmit(,2),resubmit(,2),resubmit(,2),resubmit(,2),resubmit(,2),resubmit(,2)
-table=2,actions=resubmit(,3),resubmit(,3),resubmit(,3),resubmit(,3),resubmit(,3),resubmit(,3),resubmit(,3),resubmit(,3)
-";
-
-const ONE_LOOKUP_MORE: &str =
-    "actions=resubmit(,3),resubmit(,1),resubmit(,1),resubmit(,1),resubmit(,1),resubmit(,1),resubmit(,1),resubmit(,1),2
-table=1,actions=resubmit(,2),resubmit(,2),resubmit(,2),resubmit(,2),resubmit(,2),resubmit(,2),resubmit(,2),resubmit(,2)
-table=2,actions=resubmit(,3),resubmit(,3),resubmit(,3),resubmit(,3),resubmit(,3),resubmit(,3),resubmit(,3),resubmit(,3)
-";
-
-// Each TTL leads one lookup deeper.
-const DEPTH: &str = "actions=resubmit(,1),2\ntable=1,actions=dec_ttl,resubmit(,1)";
-
-// Two times 64 outputs.
-const OUTPUTS: &str = "actions=resubmit(,1),resubmit(,1)
-table=1,actions=2,2,2,2,2,2,2,2,2,2,2,2,2,2,2,2,2,2,2,2,2,2,2,2,2,2,2,2,2,2,2,2,2,2,2,2,2,2,2,2,2,2,2,2,2,2,2,2,2,2,2,2,2,2,2,2,2,2,2,2,2,2,2,2
-";
-
-const ONE_OUTPUT_MORE: &str = "actions=resubmit(,1),resubmit(,1),3
-table=1,actions=2,2,2,2,2,2,2,2,2,2,2,2,2,2,2,2,2,2,2,2,2,2,2,2,2,2,2,2,2,2,2,2,2,2,2,2,2,2,2,2,2,2,2,2,2,2,2,2,2,2,2,2,2,2,2,2,2,2,2,2,2,2,2,2
-";
-
-pub static REWRITES: [Rewrite; 18] = [
-    Rewrite {
+/// Runs that rewrite frames.
+pub static REWRITES: [Run<'static>; 10] = [
+    Run {
         shows: "a source address is written, its checksum follows, and UDP without a checksum stays so",
+        words: WORDS,
         edits: "in_port=1,actions=mod_nw_src:10.0.0.9,2",
-        frame: &[TO_2, IPV4, TTL_64, UDP],
-        sent: &[Sent {
-            port: 2,
-            frame: &[TO_2, IPV4, FROM_9, UDP],
-            times: 1,
-        }],
-    },
-    Rewrite {
-        shows: "a TTL is lowered, and its checksum follows",
-        edits: "in_port=1,actions=dec_ttl,2",
-        frame: &[TO_2, IPV4, TTL_64, UDP],
-        sent: &[Sent {
-            port: 2,
-            frame: &[TO_2, IPV4, TTL_63, UDP],
-            times: 1,
-        }],
-    },
-    Rewrite {
-        shows: "a TTL of 1 ends the actions after it, and not those before",
-        edits: "in_port=1,actions=2,dec_ttl,3",
-        frame: &[TO_2, IPV4, TTL_1, UDP],
-        sent: &[Sent {
-            port: 2,
-            frame: &[TO_2, IPV4, TTL_1, UDP],
-            times: 1,
-        }],
-    },
-    Rewrite {
-        shows: "a TTL of 1 ends the actions of its own table alone",
-        edits: "in_port=1,actions=resubmit(,1),3\ntable=1,actions=dec_ttl,2",
-        frame: &[TO_2, IPV4, TTL_1, UDP],
-        sent: &[Sent {
-            port: 3,
-            frame: &[TO_2, IPV4, TTL_1, UDP],
-            times: 1,
-        }],
-    },
-    Rewrite {
-        shows: "a port of TCP isn't written in a packet of UDP",
-        edits: "in_port=1,actions=set_field:80->tcp_dst,2",
-        frame: &[TO_2, IPV4, TTL_64, UDP],
-        sent: &[Sent {
-            port: 2,
-            frame: &[TO_2, IPV4, TTL_64, UDP],
-            times: 1,
-        }],
-    },
-    Rewrite {
-        shows: "a port isn't written in a first fragment",
-        edits: "in_port=1,actions=mod_tp_dst:80,2",
-        frame: &[TO_2, IPV4, FIRST_FRAGMENT, UDP],
-        sent: &[Sent {
-            port: 2,
-            frame: &[TO_2, IPV4, FIRST_FRAGMENT, UDP],
-            times: 1,
-        }],
-    },
-    Rewrite {
-        shows: "a first fragment has no ports that match",
-        edits: "udp,tp_dst=53,actions=2",
-        frame: &[TO_2, IPV4, FIRST_FRAGMENT, UDP],
-        sent: &[],
-    },
-    Rewrite {
-        shows: "a destination is written over another",
-        edits: "in_port=1,actions=set_field:00:00:00:00:00:02->dl_dst,2",
-        frame: &[TO_7, UNKNOWN],
-        sent: &[Sent {
-            port: 2,
-            frame: &[TO_2, UNKNOWN],
-            times: 1,
-        }],
-    },
-    Rewrite {
-        shows: "each output sends the frame as it then is",
-        edits: "in_port=1,actions=2,mod_dl_dst:00:00:00:00:00:07,3,mod_dl_dst:00:00:00:00:00:02,2,in_port",
-        frame: &[TO_2, UNKNOWN],
+        traces: &[("a.pcap", Bytes::Headers(&[(1, &[TO_2, IPV4, TTL_64, UDP])]))],
         sent: &[
-            Sent {
-                port: 2,
-                frame: &[TO_2, UNKNOWN],
-                times: 2,
-            },
-            Sent {
-                port: 3,
-                frame: &[TO_7, UNKNOWN],
-                times: 1,
-            },
-            Sent {
-                port: 1,
-                frame: &[TO_2, UNKNOWN],
-                times: 1,
-            },
+            (1, NO_FRAMES),
+            (2, Bytes::Headers(&[(1, &[TO_2, IPV4, FROM_9, UDP])])),
         ],
+        rules: "cookie=0x0, table=0, n_packets=1, n_bytes=42, priority=32768,in_port=1 \
+            actions=set_field:10.0.0.9->nw_src,output:2 # rule=1",
+        megaflows: "port=1 entry=1 version=1 packets=0 bytes=0 owed_packets=0 owed_bytes=0 used=1.000000000 \
+            visits=1 match=in_port=1,dl_type=0x0800,nw_src=10.0.0.1,ip_frag=no \
+            actions=set(nw_src=0.0.0.8/0.0.0.8),2",
+        journal: "port 1|begin 1|end|look 1 miss|settle 1 1 installed 1|port 2|begin 1|end",
+        summary: "ports=2 frames=1 edits=1 blocks=1|exact=0 mega=0 miss=1|installed=1 present=0 full=0|\
+            sent=1 dropped=0 entries=1",
     },
-    Rewrite {
+    Run {
+        shows: "a TTL is lowered, and its checksum follows",
+        words: WORDS,
+        edits: "in_port=1,actions=dec_ttl,2",
+        traces: &[("a.pcap", Bytes::Headers(&[(1, &[TO_2, IPV4, TTL_64, UDP])]))],
+        sent: &[
+            (1, NO_FRAMES),
+            (2, Bytes::Headers(&[(1, &[TO_2, IPV4, TTL_63, UDP])])),
+        ],
+        rules: "cookie=0x0, table=0, n_packets=1, n_bytes=42, priority=32768,in_port=1 \
+            actions=dec_ttl,output:2 # rule=1",
+        megaflows: "port=1 entry=1 version=1 packets=0 bytes=0 owed_packets=0 owed_bytes=0 used=1.000000000 \
+            visits=1 match=in_port=1,dl_type=0x0800,nw_ttl=64,ip_frag=no actions=set(nw_ttl=0x3f/0x7f),2",
+        journal: "port 1|begin 1|end|look 1 miss|settle 1 1 installed 1|port 2|begin 1|end",
+        summary: "ports=2 frames=1 edits=1 blocks=1|exact=0 mega=0 miss=1|installed=1 present=0 full=0|\
+            sent=1 dropped=0 entries=1",
+    },
+    Run {
+        shows: "a TTL of 1 ends the actions after it, and not those before",
+        words: THREE_PORTS,
+        edits: "in_port=1,actions=2,dec_ttl,3",
+        traces: &[("a.pcap", Bytes::Headers(&[(1, &[TO_2, IPV4, TTL_1, UDP])]))],
+        sent: &[
+            (1, NO_FRAMES),
+            (2, Bytes::Headers(&[(1, &[TO_2, IPV4, TTL_1, UDP])])),
+            (3, NO_FRAMES),
+        ],
+        rules: "cookie=0x0, table=0, n_packets=1, n_bytes=42, priority=32768,in_port=1 \
+            actions=output:2,dec_ttl,output:3 # rule=1",
+        megaflows: "port=1 entry=1 version=1 packets=0 bytes=0 owed_packets=0 owed_bytes=0 used=1.000000000 \
+            visits=1 match=in_port=1,dl_type=0x0800,nw_ttl=1,ip_frag=no actions=2",
+        journal: "port 1|begin 1|end|look 1 miss|settle 1 1 installed 1|port 2|begin 1|end|port 3|begin 1|end",
+        summary: "ports=3 frames=1 edits=1 blocks=1|exact=0 mega=0 miss=1|installed=1 present=0 full=0|\
+            sent=1 dropped=0 entries=1",
+    },
+    Run {
+        shows: "a TTL of 1 ends the actions of its own table alone",
+        words: THREE_PORTS,
+        edits: "in_port=1,actions=resubmit(,1),3|table=1,actions=dec_ttl,2",
+        traces: &[("a.pcap", Bytes::Headers(&[(1, &[TO_2, IPV4, TTL_1, UDP])]))],
+        sent: &[
+            (1, NO_FRAMES),
+            (2, NO_FRAMES),
+            (3, Bytes::Headers(&[(1, &[TO_2, IPV4, TTL_1, UDP])])),
+        ],
+        rules: "cookie=0x0, table=0, n_packets=1, n_bytes=42, priority=32768,in_port=1 \
+            actions=resubmit(,1),output:3 # rule=1|\
+            cookie=0x0, table=1, n_packets=1, n_bytes=42, priority=32768 actions=dec_ttl,output:2 # rule=2",
+        megaflows: "port=1 entry=1 version=2 packets=0 bytes=0 owed_packets=0 owed_bytes=0 used=1.000000000 \
+            visits=1+2 match=in_port=1,dl_type=0x0800,nw_ttl=1,ip_frag=no actions=3",
+        journal: "port 1|begin 2|end|look 1 miss|settle 1 2 installed 1|port 2|begin 2|end|port 3|begin 2|end",
+        summary: "ports=3 frames=1 edits=2 blocks=1|exact=0 mega=0 miss=1|installed=1 present=0 full=0|\
+            sent=1 dropped=0 entries=1",
+    },
+    Run {
+        shows: "a port of TCP isn't written in a packet of UDP",
+        words: WORDS,
+        edits: "in_port=1,actions=set_field:80->tcp_dst,2",
+        traces: &[("a.pcap", Bytes::Headers(&[(1, &[TO_2, IPV4, TTL_64, UDP])]))],
+        sent: &[
+            (1, NO_FRAMES),
+            (2, Bytes::Headers(&[(1, &[TO_2, IPV4, TTL_64, UDP])])),
+        ],
+        rules: "cookie=0x0, table=0, n_packets=1, n_bytes=42, priority=32768,in_port=1 \
+            actions=set_field:80->tcp_dst,output:2 # rule=1",
+        megaflows: "port=1 entry=1 version=1 packets=0 bytes=0 owed_packets=0 owed_bytes=0 used=1.000000000 \
+            visits=1 match=in_port=1,dl_type=0x0800,nw_proto=17,ip_frag=no actions=2",
+        journal: "port 1|begin 1|end|look 1 miss|settle 1 1 installed 1|port 2|begin 1|end",
+        summary: "ports=2 frames=1 edits=1 blocks=1|exact=0 mega=0 miss=1|installed=1 present=0 full=0|\
+            sent=1 dropped=0 entries=1",
+    },
+    Run {
+        shows: "a port isn't written in a first fragment",
+        words: WORDS,
+        edits: "in_port=1,actions=mod_tp_dst:80,2",
+        traces: &[(
+            "a.pcap",
+            Bytes::Headers(&[(1, &[TO_2, IPV4, FIRST_FRAGMENT, UDP])]),
+        )],
+        sent: &[
+            (1, NO_FRAMES),
+            (
+                2,
+                Bytes::Headers(&[(1, &[TO_2, IPV4, FIRST_FRAGMENT, UDP])]),
+            ),
+        ],
+        rules: "cookie=0x0, table=0, n_packets=1, n_bytes=42, priority=32768,in_port=1 \
+            actions=set_field:80->tp_dst,output:2 # rule=1",
+        megaflows: "port=1 entry=1 version=1 packets=0 bytes=0 owed_packets=0 owed_bytes=0 used=1.000000000 \
+            visits=1 match=in_port=1,dl_type=0x0800,nw_proto=17,ip_frag=first actions=2",
+        journal: "port 1|begin 1|end|look 1 miss|settle 1 1 installed 1|port 2|begin 1|end",
+        summary: "ports=2 frames=1 edits=1 blocks=1|exact=0 mega=0 miss=1|installed=1 present=0 full=0|\
+            sent=1 dropped=0 entries=1",
+    },
+    Run {
+        shows: "a write of what is there looks at it, and one of something else sets the bits that differ",
+        words: WORDS,
+        edits: "in_port=1,actions=set_field:00:00:00:00:00:02->dl_dst,2",
+        traces: &[("a.pcap", Bytes::To(&[(1, 2), (2, 7)]))],
+        sent: &[(1, NO_FRAMES), (2, Bytes::To(&[(1, 2), (2, 2)]))],
+        rules: "cookie=0x0, table=0, n_packets=2, n_bytes=120, priority=32768,in_port=1 \
+            actions=set_field:00:00:00:00:00:02->dl_dst,output:2 # rule=1",
+        megaflows: "port=1 entry=1 version=1 packets=0 bytes=0 owed_packets=0 owed_bytes=0 used=1.000000000 \
+            visits=1 match=in_port=1,dl_dst=00:00:00:00:00:02,dl_type=0x88b5 actions=2|\
+            port=1 entry=2 version=1 packets=0 bytes=0 owed_packets=0 owed_bytes=0 used=2.000000000 visits=1 \
+            match=in_port=1,dl_dst=00:00:00:00:00:07,dl_type=0x88b5 \
+            actions=set(dl_dst=00:00:00:00:00:00/00:00:00:00:00:05),2",
+        journal: "port 1|begin 1|end|look 1 miss|settle 1 1 installed 1|look 2 miss|settle 2 1 installed 2|\
+            port 2|begin 1|end",
+        summary: "ports=2 frames=2 edits=1 blocks=1|exact=0 mega=0 miss=2|installed=2 present=0 full=0|\
+            sent=2 dropped=0 entries=2",
+    },
+    Run {
+        shows: "each output sends the frame as it then is",
+        words: THREE_PORTS,
+        edits: "in_port=1,actions=2,mod_dl_dst:00:00:00:00:00:07,3,mod_dl_dst:00:00:00:00:00:02,2,in_port",
+        traces: &[("a.pcap", Bytes::To(&[(1, 2)]))],
+        sent: &[
+            (1, Bytes::To(&[(1, 2)])),
+            (2, Bytes::To(&[(1, 2), (1, 2)])),
+            (3, Bytes::To(&[(1, 7)])),
+        ],
+        rules: "cookie=0x0, table=0, n_packets=1, n_bytes=60, priority=32768,in_port=1 actions=output:2,\
+            set_field:00:00:00:00:00:07->dl_dst,output:3,set_field:00:00:00:00:00:02->dl_dst,output:2,\
+            in_port # rule=1",
+        megaflows: "port=1 entry=1 version=1 packets=0 bytes=0 owed_packets=0 owed_bytes=0 used=1.000000000 \
+            visits=1 match=in_port=1,dl_dst=00:00:00:00:00:02,dl_type=0x88b5 actions=2,\
+            set(dl_dst=00:00:00:00:00:05/00:00:00:00:00:05),3,\
+            set(dl_dst=00:00:00:00:00:00/00:00:00:00:00:05),2,1",
+        journal: "port 1|begin 1|end|look 1 miss|settle 1 1 installed 1|port 2|begin 1|end|port 3|begin 1|end",
+        summary: "ports=3 frames=1 edits=1 blocks=1|exact=0 mega=0 miss=1|installed=1 present=0 full=0|\
+            sent=4 dropped=0 entries=1",
+    },
+    Run {
         shows: "a VLAN identifier pushes a tag",
+        words: WORDS,
         edits: "in_port=1,actions=mod_vlan_vid:5,2",
-        frame: &[TO_2, UNKNOWN],
-        sent: &[Sent {
-            port: 2,
-            frame: &[TO_2, "81000005", UNKNOWN],
-            times: 1,
-        }],
+        traces: &[("a.pcap", Bytes::At(&[1]))],
+        sent: &[
+            (1, NO_FRAMES),
+            (2, Bytes::Headers(&[(1, &[TO_2, TAG_5, UNKNOWN])])),
+        ],
+        rules: "cookie=0x0, table=0, n_packets=1, n_bytes=60, priority=32768,in_port=1 \
+            actions=mod_vlan_vid:5,output:2 # rule=1",
+        megaflows: "port=1 entry=1 version=1 packets=0 bytes=0 owed_packets=0 owed_bytes=0 used=1.000000000 \
+            visits=1 match=in_port=1,dl_type=0x88b5,vlan_tci=0x0000 actions=push_vlan(vid=5,pcp=0),2",
+        journal: "port 1|begin 1|end|look 1 miss|settle 1 1 installed 1|port 2|begin 1|end",
+        summary: "ports=2 frames=1 edits=1 blocks=1|exact=0 mega=0 miss=1|installed=1 present=0 full=0|\
+            sent=1 dropped=0 entries=1",
     },
-    Rewrite {
+    Run {
         shows: "a tag is popped",
+        words: WORDS,
         edits: "in_port=1,vlan_tci=0x1000/0x1000,actions=pop_vlan,2",
-        frame: &[TO_2, "88a86005", UNKNOWN],
-        sent: &[Sent {
-            port: 2,
-            frame: &[TO_2, UNKNOWN],
-            times: 1,
-        }],
-    },
-    Rewrite {
-        shows: "tables, registers and a TTL lead a segment of TCP to the port that a register holds",
-        edits: WEB,
-        frame: &[TO_2, IPV4, TO_WEB, TCP],
-        sent: &[Sent {
-            port: 2,
-            frame: &[TO_2, IPV4, TO_WEB_LOWERED, TCP],
-            times: 1,
-        }],
-    },
-    Rewrite {
-        shows: "64 lookups deep a frame goes out",
-        edits: DEPTH,
-        frame: &[TO_2, IPV4, TTL_64, UDP],
-        sent: &[Sent {
-            port: 2,
-            frame: &[TO_2, IPV4, TTL_1, UDP],
-            times: 1,
-        }],
-    },
-    Rewrite {
-        shows: "one deeper it is dropped",
-        edits: DEPTH,
-        frame: &[TO_2, IPV4, TTL_65, UDP],
-        sent: &[],
-    },
-    Rewrite {
-        shows: "after 512 lookups a frame goes out",
-        edits: LOOKUPS,
-        frame: &[TO_2, UNKNOWN],
-        sent: &[Sent {
-            port: 2,
-            frame: &[TO_2, UNKNOWN],
-            times: 1,
-        }],
-    },
-    Rewrite {
-        shows: "with one lookup more it is dropped",
-        edits: ONE_LOOKUP_MORE,
-        frame: &[TO_2, UNKNOWN],
-        sent: &[],
-    },
-    Rewrite {
-        shows: "128 outputs are sent",
-        edits: OUTPUTS,
-        frame: &[TO_2, UNKNOWN],
-        sent: &[Sent {
-            port: 2,
-            frame: &[TO_2, UNKNOWN],
-            times: 128,
-        }],
-    },
-    Rewrite {
-        shows: "with one output more none is",
-        edits: ONE_OUTPUT_MORE,
-        frame: &[TO_2, UNKNOWN],
-        sent: &[],
+        traces: &[(
+            "a.pcap",
+            Bytes::Headers(&[(1, &[TO_2, "88a86005", UNKNOWN])]),
+        )],
+        sent: &[(1, NO_FRAMES), (2, Bytes::At(&[1]))],
+        rules: "cookie=0x0, table=0, n_packets=1, n_bytes=64, \
+            priority=32768,in_port=1,vlan_tci=0x1000/0x1000 actions=pop_vlan,output:2 # rule=1",
+        megaflows: "port=1 entry=1 version=1 packets=0 bytes=0 owed_packets=0 owed_bytes=0 used=1.000000000 \
+            visits=1 match=in_port=1,dl_type=0x88b5,vlan_tci=0x7005 actions=pop_vlan,2",
+        journal: "port 1|begin 1|end|look 1 miss|settle 1 1 installed 1|port 2|begin 1|end",
+        summary: "ports=2 frames=1 edits=1 blocks=1|exact=0 mega=0 miss=1|installed=1 present=0 full=0|\
+            sent=1 dropped=0 entries=1",
     },
 ];

@@ -1,191 +1,320 @@
 ghost use Rattle.std.specs.Prelude.{◌≡◌, IfOk};
 ghost use Rattle.edge_io.specs.declared.outside.InUse.TheVariants.{Nothing};
 
-use crate::cases::{Bytes, File, HEADER, REFUSED_EDITS, REFUSED_TRACES, RUNS, Run};
-use crate::made::{MadeFile, MadeShelf, Piece};
-use edge_io::{OpenGate, Shelf};
+use crate::bytes::text_of;
+use crate::caching::CACHING;
+use crate::cases::{Run, STEPS, WORDS};
+use crate::failing::{UNWRITTEN, Unwritten};
+use crate::given::GIVEN;
+use crate::limits::LIMITS;
+use crate::made::MadeShelf;
+use crate::matches::MATCHES;
+use crate::refusals::{
+    EDITS_FAULTS, FORWARD, Fault, ONE_FRAME, REFUSED, Refused, STEPS_FAULTS, TRACE_FAULTS,
+    TraceFault,
+};
+use crate::rewrites::REWRITES;
+use crate::rules::RULES;
+use crate::running::{
+    DONE, File, Inputs, are_files, ends_as_shown, files_of, run_over, shelf_of, status_of,
+};
+use crate::sending::{FORWARDED, IN_NANOSECONDS, SENDING};
+use edge_io::Shelf;
 use edge_memory::{MemoryShelf, MemorySink};
 use std::alloc::{AllocError, Global};
 use std::sync::Wait;
 use std::test::Fail;
 use std::thread::Threads;
-use switch_app::run_switch;
 
-// The status of a run that is done.
-const DONE: u8 = 0;
+// The summary of what the number 7 makes.
+const MADE: &str = "ports=4 frames=20000 edits=81 blocks=2|exact=0 mega=19760 miss=240|\
+    installed=240 present=0 full=0|sent=10283 dropped=9717 entries=240";
 
-// The last byte of the destination of a frame, where nothing else is said.
-const DESTINATION: u8 = 2;
+// The status of a run in which writing failed.
+const WRITE_FAULT: u8 = 6;
 
-// Adds a record of this header to a capture file, with a frame to this destination.
-fn push_record(file: &mut Vec<u8>, header: &[u8; 16], destination: u8) -> Result<(), AllocError> {
-    file.extend_from_slice(header)?;
-    file.extend_from_slice(&[0, 0, 0, 0, 0, destination, 0, 0, 0, 0, 0, 1, 0x88, 0xb5])?;
-    file.extend_from_slice(&[0; 46])
-}
+// The most bytes of a line.
+const MOST_BYTES: usize = 4_096;
 
-// Adds a frame at a second to a capture file.
-fn push_frame(file: &mut Vec<u8>, second: u8, destination: u8) -> Result<(), AllocError> {
-    let header = [second, 0, 0, 0, 0, 0, 0, 0, 60, 0, 0, 0, 60, 0, 0, 0];
-    push_record(file, &header, destination)
-}
-
-fn trace_at(alloc: Global, seconds: &[u8]) -> Result<Vec<u8>, AllocError> {
-    let mut file = HEADER.to_vec(alloc)?;
-    for second in seconds {
-        push_frame(&mut file, *second, DESTINATION)?;
-    }
-    Ok(file)
-}
-
-fn trace_to(alloc: Global, frames: &[(u8, u8)]) -> Result<Vec<u8>, AllocError> {
-    let mut file = HEADER.to_vec(alloc)?;
-    for (second, destination) in frames {
-        push_frame(&mut file, *second, *destination)?;
-    }
-    Ok(file)
-}
-
-fn trace_with(alloc: Global, offset: usize, bytes: &[u8]) -> Result<Vec<u8>, AllocError> {
-    let good = trace_at(alloc, &[1])?;
-    let mut file = Vec::new(alloc);
-    for (at, byte) in good.iter().enumerate() {
-        let given = at.checked_sub(offset).and_then(|place| bytes.get(place));
-        file.push(*given.unwrap_or(byte))?;
-    }
-    Ok(file)
-}
-
-fn bytes_of(alloc: Global, bytes: &Bytes) -> Result<Vec<u8>, AllocError> {
-    match bytes {
-        Bytes::At(seconds) => trace_at(alloc, seconds),
-        Bytes::To(frames) => trace_to(alloc, frames),
-        Bytes::CutAt(seconds) => {
-            let mut file = trace_at(alloc, seconds)?;
-            file.pop();
-            Ok(file)
+// What the first run of a table shows that ends otherwise.
+fn first_that_differs<R: Threads + Wait + Sync>(
+    rt: &R,
+    alloc: Global,
+    runs: &[Run<'_>],
+) -> Result<Option<&'static str>, AllocError> {
+    for run in runs {
+        if !ends_as_shown(rt, alloc, run, None)? {
+            return Ok(Some(run.shows));
         }
-        Bytes::With(offset, bytes) => trace_with(alloc, *offset, bytes),
-        Bytes::Headed(header, record) => {
-            let mut file = header.to_vec(alloc)?;
-            push_record(&mut file, record, DESTINATION)?;
-            Ok(file)
-        }
-        Bytes::Raw(bytes) => bytes.to_vec(alloc),
+    }
+    Ok(None)
+}
+
+#[test]
+fn frames_leave_as_rules_send_them(rt: HostRuntime) -> Result<(), Fail> {
+    assert_eq!(rt; first_that_differs(&rt, rt.alloc(), &SENDING)?, None);
+    Ok(())
+}
+
+#[test]
+fn times_are_written_in_the_finest_unit(rt: HostRuntime) -> Result<(), Fail> {
+    assert_eq!(rt; first_that_differs(&rt, rt.alloc(), &IN_NANOSECONDS)?, None);
+    Ok(())
+}
+
+#[test]
+fn rules_are_told_with_their_counts(rt: HostRuntime) -> Result<(), Fail> {
+    assert_eq!(rt; first_that_differs(&rt, rt.alloc(), &RULES)?, None);
+    Ok(())
+}
+
+#[test]
+fn caches_decide_as_the_tables_do(rt: HostRuntime) -> Result<(), Fail> {
+    assert_eq!(rt; first_that_differs(&rt, rt.alloc(), &CACHING)?, None);
+    Ok(())
+}
+
+#[test]
+fn each_frame_is_sent_as_its_actions_rewrite_it(rt: HostRuntime) -> Result<(), Fail> {
+    assert_eq!(rt; first_that_differs(&rt, rt.alloc(), &REWRITES)?, None);
+    Ok(())
+}
+
+#[test]
+fn frames_past_a_limit_are_dropped(rt: HostRuntime) -> Result<(), Fail> {
+    assert_eq!(rt; first_that_differs(&rt, rt.alloc(), &LIMITS)?, None);
+    Ok(())
+}
+
+#[test]
+fn megaflows_match_what_was_looked_at(rt: HostRuntime) -> Result<(), Fail> {
+    assert_eq!(rt; first_that_differs(&rt, rt.alloc(), &MATCHES)?, None);
+    Ok(())
+}
+
+#[test]
+fn given_steps_are_taken_first(rt: HostRuntime) -> Result<(), Fail> {
+    let alloc = rt.alloc();
+    for given in &GIVEN {
+        let run = &given.run;
+        assert!(rt;
+            ends_as_shown(&rt, alloc, run, Some(given.steps))?,
+            "{}",
+            run.shows
+        );
+    }
+    Ok(())
+}
+
+// Whether a run is refused so, and leaves no file.
+fn is_refused_as_shown<R: Threads + Wait + Sync>(
+    rt: &R,
+    alloc: Global,
+    run: &Refused<'_>,
+) -> Result<bool, AllocError> {
+    let inputs = Inputs {
+        edits: run.edits,
+        steps: run.steps,
+        traces: run.traces,
+    };
+    let shelf = shelf_of(alloc, &inputs, run.failing_call)?;
+    let ended = run_over(rt, alloc, run.words, shelf, Vec::new(alloc))?;
+    let left = ended.leaves(&[]) && ended.has_opened(run.opened);
+    Ok(left && ended.tells(alloc, run.status, run.text)?)
+}
+
+// The run whose edits have this fault.
+fn with_edits(fault: &Fault) -> Refused<'static> {
+    Refused {
+        shows: fault.shows,
+        words: WORDS,
+        edits: fault.file,
+        steps: "",
+        traces: ONE_FRAME,
+        failing_call: 0,
+        status: fault.status,
+        text: fault.text,
+        opened: &["edits"],
     }
 }
 
-// The shelf of a run: the file "edits" and its traces.
-fn shelf_of(alloc: Global, run: &Run<'_>) -> Result<MemoryShelf, AllocError>
+// The run whose steps file has this fault.
+fn with_steps(fault: &Fault) -> Refused<'static> {
+    Refused {
+        shows: fault.shows,
+        words: STEPS,
+        edits: FORWARD,
+        steps: fault.file,
+        traces: ONE_FRAME,
+        failing_call: 0,
+        status: fault.status,
+        text: fault.text,
+        opened: &["edits", "steps"],
+    }
+}
+
+// The run whose trace has this fault.
+fn with_trace(fault: &TraceFault) -> Refused<'static> {
+    Refused {
+        shows: fault.shows,
+        words: WORDS,
+        edits: FORWARD,
+        steps: "",
+        traces: fault.traces,
+        failing_call: 0,
+        status: 4,
+        text: fault.text,
+        opened: &["edits", "a.pcap"],
+    }
+}
+
+#[test]
+fn faulty_files_are_refused(rt: HostRuntime) -> Result<(), Fail> {
+    let alloc = rt.alloc();
+    let edits = EDITS_FAULTS.iter().map(with_edits);
+    let steps = STEPS_FAULTS.iter().map(with_steps);
+    let traces = TRACE_FAULTS.iter().map(with_trace);
+    for run in edits.chain(steps).chain(traces) {
+        assert!(rt; is_refused_as_shown(&rt, alloc, &run)?, "{}", run.shows);
+    }
+    Ok(())
+}
+
+#[test]
+fn the_first_refusal_is_told(rt: HostRuntime) -> Result<(), Fail> {
+    let alloc = rt.alloc();
+    for run in &REFUSED {
+        assert!(rt; is_refused_as_shown(&rt, alloc, run)?, "{}", run.shows);
+    }
+    Ok(())
+}
+
+// A line that is so many bytes long by spaces at its end.
+fn padded(alloc: Global, line: &str, bytes: usize) -> Result<String, AllocError> {
+    let mut padded = String::from_str(alloc, line)?;
+    for _ in padded.len()..bytes {
+        padded.push(' ')?;
+    }
+    Ok(padded)
+}
+
+// A run that is refused for a line in the last of the files that it opens.
+fn with_long_line<'a>(
+    edits: &'a str,
+    steps: &'a str,
+    opened: &'static [&'static str],
+) -> Refused<'a> {
+    Refused {
+        shows: "a line of 4,097 bytes",
+        words: STEPS,
+        edits,
+        steps,
+        traces: ONE_FRAME,
+        failing_call: 0,
+        status: 7,
+        text: "limit: line 4096",
+        opened,
+    }
+}
+
+#[test]
+fn a_line_has_at_most_4096_bytes(rt: HostRuntime) -> Result<(), Fail> {
+    let alloc = rt.alloc();
+    let longest = padded(alloc, FORWARD, MOST_BYTES)?;
+    let run = Run {
+        edits: longest.as_str(),
+        ..FORWARDED
+    };
+    assert!(rt; ends_as_shown(&rt, alloc, &run, None)?);
+    let edits = padded(alloc, FORWARD, MOST_BYTES + 1)?;
+    let run = with_long_line(edits.as_str(), "", &["edits"]);
+    assert!(rt; is_refused_as_shown(&rt, alloc, &run)?, "edits");
+    let steps = padded(alloc, "edit", MOST_BYTES + 1)?;
+    let run = with_long_line(FORWARD, steps.as_str(), &["edits", "steps"]);
+    assert!(rt; is_refused_as_shown(&rt, alloc, &run)?, "steps");
+    Ok(())
+}
+
+// The shelf of the run `FORWARDED`, whose call of this number fails.
+fn shelf_of_one_frame(alloc: Global, failing_call: u64) -> Result<MemoryShelf, AllocError>
     ensures { IfOk result (λ shelf. ⟦<MemoryShelf as Shelf>⟧.in_use shelf ≡ Nothing) }
 {
-    let mut files = Vec::new(alloc);
-    files.push((
-        String::from_str(alloc, "edits")?,
-        run.edits.as_bytes().to_vec(alloc)?,
-    ))?;
-    for trace in run.traces {
-        files.push((
-            String::from_str(alloc, trace.name)?,
-            bytes_of(alloc, &trace.bytes)?,
-        ))?;
-    }
-    let fails = vec![in alloc; run.failing_call]?;
-    Ok(MemoryShelf::new(alloc, files, fails))
-}
-
-/// Runs the switch, and gives its status.
-pub(crate) fn status_of<R: Threads + Wait + Sync, S: Shelf>(
-    rt: &R,
-    alloc: Global,
-    words: &[&str],
-    shelf: &mut S,
-    say: &mut MemorySink,
-) -> Result<u8, AllocError>
-    requires { S.in_use shelf.old ≡ Nothing }
-{
-    let mut owned = Vec::new(alloc);
-    for word in words {
-        owned.push(String::from_str(alloc, word)?)?;
-    }
-    Ok(run_switch(rt, alloc, &owned, shelf, say, &OpenGate))
-}
-
-fn is_file(alloc: Global, name: &str, bytes: &[u8], want: &File) -> Result<bool, AllocError> {
-    let wanted = bytes_of(alloc, &want.bytes)?;
-    Ok(name == want.name && bytes == wanted.as_slice())
-}
-
-// Whether a run left exactly the files that it is to leave.
-fn leaves_its_files(alloc: Global, shelf: &MemoryShelf, run: &Run<'_>) -> Result<bool, AllocError> {
-    let mut same = shelf.made().len() == run.written.len();
-    for (file, want) in shelf.made().iter().zip(run.written) {
-        same &= is_file(alloc, file.0.as_str(), &file.1, want)?;
-    }
-    let current = match (shelf.current(), run.in_use) {
-        (Some((name, bytes)), [want]) => is_file(alloc, name, bytes, want)?,
-        (current, in_use) => current.is_none() && in_use.is_empty(),
+    let inputs = Inputs {
+        edits: FORWARDED.edits,
+        steps: "",
+        traces: FORWARDED.traces,
     };
-    Ok(same && current)
+    shelf_of(alloc, &inputs, failing_call)
 }
 
-// Whether the edits were opened and then the traces of a run, each once.
-fn opened_all(shelf: &MemoryShelf, run: &Run<'_>) -> bool {
-    match shelf.opened() {
-        [edits, traces @ ..] => {
-            edits.as_str() == "edits"
-                && traces.len() == run.traces.len()
-                && traces
-                    .iter()
-                    .zip(run.traces)
-                    .all(|(name, trace)| name.as_str() == trace.name)
+// Whether a file in use is the one that is to be in use.
+fn is_file_in_use(
+    alloc: Global,
+    file: Option<(&str, &[u8])>,
+    wanted: Option<(&str, &str)>,
+) -> Result<bool, AllocError> {
+    match (file, wanted) {
+        (Some((name, bytes)), Some((wanted, lines))) => {
+            let text = text_of(alloc, lines)?;
+            Ok(name == wanted && bytes == text.as_slice())
         }
-        [] => false,
+        (file, wanted) => Ok(file.is_none() && wanted.is_none()),
     }
 }
 
-// Whether a run ends with its status and text, and leaves its files. One that is done has opened all that it names.
-pub(crate) fn ends_as_shown<R: Threads + Wait + Sync>(
+// Whether these are as many of the files of the run `FORWARDED`.
+fn are_first_files(alloc: Global, files: &[File], count: usize) -> Result<bool, AllocError> {
+    let mut wanted = files_of(alloc, &FORWARDED)?;
+    wanted.truncate(count);
+    Ok(are_files(files, &wanted))
+}
+
+// Whether a call that fails in writing is told, and leaves what it is to leave.
+fn is_cut_as_shown<R: Threads + Wait + Sync>(
     rt: &R,
     alloc: Global,
-    run: &Run<'_>,
+    unwritten: &Unwritten,
 ) -> Result<bool, AllocError> {
-    let mut shelf = shelf_of(alloc, run)?;
-    let mut say = MemorySink::new(alloc, Vec::new(alloc));
-    let status = status_of(rt, alloc, run.words, &mut shelf, &mut say)?;
-    let same = status == run.status && say.text() == run.text.as_bytes();
-    let opened = status != DONE || opened_all(&shelf, run);
-    Ok(same && opened && leaves_its_files(alloc, &shelf, run)?)
+    let shelf = shelf_of_one_frame(alloc, unwritten.failing_call)?;
+    let ended = run_over(rt, alloc, FORWARDED.words, shelf, Vec::new(alloc))?;
+    let told = ended.tells(alloc, WRITE_FAULT, unwritten.text)?;
+    let whole = are_first_files(alloc, ended.shelf.made(), unwritten.whole)?;
+    Ok(told && whole && is_file_in_use(alloc, ended.shelf.current(), unwritten.in_use)?)
 }
 
 #[test]
-fn each_run_leaves_its_files_and_tells_its_text(rt: HostRuntime) -> Result<(), Fail> {
+fn failed_writes_are_told(rt: HostRuntime) -> Result<(), Fail> {
     let alloc = rt.alloc();
-    for run in &RUNS {
-        assert!(rt; ends_as_shown(&rt, alloc, run)?, "{}", run.shows);
+    for unwritten in &UNWRITTEN {
+        assert!(rt;
+            is_cut_as_shown(&rt, alloc, unwritten)?,
+            "{}",
+            unwritten.shows
+        );
     }
     Ok(())
 }
 
+// Whether a run whose summary isn't printed ends as one whose writing failed, and leaves all its files and no text.
+fn ends_without_summary<R: Threads + Wait + Sync>(
+    rt: &R,
+    alloc: Global,
+) -> Result<bool, AllocError> {
+    let shelf = shelf_of_one_frame(alloc, 0)?;
+    let ended = run_over(rt, alloc, FORWARDED.words, shelf, vec![in alloc; 1]?)?;
+    let told = ended.tells(alloc, WRITE_FAULT, "")?;
+    let files = files_of(alloc, &FORWARDED)?;
+    Ok(told && ended.leaves(&files))
+}
+
+// The sink fails at its first call.
 #[test]
-fn refused_words_and_edits_are_told(rt: HostRuntime) -> Result<(), Fail> {
-    let alloc = rt.alloc();
-    for run in &REFUSED_EDITS {
-        assert!(rt; ends_as_shown(&rt, alloc, run)?, "{}", run.shows);
-    }
+fn a_summary_that_is_not_printed_is_a_failed_write(rt: HostRuntime) -> Result<(), Fail> {
+    assert!(rt; ends_without_summary(&rt, rt.alloc())?);
     Ok(())
 }
 
-#[test]
-fn refused_traces_are_told(rt: HostRuntime) -> Result<(), Fail> {
-    let alloc = rt.alloc();
-    for run in &REFUSED_TRACES {
-        assert!(rt; ends_as_shown(&rt, alloc, run)?, "{}", run.shows);
-    }
-    Ok(())
-}
-
-// A sink that fails at its first call leaves the status.
+// A sink that fails at its first call leaves the status of a refusal.
 #[test]
 fn failed_output_leaves_the_status(rt: HostRuntime) -> Result<(), Fail> {
     let alloc = rt.alloc();
@@ -197,116 +326,20 @@ fn failed_output_leaves_the_status(rt: HostRuntime) -> Result<(), Fail> {
     Ok(())
 }
 
-const ONE_TRACE: [&str; 4] = ["edits", "out", "1=a.pcap", "2="];
-
-const TWO_TRACES: [&str; 4] = ["edits", "out", "1=a.pcap", "2=b.pcap"];
-
-// A record of a frame of so many bytes, at 0 seconds.
-fn record_of(alloc: Global, len: u32) -> Result<Vec<u8>, AllocError> {
-    let mut record = vec![in alloc; 0; 8]?;
-    record.extend_from_slice(&len.to_le_bytes())?;
-    record.extend_from_slice(&len.to_le_bytes())?;
-    record.extend_from_slice(&vec![in alloc; 0; len as usize]?)?;
-    Ok(record)
-}
-
-// A file that begins with a header, and has frames of these lengths, each so many times.
-fn made_trace(
-    alloc: Global,
-    name: &str,
-    header: &[u8; 24],
-    frames: &[(u32, usize)],
-) -> Result<MadeFile, AllocError> {
-    let mut pieces = Vec::new(alloc);
-    pieces.push(Piece {
-        bytes: header.to_vec(alloc)?,
-        times: 1,
-    })?;
-    for (len, times) in frames {
-        pieces.push(Piece {
-            bytes: record_of(alloc, *len)?,
-            times: *times,
-        })?;
-    }
-    Ok(MadeFile {
-        name: String::from_str(alloc, name)?,
-        pieces,
-    })
-}
-
-// Whether a run without rules over these traces ends with this status and text.
-fn made_run_ends<R: Threads + Wait + Sync>(
+// Whether a run of what the number 7 makes prints its summary, and opens and writes no file.
+fn sums_up_what_is_made<R: Threads + Wait + Sync>(
     rt: &R,
     alloc: Global,
-    words: &[&str],
-    traces: Vec<MadeFile>,
-    want: (u8, &str),
 ) -> Result<bool, AllocError> {
-    let mut shelf = MadeShelf::new(traces);
-    let mut say = MemorySink::new(alloc, Vec::new(alloc));
-    let status = status_of(rt, alloc, words, &mut shelf, &mut say)?;
-    Ok(status == want.0 && say.text() == want.1.as_bytes())
+    let shelf = MemoryShelf::new(alloc, Vec::new(alloc), Vec::new(alloc));
+    let ended = run_over(rt, alloc, &["--generate", "7"], shelf, Vec::new(alloc))?;
+    Ok(ended.shelf.calls() == 0 && ended.tells(alloc, DONE, MADE)?)
 }
 
 #[test]
-fn frames_of_all_traces_are_at_most_131072(rt: HostRuntime) -> Result<(), Fail> {
+fn what_a_number_makes_is_the_same_each_time(rt: HostRuntime) -> Result<(), Fail> {
     let alloc = rt.alloc();
-    let done = (0, "");
-    let limit = (7, "limit: frames 131072\n");
-    for (words, first, second, want) in [
-        (ONE_TRACE, 131_072, 0, done),
-        (ONE_TRACE, 131_073, 0, limit),
-        (TWO_TRACES, 65_536, 65_536, done),
-        (TWO_TRACES, 65_536, 65_537, limit),
-    ] {
-        let traces = vec![in alloc;
-            made_trace(alloc, "a.pcap", &HEADER, &[(0, first)])?,
-            made_trace(alloc, "b.pcap", &HEADER, &[(0, second)])?,
-        ]?;
-        assert!(rt;
-            made_run_ends(&rt, alloc, &words, traces, want)?,
-            "{first} and {second}"
-        );
-    }
-    Ok(())
-}
-
-#[test]
-fn bytes_of_all_traces_are_at_most_268435456(rt: HostRuntime) -> Result<(), Fail> {
-    let alloc = rt.alloc();
-    // A record of the first kind has 262,144 bytes, so one of the second ends a file of 2 ^ 28 bytes or of 2 ^ 27.
-    let full = [(262_128, 1_023), (262_104, 1)];
-    let over = [(262_128, 1_023), (262_105, 1)];
-    let half = [(262_128, 511), (262_104, 1)];
-    let more = [(262_128, 511), (262_105, 1)];
-    let done = (0, "");
-    let limit = (7, "limit: trace-bytes 268435456\n");
-    for (case, words, header, first, second, want) in [
-        (
-            "all bytes in one trace",
-            ONE_TRACE,
-            HEADER,
-            full,
-            full,
-            done,
-        ),
-        ("a byte more", ONE_TRACE, HEADER, over, full, limit),
-        ("and a faulty header", ONE_TRACE, [0; 24], over, full, limit),
-        ("two halves", TWO_TRACES, HEADER, half, half, done),
-        (
-            "a byte more in a half",
-            TWO_TRACES,
-            HEADER,
-            half,
-            more,
-            limit,
-        ),
-    ] {
-        let traces = vec![in alloc;
-            made_trace(alloc, "a.pcap", &header, &first)?,
-            made_trace(alloc, "b.pcap", &HEADER, &second)?,
-        ]?;
-        assert!(rt; made_run_ends(&rt, alloc, &words, traces, want)?, "{case}");
-    }
+    assert!(rt; sums_up_what_is_made(&rt, alloc)?);
+    assert!(rt; sums_up_what_is_made(&rt, alloc)?);
     Ok(())
 }

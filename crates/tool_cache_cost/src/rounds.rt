@@ -1,15 +1,15 @@
 //! A run, carried out several times.
 ghost use Rattle.std.specs.Prelude.{◌≡◌};
-ghost use Rattle.switch_input.specs.InputViews.{accepted_view, IsBuilt};
+ghost use Rattle.switch_input.specs.InputViews.{run_view, IsBuilt};
 
 use crate::counts::Counts;
 use crate::words::Command;
+use given_steps::run_schedule;
 use run_case::{Case, RunData};
 use run_edits::RunEdits;
 use std::alloc::{AllocError, Global};
 use std::marker::Brand;
-use step_runner::finish_from_new;
-use switch_input::{Inputs, ports_of};
+use switch_input::Inputs;
 
 /// What becomes of the frames of a run under a name, in so many rounds together.
 fn counts_in_rounds<C: Case>(
@@ -18,20 +18,21 @@ fn counts_in_rounds<C: Case>(
     flow_limit: u32,
     rounds: u32,
 ) -> Result<Counts, AllocError>
-    requires run { C.run ≡ record (accepted_view inputs).run { flow_limit = flow_limit } }
+    requires run { C.run ≡ record (run_view inputs) { flow_limit = flow_limit } }
     requires built { IsBuilt inputs }
 {
     let Inputs {
-        command,
+        ports,
         script,
+        steps,
         traces,
+        ..
     } = inputs;
-    let ports = ports_of(alloc, &command.ports)?;
     let edits = RunEdits::<C>::new(script.edits);
     let run = RunData::<C>::new(alloc, ports, edits.count(), script.syncs, traces)?;
     let mut counts = Counts::new();
     'rounds: for _ in 0..rounds {
-        let finished = finish_from_new(alloc, &run, &edits, flow_limit)?;
+        let (finished, _) = run_schedule(alloc, &run, &edits, flow_limit, &steps)?;
         for board in finished.boards() {
             counts.add_board(&run, board);
         }

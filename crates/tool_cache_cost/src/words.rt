@@ -4,7 +4,7 @@ ghost use Rattle.switch_input.specs.InputViews.{IsBuilt};
 
 use anyhow::{Result, anyhow};
 use edge_real::RealShelf;
-use switch_input::{Inputs, read_inputs};
+use switch_input::{Input, Inputs, read_inputs};
 use tool_input::{number_of, split_rounds};
 
 /// What the words of the command line say, and what their files have.
@@ -33,7 +33,10 @@ pub fn read_command<'a>(rt: &HostRuntime, words: &'a [String]) -> Result<Command
 {
     let (words, rounds) = split_rounds(words)?;
     let inputs = inputs_of(rt, words)?;
-    let flow_limit = number_of("megaflows", inputs.command.out)?;
+    let flow_limit = match &inputs.command.input {
+        Input::Files { out, .. } => number_of("megaflows", *out)?,
+        Input::Made { .. } => inputs.command.flow_limit,
+    };
     Ok(Command {
         inputs,
         flow_limit,

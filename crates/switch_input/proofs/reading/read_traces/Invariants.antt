@@ -5,7 +5,7 @@ use Rattle.edge_io.specs.ReadAll.{OnlyRead}
 use Rattle.spec_pcap.specs.Pcap.{Capture}
 use Rattle.spec_run.specs.Limits.{most_trace_bytes, most_frames}
 use Rattle.spec_run.specs.Verdict.{traces_after, traces_in, traces_opened}
-use Rattle.switch_input.specs.WordViews.{ports_view}
+use Rattle.command_words.specs.PortViews.{ports_view}
 use Rattle.switch_input.proofs.Opened.{HasLeft}
 use Rattle.switch_input.proofs.reading.read_traces.Given as goal
 

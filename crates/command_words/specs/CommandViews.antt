@@ -1,0 +1,30 @@
+-- The words of the command line, and what was read of them, as the definitions see it.
+use Rattle.std.specs.Prelude.{ℕ, List, map, Option, String, string_bytes}
+use Rattle.std.specs.Option.{option_map}
+use Rattle.std.specs.Borrow.{Bor}
+use Rattle.std.specs.declared.alloc.Global.{Global}
+use Rattle.spec_words.specs.Words as words
+use Rattle.command_words.specs.declared.ports.PortWord.{PortWord}
+use Rattle.command_words.specs.declared.reading.Input.{Input}
+use Rattle.command_words.specs.declared.reading.Input.TheVariants.{Files, Made}
+use Rattle.command_words.specs.declared.reading.Command.{Command}
+use Rattle.command_words.specs.PortViews.{ports_view}
+
+abbrev pub texts : List (String Global) → List (List ℕ)
+texts words = map string_bytes words
+
+-- the bytes of a text, where one is lent
+abbrev pub text_view : Option (Bor (List ℕ)) → Option (List ℕ)
+text_view text = option_map (λ (t : Bor (List ℕ)). t.now) text
+
+abbrev pub input_view : Input → words.Input
+input_view (Files edits steps out ports) = words.Files edits.now (text_view steps) out.now (ports_view ports.items)
+input_view (Made number) = words.Made number
+
+abbrev pub command_view : Command → words.Command
+command_view c = record { workers = c.workers; flow_limit = c.flow_limit; input = input_view c.input }
+
+-- This holds of the ports of files, where files are what is run.
+abbrev pub IfFiles : Input → (List PortWord → Type 0) → Type 0
+IfFiles (Files edits steps out ports) P = P ports.items
+IfFiles (Made number) P = Unit {0}

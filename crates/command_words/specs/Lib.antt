@@ -1,0 +1,2 @@
+pub mod PortViews
+pub mod CommandViews

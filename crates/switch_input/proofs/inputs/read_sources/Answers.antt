@@ -1,0 +1,116 @@
+use Rattle.std.proofs.Common.{length, sym, ap, ◌∙◌}
+use Rattle.std.proofs.lemmas.Result.{err_from_is_err_and}
+use Rattle.spec_run.specs.Verdict.{Sources, ports_said}
+use Rattle.edit_script.specs.ScriptViews.{script_view}
+use Rattle.switch_input.specs.SourceViews.{sources_view}
+use Rattle.switch_input.proofs.Lists.{count_said}
+use Rattle.switch_input.proofs.Walk.{holds_kept, only_read-trans}
+use Rattle.switch_input.proofs.Verdicts.{none_yet, script_explains, edits_opened, steps_explain, steps_opened, traces_explain, traces_until, gives_run_of, all_opened}
+use Rattle.switch_input.proofs.inputs.read_sources.Goals as goal
+
+-- ---- memory for the ports
+
+pub returns-in_err-ports-clause-opened : goal.returns-in_err-ports-clause-opened
+returns-in_err-ports-clause-opened g c = λ _.
+    let p = err_from_is_err_and c.from_residual.result c.from_residual.ensures.1 in
+    rw (p.1, p.2) (none_yet (g.S.Shelf.told c.args.shelf.now) _)
+
+-- ---- the edits
+
+pub returns-in_err-edits-clause-err : goal.returns-in_err-edits-clause-err
+returns-in_err-edits-clause-err g c = λ t.
+    let p = err_from_is_err_and c.from_residual-in_err-edits.result c.from_residual-in_err-edits.ensures.1 in
+    rw (p.1, p.2) (rw c.sources_of-sources.ensures.sources at (script_explains (g.S.Shelf.told c.args.shelf.now).holds c.args.command.flow_limit (sources_view c.sources_of-sources.result) c.in_err-edits.field-0.0 (c.in_err-edits.ensures.err t)))
+
+pub returns-in_err-edits-clause-opened : goal.returns-in_err-edits-clause-opened
+returns-in_err-edits-clause-opened g c = λ t.
+    let p = err_from_is_err_and c.from_residual-in_err-edits.result c.from_residual-in_err-edits.ensures.1 in
+    rw (p.1, p.2) (rw c.sources_of-sources.ensures.sources at (edits_opened (g.S.Shelf.told c.args.shelf.now).holds c.args.command.flow_limit (sources_view c.sources_of-sources.result)
+    (g.S.Shelf.told c.args.shelf.now) (g.S.Shelf.told c.read_edits.new.shelf) c.in_err-edits.field-0.0 (c.in_err-edits.ensures.err t) (c.in_err-edits.ensures.opened t)))
+
+-- ---- the steps
+
+pub returns-in_err-steps-clause-err : goal.returns-in_err-steps-clause-err
+returns-in_err-steps-clause-err g c = λ t.
+    let p = err_from_is_err_and c.from_residual-in_err-steps.result c.from_residual-in_err-steps.ensures.1 in
+    let same = holds_kept (g.S.Shelf.told c.args.shelf.now) (g.S.Shelf.told c.read_edits.new.shelf) (c.in_ok-edits.ensures.told t) in
+    rw (p.1, p.2) (rw c.sources_of-sources.ensures.sources at (steps_explain (g.S.Shelf.told c.args.shelf.now).holds c.args.command.flow_limit (sources_view c.sources_of-sources.result) (script_view c.in_ok-edits.edits.script) (c.in_ok-edits.ensures.ok t)
+    c.in_err-steps.field-0.0 (rw (c.as_slice.ensures.list, c.in_ok-ports.ensures, same) at c.in_err-steps.ensures.err t)))
+
+pub returns-in_err-steps-clause-opened : goal.returns-in_err-steps-clause-opened
+returns-in_err-steps-clause-opened g c = λ t.
+    let p = err_from_is_err_and c.from_residual-in_err-steps.result c.from_residual-in_err-steps.ensures.1 in
+    let same = holds_kept (g.S.Shelf.told c.args.shelf.now) (g.S.Shelf.told c.read_edits.new.shelf) (c.in_ok-edits.ensures.told t) in
+    rw (p.1, p.2) (rw c.sources_of-sources.ensures.sources at (steps_opened (g.S.Shelf.told c.args.shelf.now).holds c.args.command.flow_limit (sources_view c.sources_of-sources.result) (script_view c.in_ok-edits.edits.script) (c.in_ok-edits.ensures.ok t)
+    (g.S.Shelf.told c.args.shelf.now) (g.S.Shelf.told c.read_edits.new.shelf) (c.in_ok-edits.ensures.opened t) (g.S.Shelf.told c.read_steps.new.shelf)
+    c.in_err-steps.field-0.0 (rw (c.as_slice.ensures.list, c.in_ok-ports.ensures, same) at c.in_err-steps.ensures.err t) (c.in_err-steps.ensures.opened t)))
+
+pub returns-in_err-steps-clause-told : goal.returns-in_err-steps-clause-told
+returns-in_err-steps-clause-told g c = λ t.
+    only_read-trans (g.S.Shelf.told c.args.shelf.now) (g.S.Shelf.told c.read_edits.new.shelf) (g.S.Shelf.told c.read_steps.new.shelf) (c.in_ok-edits.ensures.told t) (c.in_err-steps.ensures.told t)
+
+-- ---- the traces
+
+pub returns-in_err-traces-clause-err : goal.returns-in_err-traces-clause-err
+returns-in_err-traces-clause-err g c = λ t.
+    let p = err_from_is_err_and c.from_residual-in_err-traces.result c.from_residual-in_err-traces.ensures.1 in
+    let same = holds_kept (g.S.Shelf.told c.args.shelf.now) (g.S.Shelf.told c.read_edits.new.shelf) (c.in_ok-edits.ensures.told t) in
+    let later = holds_kept (g.S.Shelf.told c.read_edits.new.shelf) (g.S.Shelf.told c.read_steps.new.shelf) (c.in_ok-steps.ensures.told t) in
+    rw (p.1, p.2) (rw c.sources_of-sources.ensures.sources at (traces_explain (g.S.Shelf.told c.args.shelf.now).holds c.args.command.flow_limit (sources_view c.sources_of-sources.result) (script_view c.in_ok-edits.edits.script) (c.in_ok-edits.ensures.ok t)
+    c.in_ok-steps.steps.items (rw (c.as_slice.ensures.list, c.in_ok-ports.ensures, same) at c.in_ok-steps.ensures.ok t)
+    c.in_err-traces.field-0.0 (rw (later, same) at c.in_err-traces.ensures.err t)))
+
+pub returns-in_err-traces-clause-opened : goal.returns-in_err-traces-clause-opened
+returns-in_err-traces-clause-opened g c = λ t.
+    let p = err_from_is_err_and c.from_residual-in_err-traces.result c.from_residual-in_err-traces.ensures.1 in
+    let same = holds_kept (g.S.Shelf.told c.args.shelf.now) (g.S.Shelf.told c.read_edits.new.shelf) (c.in_ok-edits.ensures.told t) in
+    let later = holds_kept (g.S.Shelf.told c.read_edits.new.shelf) (g.S.Shelf.told c.read_steps.new.shelf) (c.in_ok-steps.ensures.told t) in
+    rw (p.1, p.2) (rw c.sources_of-sources.ensures.sources at (traces_until (g.S.Shelf.told c.args.shelf.now).holds c.args.command.flow_limit (sources_view c.sources_of-sources.result) (script_view c.in_ok-edits.edits.script) (c.in_ok-edits.ensures.ok t)
+    c.in_ok-steps.steps.items (rw (c.as_slice.ensures.list, c.in_ok-ports.ensures, same) at c.in_ok-steps.ensures.ok t)
+    (g.S.Shelf.told c.args.shelf.now) (g.S.Shelf.told c.read_edits.new.shelf) (g.S.Shelf.told c.read_steps.new.shelf) (c.in_ok-edits.ensures.opened t) (c.in_ok-steps.ensures.opened t)
+    (g.S.Shelf.told c.read_traces.new.shelf) c.in_err-traces.field-0.0 (rw (later, same) at c.in_err-traces.ensures.opened t)))
+
+pub returns-in_err-traces-clause-told : goal.returns-in_err-traces-clause-told
+returns-in_err-traces-clause-told g c = λ t.
+    only_read-trans (g.S.Shelf.told c.args.shelf.now) (g.S.Shelf.told c.read_steps.new.shelf) (g.S.Shelf.told c.read_traces.new.shelf)
+    (only_read-trans (g.S.Shelf.told c.args.shelf.now) (g.S.Shelf.told c.read_edits.new.shelf) (g.S.Shelf.told c.read_steps.new.shelf) (c.in_ok-edits.ensures.told t) (c.in_ok-steps.ensures.told t))
+    (c.in_err-traces.ensures.told t)
+
+-- ---- all is read
+
+pub returns-clause-ok : goal.returns-clause-ok
+returns-clause-ok g c = λ t.
+    let same = holds_kept (g.S.Shelf.told c.args.shelf.now) (g.S.Shelf.told c.read_edits.new.shelf) (c.in_ok-edits.ensures.told t) in
+    let later = holds_kept (g.S.Shelf.told c.read_edits.new.shelf) (g.S.Shelf.told c.read_steps.new.shelf) (c.in_ok-steps.ensures.told t) in
+    gives_run_of (g.S.Shelf.told c.args.shelf.now).holds c.args.command.flow_limit (sources_view c.sources_of-sources.result) (script_view c.in_ok-edits.edits.script) (c.in_ok-edits.ensures.ok t)
+    c.in_ok-steps.steps.items (rw (c.as_slice.ensures.list, c.in_ok-ports.ensures, same) at c.in_ok-steps.ensures.ok t)
+    _ c.sources_of-sources.ensures.sources c.in_ok-traces.traces.items (rw (later, same) at c.in_ok-traces.ensures.ok t)
+
+pub returns-clause-built : goal.returns-clause-built
+returns-clause-built g c =
+    let script = c.in_ok-edits.ensures in record {
+      ports = c.in_ok-ports.ensures ∙ ap (λ (s : Sources). ports_said s.ports) c.sources_of-sources.ensures.sources;
+      trace_each = c.in_ok-traces.ensures.one_each ∙ sym (ap length c.in_ok-ports.ensures ∙ count_said c.sources_of-sources.result.ports.now);
+      few_frames = c.in_ok-traces.ensures.few_frames;
+      sound = script.sound;
+      few_edits = script.few_edits;
+      few_syncs = script.few_syncs;
+      in_order = script.in_order;
+      few_steps = c.in_ok-steps.ensures.few_steps;
+      rules = script.rules;
+    }
+
+pub returns-clause-told : goal.returns-clause-told
+returns-clause-told g c = λ t.
+    only_read-trans (g.S.Shelf.told c.args.shelf.now) (g.S.Shelf.told c.read_steps.new.shelf) (g.S.Shelf.told c.read_traces.new.shelf)
+    (only_read-trans (g.S.Shelf.told c.args.shelf.now) (g.S.Shelf.told c.read_edits.new.shelf) (g.S.Shelf.told c.read_steps.new.shelf) (c.in_ok-edits.ensures.told t) (c.in_ok-steps.ensures.told t))
+    (c.in_ok-traces.ensures.told t)
+
+pub returns-clause-opened : goal.returns-clause-opened
+returns-clause-opened g c = λ t.
+    let same = holds_kept (g.S.Shelf.told c.args.shelf.now) (g.S.Shelf.told c.read_edits.new.shelf) (c.in_ok-edits.ensures.told t) in
+    let later = holds_kept (g.S.Shelf.told c.read_edits.new.shelf) (g.S.Shelf.told c.read_steps.new.shelf) (c.in_ok-steps.ensures.told t) in
+    rw c.sources_of-sources.ensures.sources at (all_opened (g.S.Shelf.told c.args.shelf.now).holds c.args.command.flow_limit (sources_view c.sources_of-sources.result) (script_view c.in_ok-edits.edits.script) (c.in_ok-edits.ensures.ok t)
+    c.in_ok-steps.steps.items (rw (c.as_slice.ensures.list, c.in_ok-ports.ensures, same) at c.in_ok-steps.ensures.ok t)
+    (g.S.Shelf.told c.args.shelf.now) (g.S.Shelf.told c.read_edits.new.shelf) (g.S.Shelf.told c.read_steps.new.shelf) (c.in_ok-edits.ensures.opened t) (c.in_ok-steps.ensures.opened t)
+    (g.S.Shelf.told c.read_traces.new.shelf) (rw (later, same) at c.in_ok-traces.ensures.opened t))

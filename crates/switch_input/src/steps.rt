@@ -1,0 +1,106 @@
+//! The steps file: its bytes, and the steps that they say.
+ghost use Rattle.std.specs.Prelude.{◌≡◌, ◌≤◌, [], ◌∷◌, length, Ok, IsTrue, OnOk, IfOk, IfErr, Some};
+ghost use Rattle.edge_io.specs.declared.outside.InUse.TheVariants.{Nothing};
+ghost use Rattle.edge_io.specs.ReadAll.{OnlyRead};
+ghost use Rattle.spec_run.specs.Limits.{most_steps_bytes};
+ghost use Rattle.spec_run.specs.Verdict.{refused_steps, steps_within, steps_in, steps_names};
+ghost use Rattle.spec_steps.specs.Steps.{most_steps};
+ghost use Rattle.spec_steps.specs.declared.fault.StepsFault.TheVariants as given;
+ghost use Rattle.command_words.specs.CommandViews.{text_view};
+ghost use Rattle.switch_refusals.specs.Refused.{fault_view, IfInput, IfReadFault, Explains, HasReadCause, OpensInTurn};
+
+use crate::reading::read_file;
+use edge_io::Shelf;
+use spec_run::Quantity;
+use std::alloc::Global;
+use step_script::{RunStep, StepsFault, read_steps as read_step_script};
+use switch_refusals::{InputFault, InputRefusal, MOST_STEPS_BYTES};
+
+// What becomes of a run whose steps file has this fault.
+fn refused(name: &str, fault: StepsFault) -> InputRefusal<'_>
+    ensures input { IfInput result (λ told. fault_view told ≡ refused_steps name.now fault) }
+    ensures no_fault { IfReadFault result (λ _. ⊥) }
+    ensures no_memory { fault ≡ given.OutOfMemory → result ≡ InputRefusal.OutOfMemory }
+{
+    let limit = match fault {
+        StepsFault::OutOfMemory => return InputRefusal::OutOfMemory,
+        StepsFault::LineTooLong => Quantity::Line,
+        StepsFault::TooManySteps => Quantity::Steps,
+        fault => return InputRefusal::Input(InputFault::Steps { name, fault }),
+    };
+    InputRefusal::Input(InputFault::Limit(limit))
+}
+
+// The steps of the bytes of a file, for a switch of these ports.
+fn steps_of<'a>(
+    alloc: Global,
+    ports: &[u16],
+    name: &'a str,
+    bytes: &[u8],
+) -> Result<Vec<RunStep>, InputRefusal<'a>>
+    requires { length bytes.now ≤ most_steps_bytes }
+    ensures ok { IfOk result (λ v. steps_within ports.now name.now bytes.now ≡ Ok v.items) }
+    ensures few_steps { IfOk result (λ v. length v.items ≤ most_steps) }
+    ensures err { IfErr result (Explains (steps_within ports.now name.now bytes.now)) }
+    ensures no_fault { IfErr result (λ r. IfReadFault r (λ _. ⊥)) }
+{
+    match read_step_script(alloc, bytes, ports) {
+        Ok(steps) => Ok(steps),
+        Err(fault) => Err(refused(name, fault)),
+    }
+}
+
+// Reads the steps file of a name, for a switch of these ports.
+fn read_steps_file<'a, S: Shelf>(
+    alloc: Global,
+    shelf: &mut S,
+    ports: &[u16],
+    name: &'a str,
+) -> Result<Vec<RunStep>, InputRefusal<'a>>
+    requires { S.in_use shelf.old ≡ Nothing }
+    ensures in_use { OnOk result (S.in_use shelf.new ≡ Nothing) }
+    ensures ok { IsTrue S.tells → IfOk result
+        (λ v. steps_in (S.told shelf.old).holds ports.now (Some name.now) ≡ Ok v.items) }
+    ensures few_steps { IfOk result (λ v. length v.items ≤ most_steps) }
+    ensures err { IsTrue S.tells → IfErr result
+        (Explains (steps_in (S.told shelf.old).holds ports.now (Some name.now))) }
+    ensures fault { IfErr result (λ r. IfReadFault r (λ n. n ≡ name.now)) }
+    ensures named { IsTrue S.tells → IfErr result (λ r. IfReadFault r (λ n. (S.told shelf.new).last ≡ n)) }
+    ensures told { IsTrue S.tells → OnlyRead (S.told shelf.old) (S.told shelf.new) }
+    ensures opened { IsTrue S.tells →
+        OpensInTurn (S.told shelf.old) (S.told shelf.new) (name.now ∷ []) result }
+    ensures counts { OnOk result (S.counts shelf.new ≡ S.counts shelf.old) }
+    ensures cause { IfErr result (HasReadCause (S.counts shelf.old) (S.counts shelf.new)) }
+{
+    let too_long = InputFault::Limit(Quantity::StepsBytes);
+    let bytes = read_file(alloc, shelf, name, MOST_STEPS_BYTES, too_long)?;
+    steps_of(alloc, ports, name, &bytes)
+}
+
+/// Reads the steps file, where there is one, for a switch of these ports. Without one no step is given.
+pub fn read_steps<'a, S: Shelf>(
+    alloc: Global,
+    shelf: &mut S,
+    ports: &[u16],
+    name: Option<&'a str>,
+) -> Result<Vec<RunStep>, InputRefusal<'a>>
+    requires { S.in_use shelf.old ≡ Nothing }
+    ensures in_use { OnOk result (S.in_use shelf.new ≡ Nothing) }
+    ensures ok { IsTrue S.tells → IfOk result
+        (λ v. steps_in (S.told shelf.old).holds ports.now (text_view name.entry) ≡ Ok v.items) }
+    ensures few_steps { IfOk result (λ v. length v.items ≤ most_steps) }
+    ensures err { IsTrue S.tells → IfErr result
+        (Explains (steps_in (S.told shelf.old).holds ports.now (text_view name.entry))) }
+    ensures fault { IfErr result (λ r. IfReadFault r (λ n. text_view name.entry ≡ Some n)) }
+    ensures named { IsTrue S.tells → IfErr result (λ r. IfReadFault r (λ n. (S.told shelf.new).last ≡ n)) }
+    ensures told { IsTrue S.tells → OnlyRead (S.told shelf.old) (S.told shelf.new) }
+    ensures opened { IsTrue S.tells →
+        OpensInTurn (S.told shelf.old) (S.told shelf.new) (steps_names (text_view name.entry)) result }
+    ensures counts { OnOk result (S.counts shelf.new ≡ S.counts shelf.old) }
+    ensures cause { IfErr result (HasReadCause (S.counts shelf.old) (S.counts shelf.new)) }
+{
+    match name {
+        None => Ok(Vec::new(alloc)),
+        Some(name) => read_steps_file(alloc, shelf, ports, name),
+    }
+}

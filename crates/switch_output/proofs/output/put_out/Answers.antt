@@ -1,0 +1,34 @@
+use Rattle.std.proofs.Common.{refl}
+use Rattle.std.proofs.lemmas.Result.{err_from_is_err_and}
+use Rattle.switch_output.proofs.output.put_out.Goals as goal
+
+pub returns-in_err-write_out : goal.returns-in_err-write_out
+returns-in_err-write_out g c =
+    let p = err_from_is_err_and c.from_residual.result c.from_residual.ensures.1 in
+    let w = c.in_err-write_out.ensures in
+    rw (p.1, p.2) (record {
+      ok = tt;
+      err = record { cut = w.err; named = w.named; unsaid = refl; cause = w.cause };
+      opened = w.opened;
+    })
+
+pub returns-in_err-say_summary : goal.returns-in_err-say_summary
+returns-in_err-say_summary g c =
+    let p = err_from_is_err_and c.from_residual-in_err-say_summary.result c.from_residual-in_err-say_summary.ensures.1 in
+    let w = c.in_ok-write_out.ensures in
+    let s = c.in_err-say_summary.ensures in
+    rw (p.1, p.2) (record {
+      ok = tt;
+      err = record { whole = record { in_use = w.in_use; done = w.ok; counts = w.counts }; printed = s.err; cause = s.cause };
+      opened = w.opened;
+    })
+
+pub returns : goal.returns
+returns g c =
+    let w = c.in_ok-write_out.ensures in
+    let s = c.in_ok-say_summary.ensures in
+    record {
+      ok = record { whole = record { in_use = w.in_use; done = w.ok; counts = w.counts }; printed = s.ok; faults = s.cause.ok };
+      err = tt;
+      opened = w.opened;
+    }

@@ -1,0 +1,63 @@
+//! Calls that fail in writing what comes of a run.
+
+/// A call of the shelf that fails in the run of `FORWARDED`, and what is left then.
+#[derive(Drop)]
+pub struct Unwritten {
+    pub shows: &'static str,
+    /// The number of the call.
+    pub failing_call: u64,
+    pub text: &'static str,
+    /// How many files are whole, and the one that is still in use, if there is one, with its text.
+    pub whole: usize,
+    pub in_use: Option<(&'static str, &'static str)>,
+}
+
+/// Reading takes the calls 1 to 8, and the file of port 1 those from 9 to 11. That of port 2, in which a frame is
+/// written in two calls, takes those from 12 to 16. In each dump a line is written in one call.
+pub static UNWRITTEN: [Unwritten; 6] = [
+    Unwritten {
+        shows: "where the first file isn't created, there is none",
+        failing_call: 9,
+        text: "write fault: out.p1.pcap",
+        whole: 0,
+        in_use: None,
+    },
+    Unwritten {
+        shows: "a failed write leaves the files before whole",
+        failing_call: 13,
+        text: "write fault: out.p2.pcap",
+        whole: 1,
+        in_use: Some(("out.p2.pcap", "")),
+    },
+    Unwritten {
+        shows: "a failed write of rules leaves the files of the ports whole",
+        failing_call: 18,
+        text: "write fault: out.rules",
+        whole: 2,
+        in_use: Some(("out.rules", "")),
+    },
+    Unwritten {
+        shows: "where the dump of megaflows isn't created, the rules are the last file",
+        failing_call: 20,
+        text: "write fault: out.megaflows",
+        whole: 3,
+        in_use: None,
+    },
+    Unwritten {
+        shows: "a failed write of megaflows leaves the rules whole",
+        failing_call: 21,
+        text: "write fault: out.megaflows",
+        whole: 3,
+        in_use: Some(("out.megaflows", "")),
+    },
+    Unwritten {
+        shows: "a failed write of the journal leaves a prefix of it",
+        failing_call: 31,
+        text: "write fault: out.journal",
+        whole: 4,
+        in_use: Some((
+            "out.journal",
+            "port 1|begin 1|end|look 1 miss|settle 1 1 installed 1|port 2|begin 1",
+        )),
+    },
+];

@@ -1,0 +1,333 @@
+//! Runs that are refused, by their files or since reading fails.
+
+use crate::cases::{Bytes, STEPS, TWO_TRACES, Trace, WORDS};
+
+/// A rule that sends the frames of port 1 to port 2.
+pub const FORWARD: &str = "in_port=1,actions=2";
+
+/// One frame.
+pub const ONE_FRAME: &[Trace] = &[("a.pcap", Bytes::At(&[1]))];
+
+// A trace without a whole header, and one with another magic.
+const TWO_FAULTY_TRACES: &[Trace] = &[
+    ("a.pcap", Bytes::CutAt(&[])),
+    ("b.pcap", Bytes::Raw(&[7; 24])),
+];
+
+// A rule of 65 actions, one more than a flow may have.
+const MANY_ACTIONS: &str =
+    "actions=1,1,1,1,1,1,1,1,1,1,1,1,1,1,1,1,1,1,1,1,1,1,1,1,1,1,1,1,1,1,1,1,\
+    1,1,1,1,1,1,1,1,1,1,1,1,1,1,1,1,1,1,1,1,1,1,1,1,1,1,1,1,1,1,1,1,1";
+
+/// A run that is refused.
+#[derive(Drop)]
+pub struct Refused<'a> {
+    pub shows: &'static str,
+    pub words: &'static [&'static str],
+    pub edits: &'a str,
+    pub steps: &'a str,
+    pub traces: &'static [Trace],
+    /// The number of the call of the shelf that fails, or 0 where none does.
+    pub failing_call: u64,
+    pub status: u8,
+    pub text: &'static str,
+    /// The files that were opened, or asked for in vain.
+    pub opened: &'static [&'static str],
+}
+
+/// A file that is refused, and what is told of it.
+#[derive(Drop)]
+pub struct Fault {
+    pub shows: &'static str,
+    pub file: &'static str,
+    pub status: u8,
+    pub text: &'static str,
+}
+
+/// Files of edits that are refused.
+pub static EDITS_FAULTS: [Fault; 9] = [
+    Fault {
+        shows: "an action that is left out",
+        file: "in_port=1,actions=normal",
+        status: 3,
+        text: "edits:1:19: unsupported",
+    },
+    Fault {
+        shows: "an action with arguments that is left out",
+        file: "actions=ct(commit),2",
+        status: 3,
+        text: "edits:1:9: unsupported",
+    },
+    Fault {
+        shows: "a port that no switch has",
+        file: "in_port=0,actions=2",
+        status: 3,
+        text: "edits:1:9: bad value",
+    },
+    Fault {
+        shows: "a word that is no field",
+        file: "foo=1,actions=2",
+        status: 3,
+        text: "edits:1:1: unknown name",
+    },
+    Fault {
+        shows: "a flow without actions",
+        file: "in_port=1",
+        status: 3,
+        text: "edits:1:10: syntax",
+    },
+    Fault {
+        shows: "a field that stands twice",
+        file: "in_port=1,in_port=1,actions=2",
+        status: 3,
+        text: "edits:1:11: repeated",
+    },
+    Fault {
+        shows: "sync times that fall",
+        file: "sync 2|sync 1",
+        status: 3,
+        text: "edits:2:1: sync order",
+    },
+    Fault {
+        shows: "65 actions",
+        file: MANY_ACTIONS,
+        status: 7,
+        text: "limit: actions 64",
+    },
+    Fault {
+        shows: "the first faulty line decides",
+        file: "actions=2|actions=foo|actions",
+        status: 3,
+        text: "edits:2:9: unknown name",
+    },
+];
+
+/// Steps files that are refused, at a switch with the ports 1 and 2.
+pub static STEPS_FAULTS: [Fault; 8] = [
+    Fault {
+        shows: "a port that the switch hasn't",
+        file: "rx 9",
+        status: 3,
+        text: "steps:1:4: bad value",
+    },
+    Fault {
+        shows: "a word that is no step",
+        file: "edit|sync 1",
+        status: 3,
+        text: "steps:2:1: unknown name",
+    },
+    Fault {
+        shows: "a step without its port",
+        file: "|  rx # 1",
+        status: 3,
+        text: "steps:2:3: syntax",
+    },
+    Fault {
+        shows: "a step with a word too many",
+        file: "edit 1",
+        status: 3,
+        text: "steps:1:1: syntax",
+    },
+    Fault {
+        shows: "the number of words is tested before the values",
+        file: "snap 0",
+        status: 3,
+        text: "steps:1:1: syntax",
+    },
+    Fault {
+        shows: "a place with a leading zero",
+        file: "snap 2 01",
+        status: 3,
+        text: "steps:1:8: bad value",
+    },
+    Fault {
+        shows: "an entry above 32 bits",
+        file: "put 1 4294967296",
+        status: 3,
+        text: "steps:1:7: bad value",
+    },
+    Fault {
+        shows: "the first faulty line decides",
+        file: "edit|open|foo",
+        status: 3,
+        text: "steps:2:1: syntax",
+    },
+];
+
+/// A trace that is refused, and what is told of it.
+#[derive(Drop)]
+pub struct TraceFault {
+    pub shows: &'static str,
+    pub traces: &'static [Trace],
+    pub text: &'static str,
+}
+
+/// Traces that are refused. The magic is that of pcapng, and the link type LINKTYPE_RAW.
+pub static TRACE_FAULTS: [TraceFault; 8] = [
+    TraceFault {
+        shows: "a header cut short",
+        traces: &[("a.pcap", Bytes::CutAt(&[]))],
+        text: "a.pcap: short header",
+    },
+    TraceFault {
+        shows: "another magic",
+        traces: &[("a.pcap", Bytes::With(0, &[0x0a, 0x0d, 0x0d, 0x0a]))],
+        text: "a.pcap: magic",
+    },
+    TraceFault {
+        shows: "another version",
+        traces: &[("a.pcap", Bytes::With(4, &[3]))],
+        text: "a.pcap: version 3.4",
+    },
+    TraceFault {
+        shows: "another link type",
+        traces: &[("a.pcap", Bytes::With(20, &[101]))],
+        text: "a.pcap: link type 101",
+    },
+    TraceFault {
+        shows: "a first record cut short",
+        traces: &[("a.pcap", Bytes::CutAt(&[1]))],
+        text: "a.pcap: short record at 24",
+    },
+    TraceFault {
+        shows: "a second record cut short",
+        traces: &[("a.pcap", Bytes::CutAt(&[1, 2]))],
+        text: "a.pcap: short record at 100",
+    },
+    TraceFault {
+        shows: "262,145 captured bytes",
+        traces: &[("a.pcap", Bytes::With(32, &[1, 0, 4, 0]))],
+        text: "a.pcap: too long at 24",
+    },
+    TraceFault {
+        shows: "1,000,000 microseconds",
+        traces: &[("a.pcap", Bytes::With(28, &[0x40, 0x42, 0x0f, 0]))],
+        text: "a.pcap: fraction at 24",
+    },
+];
+
+/// Runs that show which refusal comes first, and what is opened then. The edits are read by the calls 1 to 4 of the
+/// shelf, and what comes next by those from 5 to 8.
+pub static REFUSED: [Refused<'static>; 11] = [
+    Refused {
+        shows: "faulty edits come before faulty steps",
+        words: STEPS,
+        edits: "actions",
+        steps: "rx 9",
+        traces: ONE_FRAME,
+        failing_call: 0,
+        status: 3,
+        text: "edits:1:1: syntax",
+        opened: &["edits"],
+    },
+    Refused {
+        shows: "faulty steps come before a trace with a fault",
+        words: STEPS,
+        edits: FORWARD,
+        steps: "rx 9",
+        traces: TWO_FAULTY_TRACES,
+        failing_call: 0,
+        status: 3,
+        text: "steps:1:4: bad value",
+        opened: &["edits", "steps"],
+    },
+    Refused {
+        shows: "a trace with a fault comes after good steps",
+        words: STEPS,
+        edits: FORWARD,
+        steps: "edit",
+        traces: TWO_FAULTY_TRACES,
+        failing_call: 0,
+        status: 4,
+        text: "a.pcap: short header",
+        opened: &["edits", "steps", "a.pcap"],
+    },
+    Refused {
+        shows: "the first faulty trace in the order of the words decides",
+        words: TWO_TRACES,
+        edits: FORWARD,
+        steps: "",
+        traces: TWO_FAULTY_TRACES,
+        failing_call: 0,
+        status: 4,
+        text: "a.pcap: short header",
+        opened: &["edits", "a.pcap"],
+    },
+    Refused {
+        shows: "and so in the other order",
+        words: &["edits", "out", "2=b.pcap", "1=a.pcap"],
+        edits: FORWARD,
+        steps: "",
+        traces: TWO_FAULTY_TRACES,
+        failing_call: 0,
+        status: 4,
+        text: "b.pcap: magic",
+        opened: &["edits", "b.pcap"],
+    },
+    Refused {
+        shows: "edits that aren't there",
+        words: &["missing", "out", "1=a.pcap"],
+        edits: FORWARD,
+        steps: "",
+        traces: ONE_FRAME,
+        failing_call: 0,
+        status: 5,
+        text: "read fault: missing",
+        opened: &["missing"],
+    },
+    Refused {
+        shows: "a steps file that isn't there",
+        words: &["--steps", "missing", "edits", "out", "1=a.pcap"],
+        edits: FORWARD,
+        steps: "",
+        traces: ONE_FRAME,
+        failing_call: 0,
+        status: 5,
+        text: "read fault: missing",
+        opened: &["edits", "missing"],
+    },
+    Refused {
+        shows: "a trace that isn't there",
+        words: &["edits", "out", "1=a.pcap", "2=missing"],
+        edits: FORWARD,
+        steps: "",
+        traces: ONE_FRAME,
+        failing_call: 0,
+        status: 5,
+        text: "read fault: missing",
+        opened: &["edits", "a.pcap", "missing"],
+    },
+    Refused {
+        shows: "a failed read of edits",
+        words: WORDS,
+        edits: FORWARD,
+        steps: "",
+        traces: ONE_FRAME,
+        failing_call: 2,
+        status: 5,
+        text: "read fault: edits",
+        opened: &["edits"],
+    },
+    Refused {
+        shows: "a failed read of a steps file",
+        words: STEPS,
+        edits: FORWARD,
+        steps: "edit",
+        traces: ONE_FRAME,
+        failing_call: 6,
+        status: 5,
+        text: "read fault: steps",
+        opened: &["edits", "steps"],
+    },
+    Refused {
+        shows: "a failed read at the end of a trace",
+        words: WORDS,
+        edits: FORWARD,
+        steps: "",
+        traces: ONE_FRAME,
+        failing_call: 7,
+        status: 5,
+        text: "read fault: a.pcap",
+        opened: &["edits", "a.pcap"],
+    },
+];

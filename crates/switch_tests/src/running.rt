@@ -1,0 +1,184 @@
+//! Runs over shelves in memory, and whether they end as their tables say.
+ghost use Rattle.std.specs.Prelude.{◌≡◌, IfOk};
+ghost use Rattle.edge_io.specs.declared.outside.InUse.TheVariants.{Nothing};
+
+use crate::bytes::{bytes_of, text_of};
+use crate::cases::{Run, Trace};
+use edge_io::{OpenGate, Shelf};
+use edge_memory::{MemoryShelf, MemorySink};
+use std::alloc::{AllocError, Global};
+use std::sync::Wait;
+use std::thread::Threads;
+use switch_app::run_switch;
+
+/// The status of a run that is done.
+pub const DONE: u8 = 0;
+
+/// A file with its name.
+pub type File = (String, Vec<u8>);
+
+/// The files that a run reads.
+#[derive(Drop)]
+pub struct Inputs<'a> {
+    pub edits: &'a str,
+    pub steps: &'a str,
+    pub traces: &'static [Trace],
+}
+
+/// A shelf with these files, whose call of this number fails. No call has the number 0.
+pub fn shelf_of(
+    alloc: Global,
+    inputs: &Inputs<'_>,
+    failing_call: u64,
+) -> Result<MemoryShelf, AllocError>
+    ensures { IfOk result (λ shelf. ⟦<MemoryShelf as Shelf>⟧.in_use shelf ≡ Nothing) }
+{
+    let mut files = Vec::new(alloc);
+    for (name, text) in [("edits", inputs.edits), ("steps", inputs.steps)] {
+        files.push((String::from_str(alloc, name)?, text_of(alloc, text)?))?;
+    }
+    for (name, bytes) in inputs.traces {
+        files.push((String::from_str(alloc, name)?, bytes_of(alloc, bytes)?))?;
+    }
+    let fails = vec![in alloc; failing_call]?;
+    Ok(MemoryShelf::new(alloc, files, fails))
+}
+
+/// Runs the switch, and gives its status.
+pub fn status_of<R: Threads + Wait + Sync, S: Shelf>(
+    rt: &R,
+    alloc: Global,
+    words: &[&str],
+    shelf: &mut S,
+    say: &mut MemorySink,
+) -> Result<u8, AllocError>
+    requires { S.in_use shelf.old ≡ Nothing }
+{
+    let mut owned = Vec::new(alloc);
+    for word in words {
+        owned.push(String::from_str(alloc, word)?)?;
+    }
+    Ok(run_switch(rt, alloc, &owned, shelf, say, &OpenGate))
+}
+
+/// The files that a run writes.
+pub fn files_of(alloc: Global, run: &Run<'_>) -> Result<Vec<File>, AllocError> {
+    let mut files = Vec::new(alloc);
+    for (port, bytes) in run.sent {
+        let name = format!(in alloc; "out.p{port}.pcap")?;
+        files.push((name, bytes_of(alloc, bytes)?))?;
+    }
+    for (name, text) in [
+        ("out.rules", run.rules),
+        ("out.megaflows", run.megaflows),
+        ("out.journal", run.journal),
+    ] {
+        files.push((String::from_str(alloc, name)?, text_of(alloc, text)?))?;
+    }
+    Ok(files)
+}
+
+/// Whether these are the same files.
+pub fn are_files(files: &[File], wanted: &[File]) -> bool {
+    files.len() == wanted.len()
+        && files.iter().zip(wanted).all(|(file, want)| file.0.as_str() == want.0.as_str()
+            && file.1 == want.1)
+}
+
+/// How a run ended.
+#[derive(Drop)]
+pub struct Ended {
+    pub status: u8,
+    pub shelf: MemoryShelf,
+    pub say: MemorySink,
+}
+
+/// Runs the switch over a shelf, and over a sink whose calls of these numbers fail.
+pub fn run_over<R: Threads + Wait + Sync>(
+    rt: &R,
+    alloc: Global,
+    words: &[&str],
+    mut shelf: MemoryShelf,
+    failing_prints: Vec<u64>,
+) -> Result<Ended, AllocError>
+    requires { ⟦<MemoryShelf as Shelf>⟧.in_use shelf ≡ Nothing }
+{
+    let mut say = MemorySink::new(alloc, failing_prints);
+    let status = status_of(rt, alloc, words, &mut shelf, &mut say)?;
+    Ok(Ended { status, shelf, say })
+}
+
+impl Ended {
+    /// Whether it has this status, and told this text.
+    pub fn tells(&self, alloc: Global, status: u8, lines: &str) -> Result<bool, AllocError> {
+        let text = text_of(alloc, lines)?;
+        Ok(self.status == status && self.say.text() == text.as_slice())
+    }
+
+    /// Whether it left these files, and none in use.
+    pub fn leaves(&self, files: &[File]) -> bool {
+        self.shelf.current().is_none() && are_files(self.shelf.made(), files)
+    }
+
+    /// Whether these files were opened and no others, in this order.
+    pub fn has_opened(&self, names: &[&str]) -> bool {
+        self.shelf.opened().len() == names.len()
+            && self
+                .shelf
+                .opened()
+                .iter()
+                .zip(names)
+                .all(|(opened, name)| opened.as_str() == *name)
+    }
+}
+
+// The names of the files that a run reads, in order.
+fn names_read(
+    alloc: Global,
+    steps: Option<&str>,
+    traces: &[Trace],
+) -> Result<Vec<&'static str>, AllocError> {
+    let mut names = vec![in alloc; "edits"]?;
+    if steps.is_some() {
+        names.push("steps")?;
+    }
+    for (name, _) in traces {
+        names.push(*name)?;
+    }
+    Ok(names)
+}
+
+fn leaves_its_files(alloc: Global, ended: &Ended, run: &Run<'_>) -> Result<bool, AllocError> {
+    let files = files_of(alloc, run)?;
+    Ok(ended.leaves(&files))
+}
+
+fn has_opened_its_files(
+    alloc: Global,
+    ended: &Ended,
+    run: &Run<'_>,
+    steps: Option<&str>,
+) -> Result<bool, AllocError> {
+    let names = names_read(alloc, steps, run.traces)?;
+    Ok(ended.has_opened(&names))
+}
+
+/// Whether a run, perhaps with given steps, is done, prints its summary, and leaves its files; and whether it opened all
+/// that it names, each once.
+pub fn ends_as_shown<R: Threads + Wait + Sync>(
+    rt: &R,
+    alloc: Global,
+    run: &Run<'_>,
+    steps: Option<&str>,
+) -> Result<bool, AllocError> {
+    let inputs = Inputs {
+        edits: run.edits,
+        steps: steps.unwrap_or(""),
+        traces: run.traces,
+    };
+    let shelf = shelf_of(alloc, &inputs, 0)?;
+    let ended = run_over(rt, alloc, run.words, shelf, Vec::new(alloc))?;
+    let told = ended.tells(alloc, DONE, run.summary)?;
+    let written = leaves_its_files(alloc, &ended, run)?;
+    Ok(told && written && has_opened_its_files(alloc, &ended, run, steps)?)
+}

@@ -1,0 +1,112 @@
+//! Words that are refused, before any file is opened.
+use crate::cases::USAGE;
+use crate::running::run_over;
+use edge_memory::MemoryShelf;
+use std::alloc::{AllocError, Global};
+use std::sync::Wait;
+use std::test::Fail;
+use std::thread::Threads;
+
+/// Words after the program's name, with the status and the text that a run ends with.
+#[derive(Drop)]
+struct Refused {
+    shows: &'static str,
+    words: &'static [&'static str],
+    status: u8,
+    text: &'static str,
+}
+
+static REFUSED: [Refused; 12] = [
+    Refused {
+        shows: "no words",
+        words: &[],
+        status: 2,
+        text: USAGE,
+    },
+    Refused {
+        shows: "no port",
+        words: &["edits", "out"],
+        status: 2,
+        text: USAGE,
+    },
+    Refused {
+        shows: "a port that stands twice",
+        words: &["edits", "out", "1=a.pcap", "1="],
+        status: 2,
+        text: USAGE,
+    },
+    Refused {
+        shows: "17 workers",
+        words: &["--workers", "17", "edits", "out", "1="],
+        status: 2,
+        text: USAGE,
+    },
+    Refused {
+        shows: "room for no megaflow",
+        words: &["--flow-limit", "0", "edits", "out", "1="],
+        status: 2,
+        text: USAGE,
+    },
+    Refused {
+        shows: "steps for workers",
+        words: &["--workers", "1", "--steps", "steps", "edits", "out", "1="],
+        status: 2,
+        text: USAGE,
+    },
+    Refused {
+        shows: "steps without a name",
+        words: &["--steps=", "edits", "out", "1="],
+        status: 2,
+        text: USAGE,
+    },
+    Refused {
+        shows: "files beside what a number makes",
+        words: &["--generate", "7", "edits"],
+        status: 2,
+        text: USAGE,
+    },
+    Refused {
+        shows: "steps for what a number makes",
+        words: &["--generate", "7", "--steps=steps"],
+        status: 2,
+        text: USAGE,
+    },
+    Refused {
+        shows: "a number with a leading zero",
+        words: &["--generate", "07"],
+        status: 2,
+        text: USAGE,
+    },
+    Refused {
+        shows: "a worker",
+        words: &["--workers", "1", "edits", "out", "1="],
+        status: 9,
+        text: "not built: workers",
+    },
+    Refused {
+        shows: "a worker for what a number makes",
+        words: &["--generate", "7", "--workers=1"],
+        status: 9,
+        text: "not built: workers",
+    },
+];
+
+// Whether a run on these words ends with the status and the text, and opens nothing.
+fn ends_refused<R: Threads + Wait + Sync>(
+    rt: &R,
+    alloc: Global,
+    refused: &Refused,
+) -> Result<bool, AllocError> {
+    let shelf = MemoryShelf::new(alloc, Vec::new(alloc), Vec::new(alloc));
+    let ended = run_over(rt, alloc, refused.words, shelf, Vec::new(alloc))?;
+    Ok(ended.has_opened(&[]) && ended.tells(alloc, refused.status, refused.text)?)
+}
+
+#[test]
+fn words_are_refused_before_files(rt: HostRuntime) -> Result<(), Fail> {
+    let alloc = rt.alloc();
+    for refused in &REFUSED {
+        assert!(rt; ends_refused(&rt, alloc, refused)?, "{}", refused.shows);
+    }
+    Ok(())
+}
