@@ -4,7 +4,8 @@
     python3 cache_rows.py
 
 prints each row that the simulation gives otherwise, and ends with 1 where there is one. A row has the steps of one port's
-journal, and perhaps packets and bytes by rule, those that entries owe among them.
+journal, those that the simulation takes by itself or those that it is given; or packets and bytes by rule, those that
+entries owe among them.
 """
 import os
 import sys
@@ -14,12 +15,13 @@ sys.dont_write_bytecode = True
 TOP = os.path.join(os.path.dirname(os.path.abspath(__file__)), "..")
 sys.path.insert(0, os.path.join(TOP, "vectors"))
 from row_check import tell
-from simulation.caches import FLOW_LIMIT, Board, ExactCache, hash_of
+from simulation.caches import FLOW_LIMIT, ExactCache, hash_of
+from simulation.captures import SECOND, Frame
+from simulation.dumps import counts_of
 from simulation.flow_fields import packed
-from simulation.flow_rules import versions
 from simulation.flow_text import read_script
-from simulation.frame_key import key_of
-from simulation.switch import SECOND, Frame, blocks_of, run_board, translator
+from simulation.schedule import Schedule
+from simulation.steps import read_steps
 
 PORT, PORTS = 1, [1, 2, 3]
 
@@ -27,6 +29,7 @@ PORT, PORTS = 1, [1, 2, 3]
 At = namedtuple("At", "seconds last")
 
 FROM_1 = "in_port=1,actions=2"
+FROM_1_CHANGED = f"{FROM_1}\nmodify in_port=1,actions=3"
 ADDRESS_2 = "in_port=1,dl_dst=00:00:00:00:00:02,actions=2\n"
 NINE = "priority=10,dl_dst=00:00:00:00:00:09"
 
@@ -128,6 +131,83 @@ TOTALS = {
     ),
 }
 
+# How a frame comes to have an entry by given steps, as all of these rows begin.
+FIRST = "edit|rx 1|snap 1 1|settle 1 1|"
+FIRST_LINES = "look 1 miss|settle 1 1 installed 1|"
+
+# What a row shows, the edits, the frames, the given steps, the steps of the journal, and how many given ones are unmet.
+GIVEN = {
+    "a settle by a version before the last sweep begun is stale, and gives the translation up": (
+        FROM_1_CHANGED, [At(1, 2)], "edit|rx 1|snap 1 1|edit|sweep 1|settle 1 1|settle 1 1|swept 1",
+        "look 1 miss|begin 2|end|settle 1 2 installed 1", 2,
+    ),
+    "a settle by a version before the newest isn't stale where no sweep of it has begun": (
+        FROM_1_CHANGED, [At(1, 2)], "edit|rx 1|snap 1 1|edit|settle 1 1",
+        f"{FIRST_LINES}begin 2|put 1 2 replaced|end", 0,
+    ),
+    "a second snap takes the place of the first": (
+        FROM_1_CHANGED, [At(1, 2)], "edit|rx 1|snap 1 1|edit|snap 1 1|settle 1 1",
+        "look 1 miss|settle 1 2 installed 1|begin 2|put 1 2 kept|end", 0,
+    ),
+    "a frame that waits while its key gets an entry": (
+        FROM_1, [At(1, 2), At(2, 2)], "edit|rx 1|rx 1|snap 1 1|snap 1 2|settle 1 1|settle 1 2",
+        "look 1 miss|look 2 miss|settle 1 1 installed 1|settle 2 1 present 1|begin 1|put 1 1 kept|end", 0,
+    ),
+    "frames are settled in any order": (
+        ADDRESS_2, [At(1, 2), At(2, 6)], "edit|rx 1|rx 1|snap 1 2|settle 1 2|snap 1 1|settle 1 1",
+        "look 1 miss|look 2 miss|settle 2 1 installed 1|settle 1 1 installed 2|begin 1|put 1 1 kept|put 2 1 kept|end", 0,
+    ),
+    "a snap of a frame that wasn't looked up, or that is settled, and a settle without a snap": (
+        FROM_1, [At(1, 2)], "snap 1 1|rx 1|settle 1 1|snap 1 1|settle 1 1|snap 1 1|snap 1 2|rx 1",
+        "look 1 miss|settle 1 0 installed 1|begin 1|put 1 1 replaced|end", 5,
+    ),
+    "an edit after the last one": (FROM_1, [], "edit|edit", "begin 1|end", 1),
+    "an edit of a block that a board has yet to reach": (
+        f"{FROM_1}\nsync 2\nin_port=2,actions=3", [], "edit|edit|sweep 1|swept 1|open 1|edit",
+        "begin 1|end|open 1|begin 2|end", 2,
+    ),
+    "an entry that is put, while another waits for the end of the sweep": (
+        ADDRESS_2, [At(1, 2), At(1, 6)],
+        f"{FIRST}rx 1|snap 1 2|settle 1 2|sweep 1|sweep 1|check 1 2|put 1 2|put 1 2|swept 1|check 1 1|put 1 1|swept 1|"
+        "swept 1",
+        f"{FIRST_LINES}look 2 miss|settle 2 1 installed 2|begin 1|put 2 1 kept|put 1 1 kept|end", 4,
+    ),
+    "a check that no put follows before the sweep is ended": (
+        FROM_1, [At(1, 2)], f"{FIRST}sweep 1|check 1 1|put 1 2|check 1 2", f"{FIRST_LINES}begin 1|put 1 1 kept|end", 2,
+    ),
+    "an entry that comes while a sweep runs isn't put": (
+        ADDRESS_2, [At(1, 2), At(1, 6)], f"{FIRST}rx 1|snap 1 2|sweep 1|settle 1 2|check 1 2|check 1 1|put 1 1|swept 1",
+        f"{FIRST_LINES}look 2 miss|begin 1|settle 2 1 installed 2|put 1 1 kept|end", 1,
+    ),
+    "an entry that is dropped while a sweep runs isn't put any more": (
+        f"priority=1,actions=2\n{NINE},actions=3\ndelete_strict {NINE}", [At(1, 2), At(2, 6)],
+        "edit|edit|rx 1|snap 1 1|settle 1 1|edit|rx 1|sweep 1|check 1 1|snap 1 2|settle 1 2|put 1 1|swept 1",
+        "look 1 miss|settle 1 2 installed 1|look 2 miss|begin 3|settle 2 3 installed 2 drop 1|end", 1,
+    ),
+    "an entry may be put by a version between that of its sweep and the newest": (
+        f"{FROM_1}\n" + "modify in_port=1,actions=3\n" * 3, [At(1, 2)],
+        f"{FIRST}edit|sweep 1|edit|check 1 1|edit|put 1 1|swept 1",
+        f"{FIRST_LINES}begin 2|put 1 3 replaced|end|begin 4|put 1 4 kept|end", 0,
+    ),
+    "what a sweep has left is put by the newest version": (
+        FROM_1_CHANGED, [At(1, 2)], f"{FIRST}sweep 1|edit",
+        f"{FIRST_LINES}begin 1|put 1 2 replaced|end|begin 2|put 1 2 kept|end", 0,
+    ),
+    "a board that opens the next block needs no frames left, no frame that waits, and a sweep": (
+        f"{FROM_1}\nsync 2", [At(1, 2)], "edit|open 1|rx 1|open 1|snap 1 1|settle 1 1|open 1|sweep 1|open 1|check 1 1|"
+        "put 1 1|swept 1|open 1|open 1",
+        f"{FIRST_LINES}begin 1|put 1 1 kept|end|open 1", 5,
+    ),
+    "a block without edits before it is opened without a sweep, and its edits wait for the other boards": (
+        f"sync 2\n{FROM_1}", [At(1, 2), At(2, 2)], "rx 1|snap 1 1|rx 1|settle 1 1|open 1|edit|rx 1",
+        "look 1 miss|settle 1 0 installed 1|open 1|look 2 mega 1|begin 1|put 1 1 replaced|end", 2,
+    ),
+    "frames that wait are settled before the sweep of their block, and after one that runs": (
+        FROM_1, [At(1, 2), At(1, 3)], "edit|rx 1|rx 1|sweep 1",
+        "look 1 miss|look 2 miss|begin 1|end|settle 1 1 installed 1|settle 2 1 present 1", 0,
+    ),
+}
+
 
 def frames_of(times):
     """Frames from ..:01 of 60 bytes and an unknown type, that come in at port 1."""
@@ -136,34 +216,31 @@ def frames_of(times):
         yield Frame(round(seconds * SECOND), PORT, place, data)
 
 
-def board_of(text, limit=FLOW_LIMIT):
-    script = read_script(text.encode())
-    ends = [*(sync.after for sync in script.syncs), len(script.edits)]
-    return script, Board(PORT, translator(versions(script.edits, ends), PORTS), limit)
+def schedule_of(text, times, limit=FLOW_LIMIT):
+    frames = {PORT: list(frames_of(times))} | {port: [] for port in PORTS if port != PORT}
+    return Schedule(read_script(text.encode()), frames, limit)
 
 
-def ran(text, times, limit=FLOW_LIMIT):
-    script, board = board_of(text, limit)
-    return run_board(board, blocks_of(list(frames_of(times)), script))
+def finished(schedule):
+    """The board of the port after all that is left to do, and the others."""
+    schedule.finish()
+    return schedule.boards[PORT]
 
 
 def steps_of(board):
     return "|".join(board.lines[1:])
 
 
+def given(text, times, steps):
+    """The steps of a journal where some are given, and how many of these aren't met."""
+    schedule = schedule_of(text, times)
+    unmet = schedule.take(read_steps(steps.replace("|", "\n").encode(), PORTS))
+    return steps_of(finished(schedule)), unmet
+
+
 def due(board):
     """What rules are credited with, and what entries owe them."""
-    for entry in board.megaflows.entries.values():
-        board.pay(entry)
-    return dict(board.totals)
-
-
-def settled_twice():
-    """The steps of a frame that is settled after its key has got an entry."""
-    _, board = board_of(FROM_1)
-    for frame in frames_of([At(1, 2), At(2, 2)]):
-        board.settle(frame, packed(key_of(PORT, frame.bytes)), 1)
-    return steps_of(board)
+    return dict(counts_of([board]))
 
 
 # ---- the cache of keys
@@ -186,12 +263,13 @@ def put_all(cache, *pairs):
 def all_rows():
     """Each row: its name, what is given, and what is wanted."""
     for name, (text, times, wanted) in JOURNALS.items():
-        yield name, steps_of(ran(text, times)), wanted
+        yield name, steps_of(finished(schedule_of(text, times))), wanted
     for name, (limit, text, times, wanted) in LIMITED.items():
-        yield name, steps_of(ran(text, times, limit)), wanted
+        yield name, steps_of(finished(schedule_of(text, times, limit))), wanted
     for name, (text, times, wanted) in TOTALS.items():
-        yield name, due(ran(text, times)), wanted
-    yield "a key that has an entry already", settled_twice(), "settle 1 1 installed 1|settle 2 1 present 1"
+        yield name, due(finished(schedule_of(text, times))), wanted
+    for name, (text, times, steps, *wanted) in GIVEN.items():
+        yield name, given(text, times, steps), tuple(wanted)
     yield "the hash of a key of zeros", hash_of(0), 0xB0F1E1ED2939F27D
     yield "the hash of a field of two bits", hash_of(packed({"ip_frag": 3})), 0xC46C1603E2B14F24
     yield "the slots of a key are 13 bits of each half of its hash", ExactCache().places_of(0), (0x127D, 0x1ED)

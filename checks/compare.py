@@ -3,40 +3,28 @@
 
     python3 compare.py PROGRAM ROUNDS
 
-Status, text and files of each run have to be the same, the journal among them. Round n is the same at each call. It
-prints the first run that differs and keeps its folder, and ends with 1; else it prints nothing.
+Status, text and files of each run have to be the same, byte by byte: the summary, the dumps and the journal among them.
+Round n is the same at each call. It prints the first run that differs and keeps its folder, and ends with 1; else it
+prints nothing.
 """
 import os
 import shutil
-import subprocess
 import sys
 import tempfile
 
 sys.dont_write_bytecode = True
-from made_runs import made_run, simulated
-
-
-def written_in(folder, given):
-    files = {}
-    for name in os.listdir(folder):
-        if name not in given:
-            with open(os.path.join(folder, name), "rb") as file:
-                files[name] = file.read()
-    return files
+from made_runs import made_run
+from whole_run import ran_in, simulated
 
 
 def compare(program, number, folder):
     """Tries one run in an empty folder, and tells what is wrong."""
     words, given = made_run(number)
-    for name, data in given.items():
-        with open(os.path.join(folder, name), "wb") as file:
-            file.write(data)
-    wanted = simulated(words, given)
-    ran = subprocess.run([program, *words], cwd=folder, stdin=subprocess.DEVNULL, stdout=subprocess.PIPE)
-    if (ran.returncode, ran.stdout) != (wanted.status, wanted.text.encode()):
-        return f"{words}: status {ran.returncode} and {ran.stdout}, not {wanted.status} and {wanted.text!r}"
-    files, wanted_files = written_in(folder, given), dict(wanted.files)
-    wrong = sorted(name for name in files.keys() | wanted_files.keys() if files.get(name) != wanted_files.get(name))
+    got, wanted = ran_in(folder, program, words, given), simulated(words, given)
+    if (got.status, got.text) != (wanted.status, wanted.text):
+        return f"{words}: status {got.status} and {got.text!r}, not {wanted.status} and {wanted.text!r}"
+    names = got.files.keys() | wanted.files.keys()
+    wrong = sorted(name for name in names if got.files.get(name) != wanted.files.get(name))
     return f"{words}: {', '.join(wrong)}" if wrong else None
 
 

@@ -8,15 +8,14 @@ frame in each second. A row that says that Open vSwitch differs has to differ. I
 then ends with 1.
 """
 import os
-import subprocess
 import sys
-import tempfile
 
 sys.dont_write_bytecode = True
 TOP = os.path.join(os.path.dirname(os.path.abspath(__file__)), "..")
 sys.path.insert(0, os.path.join(TOP, "vectors"))
 from make_rewritten import IN_PORT, PORTS, read_table
-from simulation.switch import MICROSECOND, SECOND, Frame, read_format, read_frames, simulate, write_trace
+from simulation.captures import MICROSECOND, SECOND, Frame, read_format, read_frames, write_trace
+from whole_run import ended
 
 EDITS, TRACE, OUT = "edits", "frames.pcap", "out"
 WORDS = [EDITS, OUT, *(f"{port}={TRACE if port == IN_PORT else ''}" for port in PORTS)]
@@ -26,24 +25,6 @@ def given_files(rows):
     frames = [Frame(place * SECOND, IN_PORT, place, row.frame) for place, row in enumerate(rows)]
     edits = "".join(flow + "\n" for row in rows for flow in row.flows)
     return {EDITS: edits.encode(), TRACE: write_trace(frames, MICROSECOND)}
-
-
-def simulated(given):
-    result = simulate(WORDS, given.__getitem__)
-    return result.status, result.text, dict(result.files)
-
-
-def run(program, given):
-    with tempfile.TemporaryDirectory() as room:
-        for name, data in given.items():
-            with open(os.path.join(room, name), "wb") as file:
-                file.write(data)
-        ran = subprocess.run([program, *WORDS], cwd=room, stdin=subprocess.DEVNULL, stdout=subprocess.PIPE, text=True)
-        written = {}
-        for name in os.listdir(room):
-            with open(os.path.join(room, name), "rb") as file:
-                written[name] = file.read()
-    return ran.returncode, ran.stdout, written
 
 
 def sent_by_row(files, count):
@@ -63,7 +44,7 @@ def shown(sent):
 def main(words):
     rows = list(read_table())
     given = given_files(rows)
-    status, text, files = run(os.path.abspath(words[0]), given) if words else simulated(given)
+    status, text, files = ended(os.path.abspath(words[0]) if words else None, WORDS, given)
     if status:
         print(f"status {status}: {text.strip()}")
         return 1

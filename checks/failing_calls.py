@@ -3,10 +3,10 @@
 
     failing_calls.py PROGRAM
 
-A run opens, reads and writes the files of a small switch. Each of its calls of openat, read and write is made to fail
-with each error of ERRORS, alone. The status, the text and the files have to be those that docs/FORMATS.md says: a call
-that a signal interrupted is made again, every other failure is a fault of the file in use, and a fault in printing
-leaves the status of a refusal.
+A run with given steps opens, reads and writes the files of a small switch. Each of its calls of openat, read and write
+is made to fail with each error of ERRORS, alone. The status, the text and the files have to be those that docs/FORMATS.md
+says: a call that a signal interrupted is made again, every other failure is a fault of the file in use, a fault in
+printing the summary is told by the status alone, and one in printing a refusal leaves its status.
 """
 import os
 import re
@@ -18,10 +18,12 @@ import tempfile
 ERRORS = ("EIO", "ENOSPC", "EACCES", "EINTR", "EAGAIN")
 CALLS = ("openat", "read", "write")
 HERE = os.path.dirname(os.path.realpath(__file__))
-WORDS = ["edits", "out", "1=small.pcap", "2=large.pcap"]
-READ = ["edits", "small.pcap", "large.pcap"]
-WRITTEN = ["out.p1.pcap", "out.p2.pcap", "out.journal"]
+WORDS = ["--steps", "steps", "edits", "out", "1=small.pcap", "2=large.pcap"]
+# In the order in which they are read, and written.
+READ = ["edits", "steps", "small.pcap", "large.pcap"]
+WRITTEN = ["out.p1.pcap", "out.p2.pcap", "out.rules", "out.megaflows", "out.journal"]
 STDOUT = 1
+DONE, READ_FAULT, WRITE_FAULT = 0, 5, 6
 
 
 class Call:
@@ -39,6 +41,8 @@ class Outcome:
 def make_inputs():
     with open("edits", "w") as file:
         file.write("in_port=1,actions=2\nin_port=2,actions=1\n")
+    with open("steps", "w") as file:
+        file.write("edit\nrx 1\nsnap 1 1\nedit\nsettle 1 1\n")
     for name, frames in (("small.pcap", 1), ("large.pcap", 2000)):
         subprocess.run([sys.executable, f"{HERE}/make_trace.py", name, str(frames), "60"], check=True)
 
@@ -83,15 +87,23 @@ def calls_of(log):
 
 def is_as_expected(call, error, good, now):
     """Whether a run has come to what it has to, where one call failed so in a run that is good otherwise."""
-    if error == "EINTR" or call.file is None:
-        return (now.status, now.files) == (good.status, good.files) and (now.text == good.text or error != "EINTR")
+    if error == "EINTR":
+        return (now.status, now.text, now.files) == (good.status, good.text, good.files)
+    if call.file is None:
+        status = WRITE_FAULT if good.status == DONE else good.status
+        return (now.status, now.files) == (status, good.files) and is_cut(now.text, good.text)
     if call.file in READ:
-        return (now.status, now.text, now.files) == (5, f"read fault: {call.file}\n".encode(), {})
+        return (now.status, now.text, now.files) == (READ_FAULT, f"read fault: {call.file}\n".encode(), {})
     place = WRITTEN.index(call.file)
     whole = all(now.files.get(name) == good.files[name] for name in WRITTEN[:place])
     none = not set(now.files) & set(WRITTEN[place + 1:])
     begun = good.files[call.file].startswith(now.files.get(call.file, b""))
-    return (now.status, now.text) == (6, f"write fault: {call.file}\n".encode()) and whole and none and begun
+    return (now.status, now.text) == (WRITE_FAULT, f"write fault: {call.file}\n".encode()) and whole and none and begun
+
+
+def is_cut(text, whole):
+    """Whether a text ends before its end, and nothing stands in its place."""
+    return text != whole and whole.startswith(text)
 
 
 def try_run(program, words, inputs):

@@ -18,11 +18,12 @@ import make
 from frames import ALL_FRAMES
 from mutations import good_lines
 from row_check import tell
+from simulation.captures import Frame, write_trace
 from simulation.flow_fields import TAG, full, packed
 from simulation.flow_rules import Rules
 from simulation.flow_text import TextFault, print_actions, print_match, read_script
 from simulation.frame_key import key_of
-from simulation.switch import Frame, simulate, write_trace
+from simulation.switch import simulate
 
 # What a row shows, a file of edits, and the line, column and reason of its first fault.
 FAULTS = """
@@ -244,12 +245,13 @@ def trace(*times):
 
 
 def run(edits, *times, ports=(1, 2)):
-    """How a run ends, with the times of the frames in each port file."""
+    """How a run ends: what refused it, or the times of the frames in each port file."""
     files = {"edits": edits, "a.pcap": trace(*times)}
     words = ["edits", "out", "1=a.pcap", *(f"{port}=" for port in ports[1:])]
     status, text, written = simulate(words, files.__getitem__)
-    sent = [[struct.unpack_from("<I", data, at)[0] for at in range(24, len(data), 76)] for _, data in written[:-1]]
-    return status, text.strip(), sent
+    files = [data for name, data in written if name.endswith(".pcap")]
+    sent = [[struct.unpack_from("<I", data, at)[0] for at in range(24, len(data), 76)] for data in files]
+    return status, text.strip() if status else "", sent
 
 
 def refused(status, text):

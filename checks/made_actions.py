@@ -3,6 +3,7 @@
 Values are mostly small or those of frames, so that rules of other tables match them, and writes change some bits and
 leave others.
 """
+import functools
 import os
 import sys
 
@@ -37,6 +38,7 @@ def whole_key(frame):
     return dict.fromkeys(KEY_FIELD, 0) | key_of(1, frame)
 
 
+@functools.cache
 def fields_of(frame):
     """The named fields of the headers of a frame that can be written."""
     key = whole_key(frame)

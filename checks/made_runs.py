@@ -1,21 +1,21 @@
 #!/usr/bin/env python3
-"""Made-up runs, some of them out of form: words, edits and traces.
+"""Made-up runs, some of them out of form: words, edits, traces and steps.
 
 Their traces are of all four formats, mixed in a run: both orders of bytes, microseconds and nanoseconds. Their frames
 are of all protocols, some of them cut anywhere. Their rules are in several tables, match bits of frames that are in the
 traces by fields of all kinds, have actions of all kinds, and are modified and deleted in all ways.
 
-Every second run is for the caches. It has no fault; its frames come again and again, some of them with a bit changed, and
-its rules change at the time of a frame or beside it, so that entries are hit, replaced, removed, idle and overlapped. Two
-results come in no such run, and stand in cache_rows.py: `present`, since a frame is settled as soon as it is looked up,
-and `full`, since there are fewer frames than entries may be.
+Every second run is for the caches. It has hardly a fault; its frames come again and again, some of them with a bit
+changed, and its rules change at the time of a frame or beside it, so that entries are hit, replaced, removed, idle and
+overlapped. In most of these runs few entries may be, or steps are given, which are as made_steps.py says, or both.
 
     python3 made_runs.py ROUNDS
 
-prints how often each result stands in the journals of the simulation.
+prints how often each result stands in the journals of the simulation, and how many given steps were unmet.
 """
 import os
 import random
+import re
 import struct
 import sys
 from collections import Counter, namedtuple
@@ -24,10 +24,14 @@ sys.dont_write_bytecode = True
 TOP = os.path.join(os.path.dirname(os.path.abspath(__file__)), "..")
 sys.path.insert(0, os.path.join(TOP, "vectors"))
 from made_actions import KINDS, REGISTERS, SMALL, TABLES, ActionMaker, Picker
+from made_steps import StepMaker
+from simulation.command_words import read_words
 from simulation.flow_fields import KEY_FIELD, NAMED_FIELDS, full, packed
 from simulation.flow_text import Match, print_match
 from simulation.frame_key import key_of
-from simulation.switch import simulate
+from simulation.schedule import Schedule
+from simulation.switch import read_input
+from whole_run import simulated
 
 PORTS = [1, 2, 3, 9, 40, 65279]
 ADDRESSES = ["0:0:0:0:0:0", "00:00:00:00:00:02", "02:00:00:00:00:0a", "2:0:0:0:0:A", "ff:ff:ff:ff:ff:ff"]
@@ -45,6 +49,8 @@ ETHERNET = ("dl_src", "dl_dst", "vlan_tci")
 NETWORK = ("nw_src", "nw_dst", "ipv6_src", "ipv6_dst", "nw_tos", "nw_ttl", "ip_frag", "arp_sha", "arp_tha")
 TRANSPORT = ("tp_src", "tp_dst")
 ODD_WORDS = ["", "-", "--", "1", "=", "0=", "01=", "65280=", "1=", "1=a.pcap", "1=none", "none"]
+ODD_WORDS += ["-1=", "--workers", "--workers=0", "--workers=1", "--workers=17", "--steps=a.pcap", "--generate=7"]
+ODD_WORDS += ["--flow-limit=0", "--flow-limit=1", "--flow-limit=1", "--flow-limit=2", "--flow-limit=65537", "--limit=1"]
 TRACES = ["a.pcap", "b.pcap", "c.pcap"]
 FRAME_LENGTHS = [0, 6, 13, 14, 60, 61, 200]
 # In nanoseconds, and sync times at them and round them, in order. A trace in microseconds has no finer ones.
@@ -66,8 +72,10 @@ SNAP_LENGTH = 262144
 BAD_LENGTHS = [SNAP_LENGTH + 1, 1 << 24, 1 << 31, (1 << 32) - 1]
 # In the runs for the caches: how much later than the one before a frame may be. An entry is idle after ten seconds.
 GAPS = [0, 1000, SECOND, SECOND, 10 * SECOND - 1000, 10 * SECOND, 10 * SECOND + 1000]
-# How many times as often as others these rules are changed.
-VEIL_DELETES = 4
+# The least numbers of entries that a flow limit may be.
+FLOW_LIMITS = range(1, 9)
+# How many rules there are that make entries narrow, and how many times as often as others these are changed.
+VEILS, VEIL_DELETES = [0, 1, 2, 2], 6
 # The bytes of addresses, of the header of IPv4 and of ports.
 CHANGED_BYTES = [0, 5, 11, 15, 16, 22, 23, 29, 30, 32, 33, 35, 37]
 ODD_SYNCS = ["sync", " sync ", "sync1", "Sync 1", "syncs 1", "sync=1", "sync,1", "sync 1\v", "add sync 1", "sync\0 1"]
@@ -241,6 +249,13 @@ class Maker(Picker):
             words[at] = self.one(*ODD_WORDS)
         return words
 
+    def steps(self, words, given):
+        """A steps file, or none, and the words with its name."""
+        if self.chance(0.7):
+            return words, {}
+        words = [f"--steps={self.one('steps', 'steps', 'steps', 'none')}", *words]
+        return words, {"steps": StepMaker(self.pick, self.ports).text().encode()}
+
 
 class CacheMaker(Maker):
     """Makes runs whose frames come again, before and after the rules have changed."""
@@ -255,6 +270,9 @@ class CacheMaker(Maker):
             self.ticks.append(self.ticks[-1] + self.one(*GAPS))
         # The words and items of the adds so far, most of which later edits reach.
         self.added = []
+        # Whether steps are given. Edits of one block are then published between any steps.
+        self.has_steps = self.chance(0.6)
+        self.is_narrow = self.has_steps and self.chance(0.15)
 
     def changed(self, frame):
         """A frame with a bit changed where keys have bits."""
@@ -295,10 +313,17 @@ class CacheMaker(Maker):
     def good_flows(self, most):
         return [self.add() for _ in range(self.pick.randrange(1, most + 1))]
 
+    def narrow_edits(self):
+        """Of three edits the second makes entries narrow, and the third makes them wide."""
+        lines = [f"priority=0,actions={self.actions.output()}", self.veil()]
+        return [*lines, f"delete_strict {self.added[0][1]}"]
+
     def edits(self):
-        lines = self.good_flows(6) + [self.veil() for _ in range(self.one(0, 1, 2))]
+        lines = self.narrow_edits() if self.is_narrow else []
+        lines += self.good_flows(6) + [self.veil() for _ in range(self.one(*VEILS))]
         for tick in sorted(self.one(*self.ticks) + self.one(0, 0, -1000, 1000) for _ in range(self.one(1, 2, 3, 4))):
-            lines.append(f"sync {tick // SECOND}.{tick % SECOND:09}")
+            if not self.has_steps or self.chance(0.4):
+                lines.append(f"sync {tick // SECOND}.{tick % SECOND:09}")
             lines += [self.change() for _ in range(self.one(0, 1, 1, 2, 3))]
         return "\n".join(lines).encode()
 
@@ -313,22 +338,24 @@ class CacheMaker(Maker):
     def words(self):
         return ["edits", "out", *(f"{it}={self.one('', *TRACES, *TRACES)}" for it in self.ports)]
 
+    def steps(self, words, given):
+        """Perhaps few entries may be; and perhaps a steps file, whose steps are chosen as the run goes on."""
+        if self.chance(0.4):
+            words = [f"--flow-limit={self.one(*FLOW_LIMITS)}", *words]
+        if not self.has_steps:
+            return words, {}
+        command = read_words(words)
+        known = read_input(command, given.__getitem__)
+        maker = StepMaker(self.pick, self.ports, Schedule(known.script, known.frames, command.flow_limit))
+        return [*words, "--steps", "steps"], {"steps": maker.text(self.is_narrow).encode()}
+
 
 def made_run(number):
     """The words and the files of a run, which is the same for the same number."""
     maker = (CacheMaker if number % 2 else Maker)(number)
-    return maker.words(), {"edits": maker.edits(), **{name: maker.trace() for name in TRACES}}
-
-
-def simulated(words, given):
-    """How the simulation ends a run of these files."""
-
-    def contents(name):
-        if name not in given:
-            raise FileNotFoundError(name)
-        return given[name]
-
-    return simulate(words, contents)
+    words, given = maker.words(), {"edits": maker.edits(), **{name: maker.trace() for name in TRACES}}
+    words, steps = maker.steps(words, given)
+    return words, given | steps
 
 
 def results_of(journal):
@@ -342,9 +369,8 @@ def main(words):
     for number in range(int(words[0])):
         result = simulated(*made_run(number))
         counts[f"status {result.status}"] += 1
-        for name, data in result.files:
-            if name.endswith(".journal"):
-                counts.update(results_of(data.decode()))
+        counts.update(results_of(result.files.get("out.journal", b"").decode()))
+        counts.update({f"given {what}": int(count) for what, count in re.findall(r"(steps|unmet)=(\d+)", result.text)})
     for what, count in sorted(counts.items()):
         print(f"{what}: {count}")
 

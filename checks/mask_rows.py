@@ -20,7 +20,7 @@ from row_check import tell
 from simulation.classifier import Tables
 from simulation.dump_text import print_datapath_actions, print_entry_match
 from simulation.flow_fields import packed
-from simulation.flow_rules import versions
+from simulation.flow_rules import last_version
 from simulation.flow_text import read_script
 from simulation.frame_key import key_of
 from simulation.translation import translate
@@ -244,8 +244,7 @@ ROWS = {
 
 
 def rules_of(text):
-    edits = read_script(text.encode()).edits
-    return versions(edits, [len(edits)])[len(edits)]
+    return last_version(read_script(text.encode()).edits).live.values()
 
 
 def shown(frame, port, text):

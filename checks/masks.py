@@ -24,13 +24,13 @@ TOP = os.path.join(os.path.dirname(os.path.abspath(__file__)), "..")
 sys.path.insert(0, os.path.join(TOP, "vectors"))
 from made_runs import CacheMaker
 from mask_rows import PORTS, ROWS, rules_of
+from simulation.captures import MICROSECOND, Frame, write_trace
 from simulation.classifier import TRACKED, Tables
 from simulation.dump_text import print_datapath_actions
 from simulation.flow_fields import KEY_FIELD, KEY_FIELDS, packed, prefix, unpacked
-from simulation.flow_rules import versions
+from simulation.flow_rules import last_version
 from simulation.flow_text import Match, print_match, read_script
 from simulation.frame_key import key_of
-from simulation.switch import MICROSECOND, Frame, write_trace
 from simulation.translation import translate
 
 TABLES = 300
@@ -117,7 +117,7 @@ def compare(program, number):
     port = maker.one(*maker.ports)
     edits = "\n".join(flows(maker)).encode()
     script = read_script(edits)
-    rules = versions(script.edits, [len(script.edits)])[len(script.edits)]
+    rules = last_version(script.edits).live.values()
     cases = list(cases_of(maker, rules, port))
     frames = [Frame(0, port, place, case.frame) for place, case in enumerate(cases, 1)]
     wrong = 0

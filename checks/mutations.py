@@ -3,22 +3,21 @@
 
     python3 mutations.py PROGRAM COUNT [SEED]
 
-A line is one of flow_lines.txt that is accepted, with one to three mutations. The status and the text have to be those
-of the simulation, and so the line, the column and the reason of a fault, or the limit. The same seed, which is
-printed, gives the same lines. It prints each line that differs, as Python writes bytes, and then ends with 1.
+A line is one of flow_lines.txt that is accepted, with one to three mutations. The status, the text and the files have to
+be those of the simulation, and so the line, the column and the reason of a fault, or the limit, or the dump of the rule
+that was read. The same seed, which is printed, gives the same lines. It prints each line that differs, as Python writes
+bytes, and then ends with 1.
 """
 import os
 import random
 import re
-import subprocess
 import sys
-import tempfile
 from collections import Counter
 
 sys.dont_write_bytecode = True
 HERE = os.path.dirname(os.path.abspath(__file__))
 from simulation.flow_text import OverLimit, TextFault, read_script
-from simulation.switch import simulate
+from whole_run import ran, simulated
 
 WORDS = ["edits", "out", "1=", "2="]
 # Bytes that mean something in flow text; any other byte is put in now and then.
@@ -76,25 +75,20 @@ def made_lines(count, seed):
         yield line
 
 
-def compare(program, line):
-    """What the program and the simulation end with: the status and the text of each."""
-    with tempfile.TemporaryDirectory() as room:
-        with open(os.path.join(room, "edits"), "wb") as file:
-            file.write(line)
-        ran = subprocess.run([program, *WORDS], cwd=room, stdin=subprocess.DEVNULL, stdout=subprocess.PIPE)
-    wanted = simulate(WORDS, {"edits": line}.__getitem__)
-    return (ran.returncode, ran.stdout), (wanted.status, wanted.text.encode())
+def shown(end):
+    """What is told of a run that differs: its status, its text and the rules that were read."""
+    return f"{end.status} {end.text!r} {end.files.get('out.rules')!r}"
 
 
 def main(words):
     program, count, seed = os.path.abspath(words[0]), int(words[1]), int((words[2:] or ["1"])[0])
     statuses, wrong = Counter(), 0
     for line in made_lines(count, seed):
-        got, wanted = compare(program, line)
-        statuses[wanted[0]] += 1
+        got, wanted = ran(program, WORDS, {"edits": line}), simulated(WORDS, {"edits": line})
+        statuses[wanted.status] += 1
         if got != wanted:
             wrong += 1
-            print(f"{line!r}: {got[0]} {got[1]!r}, not {wanted[0]} {wanted[1]!r}")
+            print(f"{line!r}: {shown(got)}, not {shown(wanted)}")
     by_status = ", ".join(f"{number} with status {status}" for status, number in sorted(statuses.items()))
     print(f"seed {seed}: {by_status}; {wrong} differ")
     return wrong > 0

@@ -24,7 +24,7 @@ from simulation.classifier import Tables
 from simulation.flow_fields import (
     ETHERTYPE_ARP, ETHERTYPE_IPV4, ETHERTYPE_IPV6, PROTOCOL_ICMP, PROTOCOL_ICMPV6, PROTOCOL_TCP, PROTOCOL_UDP, packed,
 )
-from simulation.flow_rules import versions
+from simulation.flow_rules import last_version
 from simulation.flow_text import Action, read_script
 from simulation.frame_key import ETHERNET_HEADER, headers_of, key_of, transport_protocol
 from simulation.rewriting import sent, transport_begin
@@ -207,8 +207,7 @@ LEFT = {
 
 def sent_of(frame, text, ports=PORTS):
     """What is sent of a frame that comes in at port 1: pairs of a port and bytes."""
-    edits = read_script(text.encode()).edits
-    rules = versions(edits, [len(edits)])[len(edits)]
+    rules = last_version(read_script(text.encode()).edits).live.values()
     return list(sent(translate(Tables(rules), ports, packed(key_of(1, frame))).actions, frame))
 
 

@@ -506,6 +506,39 @@ def busy_desks():
     return trace((MORNING + after, frame) for after, frame in sorted(frames))
 
 
+# ---- flow-limit
+
+
+def scan():
+    """What comes from two desks: one works with the file server, and one tries which ports it has open."""
+
+    def to_server(desk, ports, number):
+        return connect(desk, FILE_SERVER, FILE_SERVER[1], ports, 0x1000 + number, ports[0], number)
+
+    tried = [21, 22, 23, 25, 80]
+    frames = [
+        (0, to_server(DESK, (40000, 445), 1)),
+        *((100000 * turn, to_server(OTHER_DESK, (50000, port), 0x100 + port)) for turn, port in enumerate(tried, 1)),
+        (700000, ping(DESK, FILE_SERVER, 0x2001, 1)),
+        (800000, to_server(DESK, (40001, 445), 2)),
+        (1700000, ping(DESK, FILE_SERVER, 0x2002, 2)),
+        (11000000, to_server(DESK, (40002, 445), 3)),
+        (12100000, ping(DESK, FILE_SERVER, 0x2003, 3)),
+        (12200000, to_server(OTHER_DESK, (50000, 110), 0x200)),
+    ]
+    return trace((MORNING + after, frame) for after, frame in frames)
+
+
+# ---- stale-settle and replaced-entry
+
+
+def some_pings(desk, count):
+    """What comes from a desk, which pings the file server each second."""
+    return trace(
+        (MORNING + number * 1000000, ping(desk, FILE_SERVER, 0x1000 + number, number)) for number in range(1, count + 1)
+    )
+
+
 TRACES = {
     "access-list/outside.pcap": outside,
     "access-list/inside.pcap": inside,
@@ -513,10 +546,14 @@ TRACES = {
     "first-switch/desks.pcap": office,
     "flood-bridge/access-point.pcap": access_point,
     "flood-bridge/room-a.pcap": room_a,
+    "flow-limit/desks.pcap": scan,
+    "replaced-entry/desk.pcap": lambda: some_pings(DESK, 5),
     "router/lan.pcap": from_the_lan,
     "router/servers.pcap": from_the_servers,
     "rule-change/desk.pcap": pings,
     "rule-change/rack-a.pcap": old_place,
+    "stale-settle/desk.pcap": lambda: some_pings(DESK, 1),
+    "stale-settle/other-desk.pcap": lambda: some_pings(OTHER_DESK, 2),
     "two-captures/desk.pcap": pings,
     "two-captures/server.pcap": replies,
     "vlan-access/desks.pcap": from_a_desk,

@@ -3,7 +3,7 @@
 
     python3 vectors/make_rewritten.py
 
-writes rewritten.tsv. It needs root, Open vSwitch 3.1 (Debian's openvswitch-switch) and tshark, which looks at the
+writes rewritten.tsv. It needs Open vSwitch 3.1 (Debian's openvswitch-switch) and tshark, which looks at the
 checksums: a row where they were right and aren't any more is refused, unless it has a fault of Open vSwitch.
 """
 import sys

@@ -1,9 +1,12 @@
-"""A running Open vSwitch on its dummy datapath, which takes frames and tells what it sends. It needs root.
+"""A running Open vSwitch on its dummy datapath, which takes frames and tells what it sends.
 
-Everything is in a folder of its own: the database, the sockets, and a capture file for what leaves by each port.
+Everything is in a folder of its own: the database, the sockets, and a capture file for what leaves by each port. When it
+ends, its two daemons are ended by their numbers, and the folder is removed.
 """
+import itertools
 import os
 import re
+import shutil
 import signal
 import struct
 import subprocess
@@ -12,40 +15,81 @@ import time
 from collections import Counter
 
 SCHEMA = "/usr/share/openvswitch/vswitch.ovsschema"
+PROGRAMS = ["ovs-vswitchd", "ovsdb-server", "ovsdb-tool", "ovs-vsctl", "ovs-ofctl", "ovs-appctl"]
+PACKAGE = "openvswitch-switch"
+DAEMONS = ["ovs-vswitchd", "ovsdb-server"]
 # OpenFlow 1.0 has no masks of set_field, no tags to push and no goto_table.
-OLD, NEW = "OpenFlow10", "OpenFlow15"
+OLD, NEWER, NEW = "OpenFlow10", "OpenFlow13", "OpenFlow15"
 NEEDS_NEWER = re.compile("set_field|push_vlan|goto_table")
-PATIENCE = 5.0
+# In seconds.
+PATIENCE, NAP = 5.0, 0.05
+# The longest packets that a port lets out.
+MTU = 65000
+CAPTURE_HEADER, RECORD_HEADER = 24, 16
+
+
+def is_installed():
+    return os.path.exists(SCHEMA) and all(shutil.which(program) for program in PROGRAMS)
 
 
 def version():
     return subprocess.run(["ovs-vswitchd", "--version"], check=True, capture_output=True, text=True).stdout.splitlines()[0]
 
 
+def openflow_of(flow):
+    """The version of OpenFlow by which a line of flow text is told."""
+    return NEW if NEEDS_NEWER.search(flow) else OLD
+
+
+def end_daemon(pid_file):
+    """Asks a daemon to end, which removes its file then, and ends it where it doesn't in time."""
+    with open(pid_file) as file:
+        process = int(file.read())
+    try:
+        os.kill(process, signal.SIGTERM)
+        for _ in range(int(PATIENCE / NAP)):
+            if not os.path.exists(pid_file):
+                return
+            time.sleep(NAP)
+        os.kill(process, signal.SIGKILL)
+    except ProcessLookupError:
+        pass
+
+
 class Switch:
     """A bridge with these ports, as a context."""
 
     def __init__(self, ports):
+        # How many frames came in, and how far the capture file of each port was read.
         self.ports, self.taken, self.read = ports, 0, Counter()
 
     def __enter__(self):
         self.folder = tempfile.TemporaryDirectory(prefix="open-vswitch-")
+        self.environment = os.environ | {f"OVS_{name}DIR": self.folder.name for name in ["RUN", "DB", "LOG", "SYSCONF"]}
+        try:
+            self.start()
+        except BaseException:
+            self.stop()
+            raise
+        return self
+
+    def __exit__(self, *_):
+        self.stop()
+
+    def start(self):
         room = self.folder.name
-        self.environment = os.environ | {f"OVS_{name}DIR": room for name in ["RUN", "DB", "LOG", "SYSCONF"]}
         self.run("ovsdb-tool", "create", "conf.db", SCHEMA)
         self.run("ovsdb-server", "conf.db", f"--remote=punix:{room}/db.sock", "--pidfile", "--detach", "--no-chdir")
         self.configure("--no-wait", "init")
         self.run("ovs-vswitchd", f"unix:{room}/db.sock", "--enable-dummy=override", "--disable-system", "--pidfile",
                  "--detach", "--no-chdir")
         self.configure("add-br", "br0", "--", "set", "bridge", "br0", "datapath_type=dummy", "fail_mode=secure",
-                       f"protocols={OLD},{NEW}", *(word for port in self.ports for word in self.port_words(port)))
-        return self
+                       f"protocols={OLD},{NEWER},{NEW}", *(word for port in self.ports for word in self.port_words(port)))
 
-    def __exit__(self, *_):
-        for daemon in ["ovs-vswitchd", "ovsdb-server"]:
-            with open(self.path(f"{daemon}.pid")) as file:
-                os.kill(int(file.read()), signal.SIGTERM)
-        time.sleep(0.2)
+    def stop(self):
+        for daemon in DAEMONS:
+            if os.path.exists(self.path(f"{daemon}.pid")):
+                end_daemon(self.path(f"{daemon}.pid"))
         self.folder.cleanup()
 
     def path(self, name):
@@ -63,12 +107,13 @@ class Switch:
     def port_words(self, port):
         name = f"p{port}"
         return ["--", "add-port", "br0", name, "--", "set", "interface", name, "type=dummy", f"ofport_request={port}",
-                f"options:tx_pcap={self.path(name)}.pcap"]
+                f"options:tx_pcap={self.path(name)}.pcap", f"mtu_request={MTU}"]
 
     def add_flows(self, flows):
-        for version in [OLD, NEW]:
-            chosen = [flow for flow in flows if (NEEDS_NEWER.search(flow) is not None) == (version == NEW)]
-            self.run("ovs-ofctl", "-O", version, "add-flows", "br0", "-", input="\n".join(chosen))
+        """Hands lines of flow text over in their order, and waits until no cache is older than they are."""
+        for version, lines in itertools.groupby(flows, openflow_of):
+            self.run("ovs-ofctl", "-O", version, "add-flows", "br0", "-", input="\n".join(lines))
+        self.run("ovs-appctl", "revalidator/wait")
 
     def sent(self, port, frame):
         """What is sent of a frame that comes in at a port: pairs of a port and bytes, port by port."""
@@ -88,12 +133,7 @@ class Switch:
     def new_frames(self, port):
         """The frames in the capture file of a port that weren't read before."""
         with open(self.path(f"p{port}.pcap"), "rb") as file:
-            data = file.read()
-        frames, at = [], 24
-        while at < len(data):
-            length = struct.unpack_from("<I", data, at + 8)[0]
-            frames.append(data[at + 16 : at + 16 + length])
-            at += 16 + length
-        new = frames[self.read[port] :]
-        self.read[port] = len(frames)
-        return new
+            file.seek(self.read[port] or CAPTURE_HEADER)
+            while record := file.read(RECORD_HEADER):
+                yield file.read(struct.unpack_from("<I", record, 8)[0])
+            self.read[port] = file.tell()

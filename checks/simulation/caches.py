@@ -2,10 +2,12 @@
 
 A frame is looked up by its whole key first, and then by the masks of the entries. One that is covered by none is
 translated, and an entry is made of it. When the rules have changed, a sweep translates the keys of all entries anew.
+A board takes each of these steps where it may, and has no part in when it is taken.
 """
-from collections import defaultdict
+import functools
+from collections import Counter, defaultdict, deque, namedtuple
 
-from .flow_fields import KEY_FIELDS, packed, unpacked
+from .flow_fields import KEY_FIELDS, REMEMBERED, packed, unpacked
 from .frame_key import key_of
 
 FLOW_LIMIT = 8192
@@ -24,6 +26,18 @@ FIELD_SIZES = [(field.name, (field.width + 7) // 8) for field in KEY_FIELDS]
 ZEROS = {size: pow(PRIME, size, 1 << 64) for _, size in FIELD_SIZES}
 
 EXACT, MEGA, MISS = "exact", "mega", "miss"
+INSTALLED, PRESENT, FULL = "installed", "present", "full"
+
+# A block of a port: its frames, and how many edits stand before it and before its end.
+Block = namedtuple("Block", "frames lo hi")
+# What a version of the rules makes of a key.
+Versioned = namedtuple("Versioned", "version translated")
+
+
+@functools.lru_cache(REMEMBERED)
+def packed_key(port, data):
+    """The key of the bytes of a frame that came in at a port."""
+    return packed(key_of(port, data))
 
 
 def hash_of(key):
@@ -71,14 +85,14 @@ class ExactCache:
 class Entry:
     """A megaflow: for every key that is as its own in the bits of its mask, what a version of the rules makes of it."""
 
-    def __init__(self, number, key, version, translated, used):
-        self.number, self.key, self.mask, self.used = number, key, translated.mask, used
+    def __init__(self, number, key, by, used):
+        self.number, self.key, self.mask, self.used = number, key, by.translated.mask, used
         self.packets = self.bytes = self.owed_packets = self.owed_bytes = 0
-        self.renew(version, translated)
+        self.renew(by)
 
-    def renew(self, version, translated):
+    def renew(self, by):
         """Another version says what is done. The mask stays."""
-        self.version, self.actions, self.visits = version, translated.actions, translated.visits
+        self.version, self.actions, self.visits = by.version, by.translated.actions, by.translated.visits
 
     def hit(self, frame):
         self.packets += 1
@@ -122,90 +136,144 @@ class Megaflows:
 
 
 class Board:
-    """One port's caches. `decided` has each frame with the actions that it was sent with, `totals` the packets and the
-    bytes that each rule is credited with, but for those that entries still owe; `lines` is the journal."""
+    """One port's caches, and the steps that they take. Each step tells whether it may be taken where it stands, and does
+    nothing where it mayn't.
 
-    def __init__(self, port, translated, flow_limit=FLOW_LIMIT):
-        """translated(version, key) is what a version of the rules makes of a key."""
-        self.translated, self.flow_limit = translated, flow_limit
+    `decided` has each frame with the actions that it was sent with, `totals` the packets and the bytes that each rule is
+    credited with, but for those that entries still owe; `lines` is the journal, and `counts` tells how often frames were
+    looked up and settled with which result.
+    """
+
+    def __init__(self, port, blocks, flow_limit=FLOW_LIMIT):
+        self.port, self.blocks, self.flow_limit = port, blocks, flow_limit
+        # The frames of the block that weren't looked up, and those of all that wait for a settle, with their keys.
+        self.block, self.left, self.pending = 0, deque(blocks[0].frames), {}
         self.megaflows, self.cache, self.made = Megaflows(), ExactCache(), 0
+        # The version of the last sweep begun and of the last one ended, and the entries that a sweep has left, or None
+        # where none runs.
         self.floor = self.done = self.clock = 0
-        self.lines, self.decided, self.totals = [f"port {port}"], [], defaultdict(lambda: [0, 0])
+        self.listed = None
+        self.lines, self.counts = [f"port {port}"], Counter()
+        self.decided, self.totals = [], defaultdict(lambda: [0, 0])
+
+    @property
+    def hi(self):
+        return self.blocks[self.block].hi
 
     # ---- frames
 
-    def decide(self, frame, version):
-        """Looks a frame up, and settles it by a version at once where nothing covers it."""
-        key = packed(key_of(frame.port, frame.bytes))
-        result, entry = self.look(key)
+    def look(self):
+        """Looks the next frame of the block up. One that nothing covers waits to be settled."""
+        if not self.left:
+            return False
+        frame = self.left.popleft()
+        key = packed_key(frame.port, frame.bytes)
+        result, entry = self.found(key)
         self.clock = max(self.clock, frame.time)
+        self.counts[result] += 1
         self.lines.append(f"look {frame.place} {result}" + (f" {entry.number}" if entry else ""))
         if entry is None:
-            self.settle(frame, key, version)
-            return
+            self.pending[frame.place] = frame, key
+            return True
         entry.hit(frame)
         self.decided.append((frame, entry.actions))
         if result == MEGA:
             self.cache.put(key, entry.number)
+        return True
 
-    def look(self, key):
+    def found(self, key):
         """How a key is covered, and by which entry. A number of an entry that is gone counts for nothing."""
         if entry := self.megaflows.entries.get(self.cache.look(key)):
             return EXACT, entry
         entry = self.megaflows.find(key)
         return (MEGA, entry) if entry else (MISS, None)
 
-    def settle(self, frame, key, version):
-        translated = self.translated(version, key)
-        self.decided.append((frame, translated.actions))
-        self.credit(translated.visits, 1, len(frame.bytes))
-        result = self.install(frame, key, version, translated)
-        self.lines.append(f"settle {frame.place} {version} {result}")
+    def settle(self, place, by):
+        """Decides a frame that waits by what a version makes of its key, which is of the last sweep begun or later."""
+        if place not in self.pending or not self.floor <= by.version <= self.hi:
+            return False
+        frame, key = self.pending.pop(place)
+        self.decided.append((frame, by.translated.actions))
+        self.credit(by.translated.visits, 1, len(frame.bytes))
+        result, *numbers = self.install(frame, key, by)
+        self.counts[result] += 1
+        self.lines.append(" ".join(map(str, ["settle", place, by.version, result, *numbers])))
+        return True
 
-    def install(self, frame, key, version, translated):
+    def install(self, frame, key, by):
         """Makes an entry in the place of those that it overlaps, or none where there are as many others as may be."""
         if present := self.megaflows.find(key):
-            return f"present {present.number}"
-        dropped = self.megaflows.overlapping(key, translated.mask)
+            return PRESENT, present.number
+        dropped = self.megaflows.overlapping(key, by.translated.mask)
         if len(self.megaflows.entries) - len(dropped) >= self.flow_limit:
-            return "full"
+            return (FULL,)
         for number in dropped:
             self.pay(self.megaflows.entries[number])
-            self.megaflows.remove(self.megaflows.entries[number])
+            self.drop(self.megaflows.entries[number])
         self.made += 1
-        self.megaflows.add(Entry(self.made, key, version, translated, frame.time))
-        return f"installed {self.made}" + "".join(f" {word}" for word in ["drop", *dropped] if dropped)
+        self.megaflows.add(Entry(self.made, key, by, frame.time))
+        return INSTALLED, self.made, *(["drop", *dropped] if dropped else [])
+
+    def drop(self, entry):
+        """An entry that is gone isn't put any more."""
+        self.megaflows.remove(entry)
+        if self.listed is not None:
+            self.listed.discard(entry.number)
 
     # ---- sweeps
 
-    def sweep(self, version):
-        """Translates the key of each entry anew."""
+    def begin(self, version):
+        """Begins a sweep of all entries."""
+        if self.listed is not None or version > self.hi:
+            return False
         self.lines.append(f"begin {version}")
-        self.floor = max(self.floor, version)
-        for number in sorted(self.megaflows.entries):
-            self.lines.append(f"put {number} {version} {self.put(self.megaflows.entries[number], version)}")
-        self.lines.append("end")
-        self.done = self.floor
+        self.floor, self.listed = max(self.floor, version), set(self.megaflows.entries)
+        return True
 
-    def put(self, entry, version):
+    def is_listed(self, number):
+        return self.listed is not None and number in self.listed
+
+    def put(self, number, by):
+        """Checks an entry that a sweep has left by what a version makes of its key."""
+        if not self.is_listed(number) or not self.floor <= by.version <= self.hi:
+            return False
+        self.listed.discard(number)
+        self.lines.append(f"put {number} {by.version} {self.checked(self.megaflows.entries[number], by)}")
+        return True
+
+    def checked(self, entry, by):
         """Keeps an entry with what the version makes of its key, or drops it: where it stood unused for long, and where
         its mask lacks a bit of those that are consulted now."""
         self.pay(entry)
         if self.clock - entry.used >= IDLE_TIME:
-            self.megaflows.remove(entry)
+            self.drop(entry)
             return "idle"
-        translated = self.translated(version, entry.key)
-        if translated.mask & ~entry.mask:
-            self.megaflows.remove(entry)
+        if by.translated.mask & ~entry.mask:
+            self.drop(entry)
             return "removed"
-        is_same = (entry.actions, entry.visits) == (translated.actions, translated.visits)
-        entry.renew(version, translated)
+        is_same = (entry.actions, entry.visits) == (by.translated.actions, by.translated.visits)
+        entry.renew(by)
         return "kept" if is_same else "replaced"
+
+    def end(self):
+        """Ends a sweep that has checked all of its entries."""
+        if self.listed is None or self.listed:
+            return False
+        self.lines.append("end")
+        self.done, self.listed = self.floor, None
+        return True
 
     # ---- blocks
 
-    def open(self, block):
-        self.lines.append(f"open {block}")
+    def open(self):
+        """Goes on to the next block, where all frames of this one are decided and a sweep of its version was made."""
+        is_last = self.block + 1 == len(self.blocks)
+        if is_last or self.left or self.pending or self.done < self.blocks[self.block + 1].lo:
+            return False
+        self.block += 1
+        self.left = deque(self.blocks[self.block].frames)
+        self.lines.append(f"open {self.block}")
+        return True
 
     # ---- counts
 

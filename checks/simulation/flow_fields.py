@@ -3,6 +3,7 @@
 A key field is a part of a frame's key. A named field is what flow text calls bits of a key field, after ovs-fields(7):
 vlan_pcp for three bits of vlan_tci, tcp_dst for tp_dst. docs/FORMATS.md has the tables in words.
 """
+import functools
 import re
 from collections import namedtuple
 
@@ -58,8 +59,13 @@ def packed(numbers):
     return sum(number << BEGIN[name] for name, number in numbers.items())
 
 
+# How many of the last keys are remembered: the same ones come again and again.
+REMEMBERED = 4096
+
+
+@functools.lru_cache(REMEMBERED)
 def unpacked(key):
-    """The number of each field of such a key."""
+    """The number of each field of such a key. They are for reading alone."""
     return {name: key >> at & bits for name, at, bits in PLACES}
 
 

@@ -12,6 +12,8 @@ class Rules:
 
     def __init__(self):
         self.version, self.changes, self.live, self.numbers = 0, 0, {}, {}
+        # The numbers of those that were ever added.
+        self.added = []
 
     def apply(self, edit):
         """Makes the next version."""
@@ -28,6 +30,7 @@ class Rules:
         for rule in self.strictly_reached(edit):
             self.remove(rule)
         identity = identity_of(edit)
+        self.added.append(self.version)
         self.numbers[identity] = self.version
         self.live[self.version] = Rule(self.version, *identity, edit.cookie or 0, edit.actions)
         self.changes += 1
@@ -57,12 +60,10 @@ def identity_of(it):
     return it.table or 0, it.priority, it.matching
 
 
-def versions(edits, wanted):
-    """The rules that live in each version wanted. Raises OverLimit where the edits change too much."""
-    rules, found = Rules(), {0: []}
+def last_version(edits):
+    """The rules that all edits make. Raises OverLimit where the edits change too much."""
+    rules = Rules()
     for edit in edits:
         rules.apply(edit)
-        if rules.version in wanted:
-            found[rules.version] = list(rules.live.values())
     refuse_over(rules.changes, "changes")
-    return found
+    return rules

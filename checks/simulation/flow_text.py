@@ -11,13 +11,17 @@ from .flow_fields import (
     read_value, unpacked,
 )
 
-LIMITS = {"edits-bytes": 33554432, "line": 4096, "edits": 32768, "syncs": 63, "actions": 64, "changes": 1048576}
+LIMITS = {
+    "edits-bytes": 33554432, "line": 4096, "edits": 32768, "syncs": 63, "actions": 64, "changes": 1048576,
+    "steps-bytes": 4194304, "steps": 131072,
+}
 
 SYNTAX, UNKNOWN_NAME, UNSUPPORTED, BAD_VALUE = "syntax", "unknown name", "unsupported", "bad value"
 REPEATED, SYNC_ORDER = "repeated", "sync order"
 
 WHITE = " \t\r"
 SEPARATORS = "," + WHITE
+NOT_ASCII = re.compile("[^\\x00-\\x7f]")
 
 LAST_PORT = 65279
 LAST_TABLE = 254
@@ -153,9 +157,8 @@ def parts_of(text, separators, at=0):
 
 
 def require_ascii(text, at):
-    for place in range(at, len(text)):
-        if ord(text[place]) > 127:
-            raise TextFault(SYNTAX, place + 1)
+    if found := NOT_ASCII.search(text, at):
+        raise TextFault(SYNTAX, found.start() + 1)
 
 
 def read_sync_time(words):

@@ -1,0 +1,93 @@
+"""The words of the command line."""
+import re
+from collections import namedtuple
+
+from .caches import FLOW_LIMIT
+from .flow_text import LAST_PORT
+from .refusals import check_built, check_words
+
+OPTIONS = ["workers", "steps", "flow-limit", "generate"]
+MOST_WORKERS = 16
+MOST_FLOWS = 65536
+# The greatest number that makes an input.
+MOST_MADE = 4294967295
+MOST_PORTS = 32
+
+NUMBER = re.compile(r"0|[1-9][0-9]*")
+PORT_WORD = re.compile(r"([1-9][0-9]{0,4})=(.*)", re.DOTALL)
+
+# The name of the edits, the start of the names of outputs, the name of each port's trace, the most entries of a port, and
+# the name of the steps file or None. Or the number that makes the input; there are no names then.
+Command = namedtuple("Command", "edits out traces flow_limit steps number")
+
+
+def is_text(word):
+    """Whether a word was in UTF-8: of others Python keeps the bytes as what no text has."""
+    return word == word.encode(errors="ignore").decode()
+
+
+def is_plain(word):
+    """Whether a word is no option and no `--`."""
+    return word == "-" or not word.startswith("-")
+
+
+def split_words(words):
+    """The values of options, and the other words. After `--` each word is one of these."""
+    options, plain, rest = {}, [], iter(words)
+    for word in rest:
+        if word == "--":
+            plain += rest
+        elif is_plain(word):
+            plain.append(word)
+        else:
+            name, has_value, value = word[2:].partition("=")
+            if not has_value:
+                value = next(rest, "--")
+                check_words(is_plain(value))
+            check_words(word.startswith("--") and name in OPTIONS and name not in options)
+            options[name] = value
+    return options, plain
+
+
+def read_number(text, most):
+    check_words(NUMBER.fullmatch(text) and int(text) <= most)
+    return int(text)
+
+
+def read_ports(words):
+    """The name of each port's trace."""
+    check_words(1 <= len(words) <= MOST_PORTS)
+    traces = {}
+    for word in words:
+        found = PORT_WORD.fullmatch(word)
+        check_words(found and int(found[1]) <= LAST_PORT and int(found[1]) not in traces)
+        traces[int(found[1])] = found[2]
+    return traces
+
+
+def read_words(words):
+    check_words(all(map(is_text, words)))
+    options, plain = split_words(words)
+    workers = read_number(options.get("workers", "0"), MOST_WORKERS)
+    flow_limit = read_number(options.get("flow-limit", str(FLOW_LIMIT)), MOST_FLOWS)
+    check_words(flow_limit > 0)
+    if "generate" in options:
+        command = read_made_words(options, plain, flow_limit)
+    else:
+        command = read_file_words(options, plain, flow_limit, workers)
+    check_built(not workers, "workers")
+    return command
+
+
+def read_made_words(options, plain, flow_limit):
+    """What a number makes takes the place of all files."""
+    number = read_number(options["generate"], MOST_MADE)
+    check_words(not plain and "steps" not in options)
+    return Command(None, None, None, flow_limit, None, number)
+
+
+def read_file_words(options, plain, flow_limit, workers):
+    """Steps aren't given to workers."""
+    check_words(len(plain) >= 2 and plain[0] and plain[1])
+    check_words("steps" not in options or (options["steps"] and not workers))
+    return Command(plain[0], plain[1], read_ports(plain[2:]), flow_limit, options.get("steps"), None)
