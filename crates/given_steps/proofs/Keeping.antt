@@ -1,62 +1,53 @@
 -- What the type of a board that takes given steps keeps, from step to step.
-use Rattle.std.proofs.Common.{◌≡◌, ℕ, ◌<◌, ◌==◌, not, true, false, List, ◌∷◌, length, All, Option, Some, None, refl, sym, ◌∙◌, subst, arith}
-use Rattle.std.specs.Option.{is_none, option_map}
-use Rattle.std.proofs.lemmas.Bool.{eq-eqb, ne_eqb}
-use Rattle.std.proofs.lemmas.List.Elements.{All-filter, All-cons}
+use Rattle.std.proofs.Common.{◌≡◌, ℕ, ◌<◌, ◌==◌, if◌then◌else◌, Bool, true, false, List, length, Some, None, refl, sym, ◌∙◌, subst, arith}
+use Rattle.std.specs.Prelude.{nat_eq}
+use Rattle.std.specs.Map.{lookup}
+use Rattle.std.specs.Option.{is_none}
+use Rattle.std.proofs.lemmas.Bool.{eq-eqb, eqb-true, ne_eqb}
 use Rattle.spec_case.specs.Run.{Run, frames_of}
 use Rattle.spec_case.specs.Blocks.{block_of}
-use Rattle.spec_board.specs.State.{State, place_at, is_pending}
+use Rattle.spec_board.specs.State.{place_at, is_pending}
 use Rattle.spec_board.specs.Refusals.{look_fault}
 use Rattle.run_blocks.specs.Places.{HasPlace}
 use Rattle.run_blocks.proofs.Blocks.{block_of-after}
 use Rattle.board_laws.proofs.PlaceLaws.{pending_from, pending_upto}
 use Rattle.run_xlate.specs.Views.{XlateView}
 use Rattle.pmd_board.specs.BoardView.{BoardView, IsLawful, state_of}
-use Rattle.given_steps.specs.declared.kept.KeptXlate.{KeptXlate}
-use Rattle.given_steps.specs.Keys.{IsKeyOfPlace, IsKeyOfEntry}
-use Rattle.given_steps.specs.Translations.{kept_for, without}
+use Rattle.given_steps.specs.declared.scheduled_board.ScheduledBoard.TheInside.{Inside}
+use Rattle.given_steps.specs.Translations.{Each}
 use Rattle.given_steps.specs.Fields.{IsKept, IsOfPlace, IsOfEntry}
 use Rattle.given_steps.specs.Taken.{GoesOn}
-use Rattle.given_steps.proofs.KeptLists.{kept_has}
 
-pub kept_with : {X : Type 0} (run : Run) (old new : BoardView) (snaps checks : List (KeptXlate X)) → old.flow_limit ≡ run.flow_limit → GoesOn run old new
-    → All (IsOfPlace run old.port) snaps → All (IsOfEntry (state_of run old)) checks → IsKept {X = X} run (record { board = new; snaps = snaps; checks = checks })
-kept_with {X} run old new snaps checks limit on of_places of_entries = record {
+pub kept_with : {X : Type 0} (run : Run) (old : BoardView) (b : Inside X) → old.flow_limit ≡ run.flow_limit → GoesOn run old b.board
+    → Each (IsOfPlace run old.port) b.snaps.entries → Each (IsOfEntry (state_of run old)) b.checks.entries → IsKept run b
+kept_with run old b limit on of_places of_entries = record {
   limit = on.limit ∙ limit;
-  snaps = subst (λ p. All (IsOfPlace {X = X} run p) snaps) (sym on.port) of_places;
-  checks = λ i d within. on.keys _ _ (of_entries i d within);
+  snaps = subst (λ p. Each (IsOfPlace run p) b.snaps.entries) (sym on.port) of_places;
+  checks = λ n x kept. on.keys n x.key (of_entries n x kept);
 }
 
--- those that are kept for other numbers
-pub others_hold : {X : Type 0} (P : KeptXlate X → Type 0) (n : ℕ) (old new : List (KeptXlate X)) → All P old → new ≡ without n old → All P new
-others_hold {X} P n old new all is = subst (All P) (sym is) (All-filter (λ (k : KeptXlate X). not (k.number == n)) P old all)
+module _ (P : ℕ → XlateView → Type 0) (m : ℕ) (old new : List (ℕ × XlateView)) (all : Each P old) where
+  -- those that are kept for other numbers
+  pub others_hold : ((n : ℕ) → lookup (nat_eq n) new ≡ (if nat_eq m n then None else lookup (nat_eq n) old)) → Each P new
+  others_hold rest n x kept = at (nat_eq m n) (sym (rest n) ∙ kept)
+    where
+      at : (t : Bool) → (if t then None else lookup (nat_eq n) old) ≡ Some x → P n x
+      at true is = absurd (cc is)
+      at false is = all n x is
 
--- and one more
-pub one_holds : {X : Type 0} (P : KeptXlate X → Type 0) (k : KeptXlate X) (n : ℕ) (old new : List (KeptXlate X)) → P k → All P old → new ≡ k ∷ without n old → All P new
-one_holds {X} P k n old new this all is = subst (All P) (sym is) (All-cons P k (without n old) this (others_hold P n old (without n old) all refl))
+  -- and one more
+  pub one_holds : (y : XlateView) → P m y → ((n : ℕ) → lookup (nat_eq n) new ≡ (if nat_eq m n then Some y else lookup (nat_eq n) old)) → Each P new
+  one_holds y this more n x kept = at (nat_eq m n) refl (sym (more n) ∙ kept)
+    where
+      at : (t : Bool) → nat_eq m n ≡ t → (if t then Some y else lookup (nat_eq n) old) ≡ Some x → P n x
+      at true same is =
+          let e : y ≡ x = cc is in
+          subst (P n) e (subst (λ k. P k y) (eqb-true m n same) this)
+      at false same is = all n x is
 
--- the key of what was kept for a number
-pub place_kept : {X : Type 0} (run : Run) (port place : ℕ) (ks : List (KeptXlate X)) (x : XlateView) → All (IsOfPlace run port) ks
-    → Some x ≡ option_map (λ (k : KeptXlate X). k.xlate) (kept_for place ks) → IsKeyOfPlace run port place x.key
-place_kept {X} run port place ks x all is = at (kept_for place ks) refl is
-  where
-    at : (o : Option (KeptXlate X)) → kept_for place ks ≡ o → Some x ≡ option_map (λ (k : KeptXlate X). k.xlate) o → IsKeyOfPlace run port place x.key
-    at None found is = absurd (cc is)
-    at (Some k) found is =
-        let h = kept_has (IsOfPlace run port) place ks k all found in
-        let e : k.xlate ≡ x = cc is in
-        subst (λ (y : XlateView). IsKeyOfPlace run port place y.key) e (subst (λ n. IsKeyOfPlace run port n k.xlate.key) h.1 h.0)
-
-pub entry_kept : {X : Type 0} (s : State) (number : ℕ) (ks : List (KeptXlate X)) (x : XlateView) → All (IsOfEntry s) ks
-    → Some x ≡ option_map (λ (k : KeptXlate X). k.xlate) (kept_for number ks) → IsKeyOfEntry s number x.key
-entry_kept {X} s number ks x all is = at (kept_for number ks) refl is
-  where
-    at : (o : Option (KeptXlate X)) → kept_for number ks ≡ o → Some x ≡ option_map (λ (k : KeptXlate X). k.xlate) o → IsKeyOfEntry s number x.key
-    at None found is = absurd (cc is)
-    at (Some k) found is =
-        let h = kept_has (IsOfEntry s) number ks k all found in
-        let e : k.xlate ≡ x = cc is in
-        subst (λ (y : XlateView). IsKeyOfEntry s number y.key) e (subst (λ n. IsKeyOfEntry s n k.xlate.key) h.1 h.0)
+  -- and none where there was no memory
+  pub same_hold : ((n : ℕ) → lookup (nat_eq n) new ≡ lookup (nat_eq n) old) → Each P new
+  same_hold same n x kept = all n x (sym (same n) ∙ kept)
 
 -- a pending frame has a place
 pub place_pending : (run : Run) (b : BoardView) (place : ℕ) → IsLawful run b → is_pending (place_at place (state_of run b)) ≡ true → HasPlace run b.port place

@@ -1,129 +1,110 @@
--- Lists of kept translations, as the definition has them.
-use Rattle.std.proofs.Common.{◌≡◌, ℕ, zero, suc, ◌<◌, ◌==◌, not, if◌then◌else◌, Bool, true, false, List, [], ◌∷◌, length, slice_index_or, All, Some, None, refl, sym, ap, ◌∙◌, subst, arith}
-use Rattle.std.specs.Prelude.{position, nat_lt}
-use Rattle.std.specs.List.{find, remove, position_or_len}
+-- What is kept for each number, as the definition has it in lists and as maps have it.
+use Rattle.std.proofs.Common.{◌≡◌, ℕ, ◌==◌, not, if◌then◌else◌, Bool, true, false, List, [], ◌∷◌, Option, Some, None, refl, sym, ap, ◌∙◌}
+use Rattle.std.specs.Prelude.{cond, nat_eq}
+use Rattle.std.specs.List.{find}
+use Rattle.std.specs.Map.{lookup}
 use Rattle.std.specs.Option.{option_map}
-use Rattle.std.proofs.lemmas.Bool.{eq-eqb, ne_eqb, eqb-true, false≢true, ltb-false}
-use Rattle.std.proofs.lemmas.Option.{slice_get_past}
-use Rattle.std.proofs.lemmas.List.Folds.{find_at}
-use Rattle.std.proofs.lemmas.List.Quantifiers.{position-Some}
-use Rattle.spec_board.specs.Schedules as schedules
-use Rattle.spec_board.specs.GivenSteps.{kept_version, given_up}
-use Rattle.given_steps.specs.declared.kept.KeptXlate.{KeptXlate}
-use Rattle.given_steps.specs.Translations.{kept_view, kept_views, kept_for, without, AreDistinct}
+use Rattle.std.proofs.Math.Path.{fun_ext}
+use Rattle.std.proofs.lemmas.Bool.{eq-eqb, ne_eqb, eqb-true, false≢true, cond-false}
+use Rattle.spec_board.specs.Schedules.{Kept}
+use Rattle.spec_board.specs.GivenSteps.{kept_version, given_up, keeping}
+use Rattle.run_xlate.specs.Views.{XlateView}
+use Rattle.given_steps.specs.Translations.{kept_views, versions}
 
-module _ {X : Type 0} where
-  -- ---- as the definition has them
+-- ---- the lists of the definition
 
-  pub version_kept : (n : ℕ) (ks : List (KeptXlate X)) → kept_version n (kept_views ks) ≡ option_map (λ (k : KeptXlate X). k.xlate.version) (kept_for n ks)
-  version_kept n [] = refl
-  version_kept n (k ∷ ks) = at (k.number == n) (version_kept n ks)
-    where
-      at : (t : Bool) → kept_version n (kept_views ks) ≡ option_map (λ (k : KeptXlate X). k.xlate.version) (kept_for n ks)
-          → option_map (λ (j : schedules.Kept). j.version) (if t then Some (kept_view k) else find (λ (j : schedules.Kept). j.number == n) (kept_views ks))
-          ≡ option_map (λ (k : KeptXlate X). k.xlate.version) (if t then Some k else kept_for n ks)
-      at true others = refl
-      at false others = others
+swap : (a b : ℕ) → (a == b) ≡ (b == a)
+swap a b = at (a == b) refl
+  where
+    at : (t : Bool) → (a == b) ≡ t → (a == b) ≡ (b == a)
+    at true is = is ∙ sym (eq-eqb b a (sym (eqb-true a b is)))
+    at false is = is ∙ sym (ne_eqb b a (λ e. false≢true (sym is ∙ eq-eqb a b (sym e))))
 
-  pub given_up_others : (n : ℕ) (ks : List (KeptXlate X)) → given_up n (kept_views ks) ≡ kept_views (without n ks)
-  given_up_others n [] = refl
-  given_up_others n (k ∷ ks) = at (k.number == n) (given_up_others n ks)
-    where
-      at : (t : Bool) → given_up n (kept_views ks) ≡ kept_views (without n ks)
-          → (if not t then kept_view k ∷ given_up n (kept_views ks) else given_up n (kept_views ks))
-          ≡ kept_views (if not t then k ∷ without n ks else without n ks)
-      at true others = others
-      at false others = ap (λ (vs : List schedules.Kept). kept_view k ∷ vs) others
+abbrev version_in : Option Kept → Option ℕ
+version_in o = option_map (λ (k : Kept). k.version) o
 
-  -- ---- the one that is kept for a number
+abbrev found_in : ℕ → List Kept → Option Kept
+found_in n ks = find (λ (k : Kept). k.number == n) ks
 
-  other_number : (n : ℕ) (k : KeptXlate X) (ks : List (KeptXlate X)) → kept_for n (k ∷ ks) ≡ None → ((k.number == n) ≡ false) × (kept_for n ks ≡ None)
-  other_number n k ks none = at (k.number == n) refl none
-    where
-      at : (t : Bool) → (k.number == n) ≡ t → (if t then Some k else kept_for n ks) ≡ None → ((k.number == n) ≡ false) × (kept_for n ks ≡ None)
-      at true is none = absurd (cc none)
-      at false is none = (is, none)
+pub given_up_version : (m n : ℕ) (ks : List Kept) → kept_version n (given_up m ks) ≡ (if nat_eq m n then None else kept_version n ks)
+given_up_version m n [] = at (nat_eq m n)
+  where
+    at : (t : Bool) → kept_version n [] ≡ (if t then None else kept_version n [])
+    at true = refl
+    at false = refl
+given_up_version m n (k ∷ ks) = at (k.number == m) refl (given_up_version m n ks)
+  where
+    dropped : (t : Bool) → kept_version n (given_up m ks) ≡ (if t then None else kept_version n ks)
+        → kept_version n (given_up m ks) ≡ (if t then None else version_in (if t then Some k else found_in n ks))
+    dropped true others = others
+    dropped false others = others
 
-  none_at : (n : ℕ) (ks : List (KeptXlate X)) (i : ℕ) (d : KeptXlate X) → kept_for n ks ≡ None → i < length ks → (slice_index_or ks i d).number ≡ n → ⊥
-  none_at n [] i d none within is = absurd (omega (arith, within))
-  none_at n (k ∷ ks) zero d none within is = false≢true (sym (other_number n k ks none).0 ∙ eq-eqb k.number n is)
-  none_at n (k ∷ ks) (suc i) d none within is = none_at n ks i d (other_number n k ks none).1 (omega (arith, within)) is
+    left : (k.number == m) ≡ false → (t : Bool) → (k.number == n) ≡ t → kept_version n (given_up m ks) ≡ (if nat_eq m n then None else kept_version n ks)
+        → version_in (if t then Some k else found_in n (given_up m ks)) ≡ (if nat_eq m n then None else version_in (if t then Some k else found_in n ks))
+    left differ true is others =
+        sym (cond-false (nat_eq m n) None (Some k.version) (ne_eqb m n (λ e. false≢true (sym differ ∙ eq-eqb k.number m (eqb-true k.number n is ∙ sym e)))))
+    left differ false is others = others
 
-  -- with all that holds of each that is kept
-  pub kept_has : (P : KeptXlate X → Type 0) (n : ℕ) (ks : List (KeptXlate X)) (k : KeptXlate X) → All P ks → kept_for n ks ≡ Some k → P k × (k.number ≡ n)
-  kept_has P n [] k all is = absurd (cc is)
-  kept_has P n (j ∷ ks) k all is = at (j.number == n) refl is (kept_has P n ks k (λ i d within. all (suc i) d (omega (arith, within))))
-    where
-      at : (t : Bool) → (j.number == n) ≡ t → (if t then Some j else kept_for n ks) ≡ Some k → (kept_for n ks ≡ Some k → P k × (k.number ≡ n)) → P k × (k.number ≡ n)
-      at true same is others =
-          let e : j ≡ k = cc is in
-          (subst P e (all 0 j (omega arith)), ap (λ (x : KeptXlate X). x.number) (sym e) ∙ eqb-true j.number n same)
-      at false same is others = others is
+    at : (t : Bool) → (k.number == m) ≡ t → kept_version n (given_up m ks) ≡ (if nat_eq m n then None else kept_version n ks)
+        → kept_version n (if not t then k ∷ given_up m ks else given_up m ks) ≡ (if nat_eq m n then None else kept_version n (k ∷ ks))
+    at true is others =
+        dropped (nat_eq m n) others
+        ∙ ap (λ t. if nat_eq m n then None else version_in (if t then Some k else found_in n ks)) (sym (ap (λ x. x == n) (eqb-true k.number m is)))
+    at false is others = left is (k.number == n) refl others
 
-  -- ---- without a number
+pub keeping_version : (m v n : ℕ) (ks : List Kept) → kept_version n (keeping m v ks) ≡ (if nat_eq m n then Some v else kept_version n ks)
+keeping_version m v n ks = at (nat_eq m n) (given_up_version m n ks)
+  where
+    at : (t : Bool) → kept_version n (given_up m ks) ≡ (if t then None else kept_version n ks)
+        → version_in (if t then Some (record { number = m; version = v }) else found_in n (given_up m ks)) ≡ (if t then Some v else kept_version n ks)
+    at true others = refl
+    at false others = others
 
-  pub none_without : (n : ℕ) (ks : List (KeptXlate X)) → kept_for n ks ≡ None → without n ks ≡ ks
-  none_without n [] none = refl
-  none_without n (k ∷ ks) none =
-      let o = other_number n k ks none in
-      let s = o.0 in
-      rw s (ap (λ (xs : List (KeptXlate X)). k ∷ xs) (none_without n ks o.1))
+pub given_up_alike : (m : ℕ) (a b : List Kept) → versions a ≡ versions b → versions (given_up m a) ≡ versions (given_up m b)
+given_up_alike m a b same =
+    fun_ext (λ n. given_up_version m n a ∙ ap (λ (f : ℕ → Option ℕ). if nat_eq m n then None else f n) same ∙ sym (given_up_version m n b))
 
-  pub without_none : (n : ℕ) (ks : List (KeptXlate X)) → kept_for n (without n ks) ≡ None
-  without_none n [] = refl
-  without_none n (k ∷ ks) = at (k.number == n) refl (without_none n ks)
-    where
-      at : (t : Bool) → (k.number == n) ≡ t → kept_for n (without n ks) ≡ None → kept_for n (if not t then k ∷ without n ks else without n ks) ≡ None
-      at true is others = others
-      at false is others = rw is others
+pub keeping_alike : (m v : ℕ) (a b : List Kept) → versions a ≡ versions b → versions (keeping m v a) ≡ versions (keeping m v b)
+keeping_alike m v a b same =
+    fun_ext (λ n. keeping_version m v n a ∙ ap (λ (f : ℕ → Option ℕ). if nat_eq m n then Some v else f n) same ∙ sym (keeping_version m v n b))
 
-  still_none : (m n : ℕ) (ks : List (KeptXlate X)) → kept_for m ks ≡ None → kept_for m (without n ks) ≡ None
-  still_none m n [] none = refl
-  still_none m n (k ∷ ks) none = at (k.number == n) (other_number m k ks none).0 (still_none m n ks (other_number m k ks none).1)
-    where
-      at : (t : Bool) → (k.number == m) ≡ false → kept_for m (without n ks) ≡ None → kept_for m (if not t then k ∷ without n ks else without n ks) ≡ None
-      at true other others = others
-      at false other others = rw other others
+-- ---- the entries of a map
 
-  pub without_distinct : (n : ℕ) (ks : List (KeptXlate X)) → AreDistinct ks → AreDistinct (without n ks)
-  without_distinct n [] distinct = tt
-  without_distinct n (k ∷ ks) distinct = at (k.number == n) (still_none k.number n ks distinct.0) (without_distinct n ks distinct.1)
-    where
-      at : (t : Bool) → kept_for k.number (without n ks) ≡ None → AreDistinct (without n ks) → AreDistinct (if not t then k ∷ without n ks else without n ks)
-      at true none others = others
-      at false none others = (none, others)
+abbrev Entries : Type 0
+Entries = List (ℕ × XlateView)
 
-  -- ---- where one stands
+abbrev version_of_xlate : Option XlateView → Option ℕ
+version_of_xlate o = option_map (λ (x : XlateView). x.version) o
 
-  module _ (n : ℕ) (d : KeptXlate X) where
-    pub removed_at : (ks : List (KeptXlate X)) → AreDistinct ks → (i : ℕ) → i < length ks → (slice_index_or ks i d).number ≡ n → remove ks i ≡ without n ks
-    removed_at [] distinct i within is = absurd (omega (arith, within))
-    removed_at (k ∷ ks) distinct zero within is =
-        rw (eq-eqb k.number n is) (sym (none_without n ks (subst (λ m. kept_for m ks ≡ None) is distinct.0)))
-    removed_at (k ∷ ks) distinct (suc i) within is =
-        let inside : i < length ks = omega (arith, within) in
-        let other : (k.number == n) ≡ false = ne_eqb k.number n (λ e. none_at k.number ks i d distinct.0 inside (is ∙ sym e)) in
-        rw other (ap (λ (xs : List (KeptXlate X)). k ∷ xs) (removed_at ks distinct.1 i inside is))
+version_kept : (n : ℕ) (es : Entries) → kept_version n (kept_views es) ≡ version_of_xlate (lookup (nat_eq n) es)
+version_kept n [] = refl
+version_kept n (e ∷ es) =
+    at (e.0 == n) (version_kept n es) ∙ ap (λ t. version_of_xlate (cond t (Some e.1) (lookup (nat_eq n) es))) (swap e.0 n)
+  where
+    at : (t : Bool) → kept_version n (kept_views es) ≡ version_of_xlate (lookup (nat_eq n) es)
+        → version_in (if t then Some (record { number = e.0; version = e.1.version }) else found_in n (kept_views es))
+        ≡ version_of_xlate (cond t (Some e.1) (lookup (nat_eq n) es))
+    at true others = refl
+    at false others = others
 
-    pub kept_at : (ks : List (KeptXlate X)) → AreDistinct ks → (i : ℕ) → i < length ks → (slice_index_or ks i d).number ≡ n → kept_for n ks ≡ Some (slice_index_or ks i d)
-    kept_at [] distinct i within is = absurd (omega (arith, within))
-    kept_at (k ∷ ks) distinct zero within is = rw (eq-eqb k.number n is) refl
-    kept_at (k ∷ ks) distinct (suc i) within is =
-        let inside : i < length ks = omega (arith, within) in
-        let other : (k.number == n) ≡ false = ne_eqb k.number n (λ e. none_at k.number ks i d distinct.0 inside (is ∙ sym e)) in
-        rw other (kept_at ks distinct.1 i inside is)
+-- the version of what was kept for a number
+pub version_of : (n : ℕ) (es : Entries) (o : Option XlateView) → o ≡ lookup (nat_eq n) es → kept_version n (kept_views es) ≡ version_of_xlate o
+version_of n es o is = version_kept n es ∙ ap version_of_xlate (sym is)
 
-  -- ---- what a search finds
+-- none is kept for a number any more
+pub given_up_in : (m : ℕ) (old new : Entries) → ((n : ℕ) → lookup (nat_eq n) new ≡ (if nat_eq m n then None else lookup (nat_eq n) old))
+    → versions (kept_views new) ≡ versions (given_up m (kept_views old))
+given_up_in m old new rest = fun_ext (λ n. version_kept n new ∙ ap version_of_xlate (rest n) ∙ at n (nat_eq m n) ∙ sym (given_up_version m n (kept_views old)))
+  where
+    at : (n : ℕ) (t : Bool) → version_of_xlate (if t then None else lookup (nat_eq n) old) ≡ (if t then None else kept_version n (kept_views old))
+    at n true = refl
+    at n false = sym (version_kept n old)
 
-  abbrev is_for : ℕ → KeptXlate X → Bool
-  is_for n k = k.number == n
-
-  pub not_found : (n : ℕ) (ks : List (KeptXlate X)) → position (is_for n) ks ≡ None → kept_for n ks ≡ None
-  not_found n ks none = at (nat_lt (position_or_len (is_for n) ks) (length ks)) refl none
-    where
-      at : (t : Bool) → nat_lt (position_or_len (is_for n) ks) (length ks) ≡ t → (if t then Some (position_or_len (is_for n) ks) else None) ≡ None → kept_for n ks ≡ None
-      at true is none = absurd (cc none)
-      at false is none = find_at (is_for n) ks ∙ slice_get_past ks (position_or_len (is_for n) ks) (ltb-false _ _ is)
-
-  pub found : (n i : ℕ) (ks : List (KeptXlate X)) (d : KeptXlate X) → position (is_for n) ks ≡ Some i → (i < length ks) × ((slice_index_or ks i d).number ≡ n)
-  found n i ks d is = let r = position-Some (is_for n) ks i d is in (r.0, eqb-true _ n r.1)
+-- one more is kept
+pub kept_in : (m v : ℕ) (x : XlateView) (old new : Entries) → x.version ≡ v → ((n : ℕ) → lookup (nat_eq n) new ≡ (if nat_eq m n then Some x else lookup (nat_eq n) old))
+    → versions (kept_views new) ≡ versions (keeping m v (kept_views old))
+kept_in m v x old new is more = fun_ext (λ n. version_kept n new ∙ ap version_of_xlate (more n) ∙ at n (nat_eq m n) ∙ sym (keeping_version m v n (kept_views old)))
+  where
+    at : (n : ℕ) (t : Bool) → version_of_xlate (if t then Some x else lookup (nat_eq n) old) ≡ (if t then Some v else kept_version n (kept_views old))
+    at n true = ap Some is
+    at n false = sym (version_kept n old)

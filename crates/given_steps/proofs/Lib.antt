@@ -3,6 +3,7 @@ pub mod StepLaws
 pub mod Stepped
 pub mod WholeRuns
 pub mod KeptLists
+pub mod ByNumber
 pub mod Entries
 pub mod Boards
 pub mod Taken

@@ -1,10 +1,9 @@
 -- What given steps leave of a board as it was.
-use Rattle.std.proofs.Common.{◌≡◌, ℕ, zero, suc, ◌+◌, ◌≤◌, ◌==◌, min, if◌then◌else◌, Bool, true, false, List, [], ◌∷◌, ◌++◌, length, map, Option, Some, None, refl, sym, ap, ◌∙◌, arith}
+use Rattle.std.proofs.Common.{◌≡◌, ℕ, ◌+◌, ◌≤◌, Bool, true, false, List, [], ◌∷◌, ◌++◌, Option, Some, None, refl, ap, ◌∙◌, arith}
 use Rattle.std.specs.Option.{is_none}
 use Rattle.spec_case.specs.declared.run_step.RunStep.{RunStep}
 use Rattle.spec_case.specs.declared.run_step.RunStep.TheVariants as given
 use Rattle.spec_case.specs.Run.{Run}
-use Rattle.spec_case.specs.Blocks.{last_block, hi}
 use Rattle.spec_board.specs.declared.looked.Looked.{Looked}
 use Rattle.spec_board.specs.declared.looked.Looked.TheVariants.{Exact, Mega, Miss}
 use Rattle.spec_board.specs.declared.put_done.PutDone.{PutDone}
@@ -14,8 +13,8 @@ use Rattle.spec_board.specs.State.{Entry, State, place_at, is_pending}
 use Rattle.spec_board.specs.Results.{key_at, looked, settled, entry_of, put_done}
 use Rattle.spec_board.specs.Refusals.{open_fault, look_fault, settle_fault, begin_fault, put_fault, end_fault}
 use Rattle.spec_board.specs.Effects.{effect, is_among}
-use Rattle.spec_board.specs.Schedules.{Board, Schedule, with_step, look_next, settle_at, put_entry, put_at, least_block}
-use Rattle.spec_board.specs.GivenSteps.{Met, met_if, kept_version, given_up, keeping, settle_kept, put_kept, given_step, port_of, counted, is_met_at, with_port_step, with_step_at, with_given_steps}
+use Rattle.spec_board.specs.Schedules.{Board, Schedule, with_step, look_next, settle_at, put_entry, put_at}
+use Rattle.spec_board.specs.GivenSteps.{met_if, kept_version, given_up, keeping, settle_kept, put_kept, given_step, port_of, with_step_at, with_given_steps}
 
 -- The second board is of the same port, and in no earlier block.
 pub record GoesOn (a b : Board) : Type 0 where

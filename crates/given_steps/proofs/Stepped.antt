@@ -1,19 +1,20 @@
 -- What a given step does to the boards of a run, which are values that boards are seen of.
-use Rattle.std.proofs.Common.{◌≡◌, ◌⊎◌, inl, inr, ℕ, zero, suc, ◌+◌, ◌≤◌, ◌<◌, ◌==◌, min, if◌then◌else◌, Bool, true, false, List, [], ◌∷◌, length, map, Option, Some, None, get_or, set, refl, sym, ap, ◌∙◌, subst, arith}
+use Rattle.std.proofs.Common.{◌≡◌, ◌⊎◌, inl, inr, ℕ, zero, suc, ◌+◌, ◌≤◌, ◌<◌, ◌==◌, if◌then◌else◌, Bool, true, false, List, [], ◌∷◌, length, map, Some, None, get_or, set, refl, sym, ap, ◌∙◌, subst, arith}
 use Rattle.std.specs.Prelude.{nat_lt, nat_eq, position}
 use Rattle.std.specs.List.{list_any, IsDistinct}
-use Rattle.std.specs.Option.{is_some}
 use Rattle.std.proofs.lemmas.Bool.{ltb-true, eqb-true, eq-eqb, ne_eqb, or_parts, false≢true, cases_lt, cond-true, cond-false}
 use Rattle.std.proofs.lemmas.List.{get_or-map, length-map}
 use Rattle.std.proofs.lemmas.List.Quantifiers.{position-Some}
 use Rattle.std.proofs.lemmas.Map.Keys.{apart_from_distinct}
+use Rattle.std.proofs.lemmas.Simd.{map-map}
 use Rattle.spec_case.specs.declared.run_step.RunStep.{RunStep}
 use Rattle.spec_case.specs.Run.{Run}
 use Rattle.spec_case.specs.Blocks.{hi, last_block}
 use Rattle.spec_board.specs.Schedules.{Board, Schedule, least_block}
 use Rattle.spec_board.specs.GivenSteps.{given_step, counted, is_met_at, with_port_step, with_edit_step}
+use Rattle.given_steps.specs.ByNumber.{NumberedBoard, by_number, NumberedSchedule, all_by_number}
 use Rattle.given_steps.specs.Running.{board_of, stepped_at}
-use Rattle.given_steps.proofs.StepLaws.{GoesOn, step_goes}
+use Rattle.given_steps.proofs.StepLaws.{step_goes}
 
 -- ---- the board of a port, by the place of the port
 
@@ -94,35 +95,38 @@ module _ {V : Type 0} (S : V → Board) (port : ℕ) where
 
 -- ---- the boards after a step of a port
 
-module _ {V : Type 0} (S : V → Board) (F : Board → Board) where
+module _ {V B W : Type 0} (S : V → B) (F : B → W) (T : V → W) where
   -- only the board of one place changes
-  pub map_stepped : (items : List V) (place : ℕ) (v d : V) → place < length items → S v ≡ F (S (get_or items place d))
-      → ((k : ℕ) → k < length items → (k ≡ place → ⊥) → F (S (get_or items k d)) ≡ S (get_or items k d))
-      → map S (set items place v) ≡ map F (map S items)
+  pub map_stepped : (items : List V) (place : ℕ) (v d : V) → place < length items → T v ≡ F (S (get_or items place d))
+      → ((k : ℕ) → k < length items → (k ≡ place → ⊥) → F (S (get_or items k d)) ≡ T (get_or items k d))
+      → map T (set items place v) ≡ map F (map S items)
   map_stepped [] place v d within is others = absurd (omega (arith, within))
   map_stepped (x ∷ items) zero v d within is others =
-      ap (λ b. b ∷ map S items) is
+      ap (λ b. b ∷ map T items) is
       ∙ ap (λ bs. F (S x) ∷ bs) (map_same items d (λ k less. others (suc k) (omega (arith, less)) (λ e. omega (arith, e))))
     where
-      map_same : (ys : List V) (d : V) → ((k : ℕ) → k < length ys → F (S (get_or ys k d)) ≡ S (get_or ys k d)) → map S ys ≡ map F (map S ys)
+      map_same : (ys : List V) (d : V) → ((k : ℕ) → k < length ys → F (S (get_or ys k d)) ≡ T (get_or ys k d)) → map T ys ≡ map F (map S ys)
       map_same [] d same = refl
       map_same (y ∷ ys) d same =
-          ap (λ b. b ∷ map S ys) (sym (same 0 (omega arith)))
+          ap (λ b. b ∷ map T ys) (sym (same 0 (omega arith)))
           ∙ ap (λ bs. F (S y) ∷ bs) (map_same ys d (λ k less. same (suc k) (omega (arith, less))))
   map_stepped (x ∷ items) (suc place) v d within is others =
-      ap (λ b. b ∷ map S (set items place v)) (sym (others 0 (omega arith) (λ e. omega (arith, e))))
+      ap (λ b. b ∷ map T (set items place v)) (sym (others 0 (omega arith) (λ e. omega (arith, e))))
       ∙ ap (λ bs. F (S x) ∷ bs) (map_stepped items place v d (omega (arith, within)) is (λ k less differ. others (suc k) (omega (arith, less)) (λ e. differ (omega (arith, e)))))
 
 module _ {V : Type 0} (S : V → Board) (run : Run) (v : ℕ) (step : RunStep) (port : ℕ) where
   -- the board at the place of the port takes the step
   pub taken_at : (ports : List ℕ) (items : List V) (place : ℕ) (new d : V) → map (λ x. (S x).port) items ≡ ports → IsDistinct nat_eq ports
-      → position (λ p. p == port) ports ≡ Some place → S new ≡ (given_step run v step (S (get_or items place d))).1
-      → map S (set items place new) ≡ map (stepped_at run v step port) (map S items)
+      → position (λ p. p == port) ports ≡ Some place → by_number (S new) ≡ by_number (given_step run v step (S (get_or items place d))).1
+      → map by_number (map S (set items place new)) ≡ map by_number (map (stepped_at run v step port) (map S items))
   taken_at ports items place new d are distinct at is =
       let b = S (get_or items place d) in
-      map_stepped S (stepped_at run v step port) items place new d (there S port ports items place are at)
-      (is ∙ sym (cond-true (b.port == port) (given_step run v step b).1 b (eq-eqb b.port port (port_there S port ports items place d are at))))
-      (λ k less differ. cond-false ((S (get_or items k d)).port == port) _ _ (others S port ports items place d are distinct at k less differ))
+      let stepped : Board → Board = stepped_at run v step port in
+      map-map by_number S (set items place new)
+      ∙ map_stepped S (λ x. by_number (stepped x)) (λ x. by_number (S x)) items place new d (there S port ports items place are at)
+      (is ∙ sym (ap by_number (cond-true (b.port == port) (given_step run v step b).1 b (eq-eqb b.port port (port_there S port ports items place d are at)))))
+      (λ k less differ. ap by_number (cond-false ((S (get_or items k d)).port == port) _ _ (others S port ports items place d are distinct at k less differ)))
+      ∙ sym (map-map by_number stepped (map S items))
 
   -- and where the port isn't there, none does
   pub none_taken : (items : List V) → list_any (λ p. p == port) (map (λ x. (S x).port) items) ≡ false
@@ -159,9 +163,9 @@ schedule_of newest unmet boards = record { newest = newest; boards = boards; unm
 
 -- an edit is published, or not
 pub edit_is : (run : Run) (v unmet w : ℕ) (met : Bool) (boards : List Board) → met ≡ nat_lt v (hi run (least_block (last_block run) boards)) → w ≡ (if met then v + 1 else v)
-    → schedule_of w (counted met unmet) boards ≡ with_edit_step run (schedule_of v unmet boards)
+    → all_by_number (schedule_of w (counted met unmet) boards) ≡ all_by_number (with_edit_step run (schedule_of v unmet boards))
 edit_is run v unmet w met boards is at =
-    ap (λ n. schedule_of n (counted met unmet) boards) at ∙ by_test met ∙ ap (λ t. if t then schedule_of (v + 1) unmet boards else schedule_of v (unmet + 1) boards) is
+    ap all_by_number (ap (λ n. schedule_of n (counted met unmet) boards) at ∙ by_test met ∙ ap (λ t. if t then schedule_of (v + 1) unmet boards else schedule_of v (unmet + 1) boards) is)
   where
     by_test : (t : Bool) → schedule_of (if t then v + 1 else v) (counted t unmet) boards ≡ (if t then schedule_of (v + 1) unmet boards else schedule_of v (unmet + 1) boards)
     by_test true = refl
@@ -173,7 +177,8 @@ edit_within v h w false is at before = omega (arith, at, before)
 
 -- a step of a port is taken
 pub port_step_is : (run : Run) (v unmet : ℕ) (step : RunStep) (port : ℕ) (met : Bool) (old new : List Board)
-    → met ≡ is_met_at run v step (board_of port old) → new ≡ map (stepped_at run v step port) old
-    → schedule_of v (counted met unmet) new ≡ with_port_step run step port (schedule_of v unmet old)
+    → met ≡ is_met_at run v step (board_of port old) → map by_number new ≡ map by_number (map (stepped_at run v step port) old)
+    → all_by_number (schedule_of v (counted met unmet) new) ≡ all_by_number (with_port_step run step port (schedule_of v unmet old))
 port_step_is run v unmet step port met old new is taken =
-    ap (schedule_of v (counted met unmet)) taken ∙ ap (λ t. schedule_of v (counted t unmet) (map (stepped_at run v step port) old)) is
+    let numbered : ℕ → List NumberedBoard → NumberedSchedule = λ n boards. record { newest = v; boards = boards; unmet = n } in
+    ap (numbered (counted met unmet)) taken ∙ ap (λ t. numbered (counted t unmet) (map by_number (map (stepped_at run v step port) old))) is

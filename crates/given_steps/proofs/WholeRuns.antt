@@ -1,11 +1,10 @@
 -- Boards after given steps, and the whole schedule of a run.
-use Rattle.std.proofs.Common.{◌≡◌, ℕ, zero, suc, ◌≤◌, List, [], ◌∷◌, length, map, get_or, slice_index_or, All, refl, sym, ap, ◌∙◌, arith}
+use Rattle.std.proofs.Common.{◌≡◌, ℕ, zero, suc, List, [], ◌∷◌, length, map, get_or, slice_index_or, All, refl, sym, ap, ◌∙◌}
 use Rattle.std.proofs.lemmas.List.{get_or-map, length-map}
 use Rattle.std.proofs.lemmas.Simd.{map-map}
 use Rattle.spec_case.specs.declared.run_step.RunStep.{RunStep}
 use Rattle.spec_case.specs.Run.{Run}
-use Rattle.spec_case.specs.Blocks.{hi, last_block}
-use Rattle.spec_board.specs.Steps.{Step}
+use Rattle.spec_case.specs.Blocks.{last_block}
 use Rattle.spec_board.specs.Schedules as schedules
 use Rattle.spec_board.specs.GivenSteps.{with_given_steps}
 use Rattle.spec_board.specs.Scheduled as whole_runs

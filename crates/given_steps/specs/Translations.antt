@@ -1,25 +1,18 @@
--- Translations that are kept, each for a place or for an entry.
-use Rattle.std.specs.Prelude.{◌≡◌, ℕ, ◌==◌, not, List, [], ◌∷◌, map, filter, Option, None}
-use Rattle.std.specs.List.{find}
+-- Translations that are kept, each for the number of a place or of an entry.
+use Rattle.std.specs.Prelude.{◌≡◌, ℕ, nat_eq, List, map, Option, Some}
+use Rattle.std.specs.Map.{lookup}
 use Rattle.spec_board.specs.Schedules as schedules
-use Rattle.given_steps.specs.declared.kept.KeptXlate.{KeptXlate}
+use Rattle.spec_board.specs.GivenSteps.{kept_version}
+use Rattle.run_xlate.specs.Views.{XlateView}
 
--- a kept translation, as the definition of schedules sees it
-abbrev pub kept_view : {X : Type 0} → KeptXlate X → schedules.Kept
-kept_view k = record { number = k.number; version = k.xlate.version }
+-- the entries of a map, as the definition of schedules sees kept translations
+abbrev pub kept_views : List (ℕ × XlateView) → List schedules.Kept
+kept_views entries = map (λ (e : ℕ × XlateView). record { number = e.0; version = e.1.version }) entries
 
-abbrev pub kept_views : {X : Type 0} → List (KeptXlate X) → List schedules.Kept
-kept_views kept = map kept_view kept
+-- the version of what is kept for each number
+abbrev pub versions : List schedules.Kept → ℕ → Option ℕ
+versions kept = λ number. kept_version number kept
 
--- the one that is kept for a number
-abbrev pub kept_for : {X : Type 0} → ℕ → List (KeptXlate X) → Option (KeptXlate X)
-kept_for {X} number kept = find (λ (k : KeptXlate X). k.number == number) kept
-
--- those that are kept for other numbers
-abbrev pub without : {X : Type 0} → ℕ → List (KeptXlate X) → List (KeptXlate X)
-without {X} number kept = filter (λ (k : KeptXlate X). not (k.number == number)) kept
-
--- No two are kept for one number.
-abbrev pub AreDistinct : {X : Type 0} → List (KeptXlate X) → Type 0
-AreDistinct [] = Unit {0}
-AreDistinct (k ∷ kept) = (kept_for k.number kept ≡ None) × AreDistinct kept
+-- A fact holds of each number and the translation that is kept for it.
+abbrev pub Each : (ℕ → XlateView → Type 0) → List (ℕ × XlateView) → Type 0
+Each P entries = (number : ℕ) (xlate : XlateView) → lookup (nat_eq number) entries ≡ Some xlate → P number xlate

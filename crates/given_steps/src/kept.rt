@@ -1,75 +1,37 @@
 //! Translations that are kept.
-ghost use Rattle.std.specs.Prelude.{◌≡◌, ◌==◌, [], ◌∷◌, position, OnOk, OnErr};
-ghost use Rattle.std.specs.Option.{option_map};
-ghost use Rattle.given_steps.specs.Translations.{kept_for, without};
+ghost use Rattle.std.specs.Prelude.{◌≡◌, ℕ, nat_eq, if◌then◌else◌, Some, None, OnOk, OnErr};
+ghost use Rattle.std.specs.HashMap.{get};
 
 use run_case::Case;
 use run_xlate::Xlated;
-use std::alloc::{AllocError, Global};
-use std::collections::VecDeque;
-use std::marker::Model;
+use std::alloc::AllocError;
+use std::collections::HashMap;
 
-/// A translation that is kept for a place or for an entry, of this number.
-#[derive(Drop)]
-pub struct KeptXlate<C: Case> {
-    pub number: u32,
-    pub xlate: Xlated<C>,
+/// Translations that are kept, at most one for each number, which is that of a place or of an entry.
+pub(crate) type KeptXlates<C> = HashMap<u32, Xlated<C>>;
+
+/// The translation that is kept for a number, which is kept no more. It takes no memory.
+pub(crate) fn give_up<C: Case>(kept: &mut KeptXlates<C>, number: u32) -> Option<Xlated<C>>
+    ensures found { result ≡ get nat_eq kept.old number }
+    ensures rest { (n : ℕ)
+        → get nat_eq kept.new n ≡ (if nat_eq number n then None else get nat_eq kept.old n) }
+{
+    kept.remove(&number)
 }
 
-/// Translations that are kept, the latest first, at most one for each number.
-#[derive(Drop)]
-pub struct KeptXlates<C: Case>(VecDeque<KeptXlate<C>>);
-
-impl<C: Case> Model for KeptXlates<C> {
-    ghost use Rattle.std.specs.Prelude.{List};
-    ghost use Rattle.given_steps.specs.declared.kept.KeptXlate.{KeptXlate};
-
-    ghost Value = { List (KeptXlate C) };
-
-    ghost use Rattle.given_steps.specs.Translations.{AreDistinct};
-
-    ghost view = { λ l. l.0.items };
-
-    ghost invariant = { λ l. AreDistinct l.0.items };
-}
-
-impl<C: Case> KeptXlates<C> {
-    /// None. It takes no memory.
-    pub fn new(alloc: Global) -> KeptXlates<C>
-        ensures { result ≡ [] }
-    {
-        KeptXlates(VecDeque::new(alloc))
-    }
-
-    // Where the translation for a number stands, if one is kept.
-    fn place_of(&self, number: u32) -> Option<usize>
-        ensures { result ≡ position (λ k. k.number == number) self.now }
-    {
-        self.0.iter().position(|kept| kept.number == number)
-    }
-
-    /// The translation that is kept for a number, which is kept no more. It takes no memory.
-    pub fn give_up(&mut self, number: u32) -> Option<Xlated<C>>
-        ensures found { result ≡ option_map (λ k. k.xlate) (kept_for number self.old) }
-        ensures rest { self.new ≡ without number self.old }
-    {
-        let place = self.place_of(number)?;
-        match self.0.remove(place) {
-            Some(kept) => Some(kept.xlate),
-            None => unreachable!(),
-        }
-    }
-
-    /// Keeps a translation for a number, in place of the one that was kept for it.
-    ///
-    /// The only error is out of memory, and then none is kept for the number.
-    pub fn keep(&mut self, number: u32, xlate: Xlated<C>) -> Result<(), AllocError>
-        ensures kept { OnOk result
-            (self.new ≡ record { number = number; xlate = xlate } ∷ without number self.old) }
-        ensures none { OnErr result (self.new ≡ without number self.old) }
-    {
-        let _ = self.give_up(number);
-        self.0.push_front(KeptXlate { number, xlate })?;
-        Ok(())
-    }
+/// Keeps a translation for a number, in place of the one that was kept for it.
+///
+/// The only error is out of memory, and then none was kept for the number, and none is.
+pub(crate) fn keep<C: Case>(
+    kept: &mut KeptXlates<C>,
+    number: u32,
+    xlate: Xlated<C>,
+) -> Result<(), AllocError>
+    ensures kept { OnOk result ((n : ℕ)
+        → get nat_eq kept.new n ≡ (if nat_eq number n then Some xlate else get nat_eq kept.old n)) }
+    ensures none { OnErr result (get nat_eq kept.new number ≡ None) }
+    ensures same { OnErr result ((n : ℕ) → get nat_eq kept.new n ≡ get nat_eq kept.old n) }
+{
+    kept.insert(number, xlate)?;
+    Ok(())
 }

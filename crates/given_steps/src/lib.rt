@@ -10,8 +10,8 @@
 //! # What is promised
 //!
 //! - A `ScheduledBoard` is a board and the translations that are kept for it, of pending frames and of listed megaflows.
-//!   It is seen as its port, its journal, and the number and version of what is kept (`specs/ScheduledViews`): a board
-//!   under way, as `spec_board` has it.
+//!   It is seen as its port, its journal, and the number and version of what is kept, in whatever order
+//!   (`specs/ScheduledViews`): a board under way, as `spec_board` has it.
 //! - `take_step` does with the board of its port what `spec_board` defines as `given_step`, and answers whether the step was
 //!   met. That is exactly where the board refuses nothing and, with a settle or a put, a translation is kept. A settle and a
 //!   put give up the translation, met or not. Whatever the steps are, the journal is legal.
@@ -29,8 +29,9 @@
 //! (`attempts`). What the board can't ask is proved of what is kept. The type of a translation says that it is that of its
 //! key under its version. The type of a `ScheduledBoard` says that this key is that of the place's frame, or of the megaflow
 //! of its number for as long as that is live. For a megaflow's key never changes, and no number is given twice
-//! (`proofs/Entries`). At most one translation is kept for a number, the latest first (`kept`), as in the definition, so
-//! that both are the same list.
+//! (`proofs/Entries`). At most one translation is kept for a number, in a map (`kept`), so that a step takes as long
+//! however many are kept. The definition has them in a list, the latest first; but no step depends on their order
+//! (`proofs/ByNumber`), so the two are compared by number (`specs/ByNumber`).
 //!
 //! The board of a step is found by the place of its port in the words, so no step walks over the boards; an edit does, to
 //! find their least block. How a run ends doesn't depend on the translations that are kept: each stage of it does the same

@@ -4,6 +4,7 @@ ghost use Rattle.spec_case.specs.Blocks.{hi, last_block};
 ghost use Rattle.spec_board.specs.GivenSteps.{counted, is_met_at, port_of, with_step_at};
 ghost use Rattle.step_runner.specs.Scheduled.{under_way};
 ghost use Rattle.given_steps.specs.ScheduledViews.{scheduled};
+ghost use Rattle.given_steps.specs.ByNumber.{by_number, all_by_number};
 ghost use Rattle.given_steps.specs.Running.{AreOfPorts, block_of_all, board_of, schedule_in, stepped_at, without_kept};
 
 use crate::scheduled_board::ScheduledBoard;
@@ -132,8 +133,9 @@ fn take_port_step<C: Case>(
     requires of_port { port_of step.now ≡ Some port }
     ensures met { IfOk result (λ met. met
         ≡ is_met_at C.run tables.now step.now (board_of port (map (scheduled C.run) boards.old.items))) }
-    ensures taken { OnOk result (map (scheduled C.run) boards.new.items
-        ≡ map (stepped_at C.run tables.now step.now port) (map (scheduled C.run) boards.old.items)) }
+    ensures taken { OnOk result (map by_number (map (scheduled C.run) boards.new.items)
+        ≡ map by_number (map (stepped_at C.run tables.now step.now port)
+        (map (scheduled C.run) boards.old.items))) }
     ensures ports { OnOk result (AreOfPorts C.run boards.new.items) }
 {
     let _ = run.ports().len();
@@ -162,9 +164,9 @@ pub(crate) fn take_given<C: Case>(
     ensures ports { OnOk result (AreOfPorts C.run boards.new.items) }
     ensures version { OnOk result (tables.new ≤ hi C.run (block_of_all C.run boards.new.items)) }
     ensures taken { IfOk result (λ met. (unmet : ℕ)
-        → schedule_in C.run tables.new (counted met unmet) boards.new.items
-        ≡ with_step_at C.run step.now (port_of step.now)
-        (schedule_in C.run tables.old unmet boards.old.items)) }
+        → all_by_number (schedule_in C.run tables.new (counted met unmet) boards.new.items)
+        ≡ all_by_number (with_step_at C.run step.now (port_of step.now)
+        (schedule_in C.run tables.old unmet boards.old.items))) }
 {
     let _ = run.last_block();
     match port_in(step) {

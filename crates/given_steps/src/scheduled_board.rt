@@ -6,6 +6,7 @@ use crate::kept::KeptXlates;
 use pmd_board::Board;
 use run_case::Case;
 use std::alloc::Global;
+use std::collections::HashMap;
 use std::marker::Model;
 
 /// A board that takes given steps, and the translations that are kept for its places and entries.
@@ -36,8 +37,8 @@ impl<C: Case> ScheduledBoard<C> {
     {
         ScheduledBoard {
             board,
-            snaps: KeptXlates::new(alloc),
-            checks: KeptXlates::new(alloc),
+            snaps: HashMap::new(alloc),
+            checks: HashMap::new(alloc),
         }
     }
 

@@ -8,9 +8,11 @@ ghost use Rattle.spec_board.specs.Effects.{is_among};
 ghost use Rattle.spec_board.specs.GivenSteps.{given_step, port_of};
 ghost use Rattle.pmd_board.specs.BoardView.{state_of};
 ghost use Rattle.given_steps.specs.ScheduledViews.{scheduled};
+ghost use Rattle.given_steps.specs.ByNumber.{by_number};
 ghost use Rattle.given_steps.specs.Taken.{Takes};
 
 use crate::attempts;
+use crate::kept::{give_up, keep};
 use crate::scheduled_board::ScheduledBoard;
 use ovs_fields::Key;
 use pipe_model::SpareLists;
@@ -54,7 +56,7 @@ fn snap<C: Case>(
     }
     let at = run.keyed(board.board.port(), place);
     let made = tables.translate(run, &at.key, SpareLists::new(alloc))?;
-    board.snaps.keep(place, made)?;
+    keep(&mut board.snaps, place, made)?;
     Ok(true)
 }
 
@@ -68,7 +70,7 @@ fn settle<C: Case>(
         (λ met. Takes C.run newest (given.Settle board.old.board.port place)
         board.old met board.new) }
 {
-    match board.snaps.give_up(place) {
+    match give_up(&mut board.snaps, place) {
         Some(made) => {
             let at = run.keyed(board.board.port(), place);
             attempts::settle(&mut board.board, &at, made)
@@ -119,7 +121,7 @@ fn check<C: Case>(
     match listed_key(&board.board, entry) {
         Some(key) => {
             let made = tables.translate(run, &key, SpareLists::new(alloc))?;
-            board.checks.keep(entry, made)?;
+            keep(&mut board.checks, entry, made)?;
             Ok(true)
         }
         None => Ok(false),
@@ -132,7 +134,7 @@ fn put<C: Case>(board: &mut ScheduledBoard<C>, entry: u32) -> bool
         → Takes C.run newest (given.Put board.old.board.port entry) board.old result board.new }
 {
     let _ = board.board.journal();
-    match board.checks.give_up(entry) {
+    match give_up(&mut board.checks, entry) {
         Some(made) => attempts::put(&mut board.board, entry, made),
         None => false,
     }
@@ -198,8 +200,8 @@ pub fn take_step<C: Case>(
     requires of_port { port_of step.now ≡ Some board.old.board.port }
     ensures met { IfOk result
         (λ met. met ≡ (given_step C.run tables.now step.now (scheduled C.run board.old)).0) }
-    ensures taken { OnOk result (scheduled C.run board.new
-        ≡ (given_step C.run tables.now step.now (scheduled C.run board.old)).1) }
+    ensures taken { OnOk result (by_number (scheduled C.run board.new)
+        ≡ by_number (given_step C.run tables.now step.now (scheduled C.run board.old)).1) }
     ensures port { OnOk result (board.new.board.port ≡ board.old.board.port) }
 {
     taken(alloc, run, tables, board, *step)

@@ -5,6 +5,7 @@ use Rattle.spec_case.specs.Run.{Run}
 use Rattle.spec_board.specs.Schedules.{Board}
 use Rattle.spec_board.specs.GivenSteps.{given_step, is_met_at}
 use Rattle.given_steps.specs.ScheduledViews.{ScheduledView, scheduled}
+use Rattle.given_steps.specs.ByNumber.{by_number}
 use Rattle.given_steps.proofs.Stepped.{found, none_there, taken_at, none_taken}
 use Rattle.given_steps.proofs.schedule.take_port_step.Goals as goal
 
@@ -31,7 +32,7 @@ returns-in_ok-met-in-Some-clause-taken g c =
     let at : position is_port run.ports ≡ Some c.in-Some.place = sym (c.find.ensures.place ∙ ap (position is_port) c.ports-2.ensures) ∙ c.in-Some.is in
     let distinct = subst (IsDistinct nat_eq) c.ports.ensures c.len.ensures.distinct in
     taken_at S run c.args.tables.now c.args.step.now c.args.port run.ports items c.in-Some.place c.take_step.new.board b c.requires.ports distinct at
-    (c.in_ok-met-in-Some.ensures.taken ∙ ap (λ (x : ScheduledView). (given_step run c.args.tables.now c.args.step.now (S x)).1) c.index_mut.ensures.value)
+    (c.in_ok-met-in-Some.ensures.taken ∙ ap (λ (x : ScheduledView). by_number (given_step run c.args.tables.now c.args.step.now (S x)).1) c.index_mut.ensures.value)
 
 pub returns-in_ok-met-in-Some-clause-ports : goal.returns-in_ok-met-in-Some-clause-ports
 returns-in_ok-met-in-Some-clause-ports g c =
@@ -53,4 +54,4 @@ returns-in-None-clause-taken g c =
     let items : List ScheduledView = c.args.boards.now.items in
     let is_port : ℕ → Bool = λ p. p == c.args.port in
     let none = ap (list_any is_port) (c.requires.ports ∙ sym c.ports-2.ensures) ∙ sym c.find.ensures.found ∙ ap is_some c.in-None.is in
-    none_taken (scheduled run) run c.args.tables.now c.args.step.now c.args.port items none
+    ap (map by_number) (none_taken (scheduled run) run c.args.tables.now c.args.step.now c.args.port items none)

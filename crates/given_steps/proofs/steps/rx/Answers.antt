@@ -19,20 +19,20 @@ returns-then-place-frames g c = λ newest.
     let b : BoardView = c.board.inside.board in
     let past : length (frames_of run b.port) < (state_of run b).next = (let t = c.if-place-frames.true in let n = c.next-place.ensures.same in let f = c.frames.ensures.count ∙ ap (λ p. length (frames_of run p)) c.port-port.ensures.same in omega (arith, t, n, f)) in
     subst (λ (v : ScheduledView). Takes run newest (given.Rx v.board.port) v false v) c.board.view_is
-    (rx_beyond run newest (record { board = b; snaps = kept_views c.board.inside.snaps; checks = kept_views c.board.inside.checks }) (beyond run b c.next-place.ensures.lawful past))
+    (rx_beyond run newest (record { board = b; snaps = kept_views c.board.inside.snaps.entries; checks = kept_views c.board.inside.checks.entries }) (beyond run b c.next-place.ensures.lawful past))
 
 pub invariant_of-board : goal.invariant_of-board
 invariant_of-board g c =
     let k = c.board.invariant in
-    kept_with g.C.Case.run c.board.inside.board c.look.new.board c.board.inside.snaps c.board.inside.checks k.limit c.look.ensures.goes_on k.snaps k.checks
+    kept_with g.C.Case.run c.board.inside.board _ k.limit c.look.ensures.goes_on k.snaps k.checks
 
 pub returns : goal.returns
 returns g c = λ newest.
     let run : Run = g.C.Case.run in
     let b : BoardView = c.board.inside.board in
     let new : BoardView = c.look.new.board in
-    let was : ScheduledView = record { board = b; snaps = kept_views c.board.inside.snaps; checks = kept_views c.board.inside.checks } in
-    let now : ScheduledView = record { board = new; snaps = kept_views c.board.inside.snaps; checks = kept_views c.board.inside.checks } in
+    let was : ScheduledView = record { board = b; snaps = kept_views c.board.inside.snaps.entries; checks = kept_views c.board.inside.checks.entries } in
+    let now : ScheduledView = record { board = new; snaps = kept_views c.board.inside.snaps.entries; checks = kept_views c.board.inside.checks.entries } in
     let took = subst (λ p. TookIf run (is_none (look_fault run b.port (state_of run b) p)) (schedules.look_next run (under_way run b)) b c.look.result new) (c.keyed-at.ensures.place ∙ c.next-place.ensures.same) c.look.ensures.took in
     subst (λ (v : ScheduledView). Takes run newest (given.Rx v.board.port) v c.look.result now) c.board.view_is
     (rx_takes run newest was now c.look.result took c.look.ensures.goes_on refl refl)

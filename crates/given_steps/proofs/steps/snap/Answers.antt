@@ -1,19 +1,18 @@
-use Rattle.std.proofs.Common.{◌≡◌, true, List, refl, sym, ap, ◌∙◌, subst}
+use Rattle.std.proofs.Common.{◌≡◌, true, refl, sym, ap, ◌∙◌, subst}
 use Rattle.spec_case.specs.Run.{Run}
 use Rattle.spec_case.specs.declared.run_step.RunStep.TheVariants as given
 use Rattle.spec_board.specs.Results.{key_at}
-use Rattle.spec_board.specs.GivenSteps.{keeping}
 use Rattle.run_blocks.specs.Places.{HasPlace}
 use Rattle.run_xlate.specs.Views.{XlateView}
 use Rattle.pmd_board.specs.BoardView.{BoardView}
-use Rattle.given_steps.specs.declared.kept.KeptXlate.{KeptXlate}
 use Rattle.given_steps.specs.ScheduledViews.{ScheduledView}
 use Rattle.given_steps.specs.Translations.{kept_views}
 use Rattle.given_steps.specs.Fields.{IsOfPlace}
 use Rattle.given_steps.specs.Taken.{Takes}
 use Rattle.given_steps.proofs.Boards.{stays}
-use Rattle.given_steps.proofs.Keeping.{kept_with, others_hold, one_holds, place_pending}
-use Rattle.given_steps.proofs.Taken.{kept_one, snap_met}
+use Rattle.given_steps.proofs.KeptLists.{kept_in}
+use Rattle.given_steps.proofs.Keeping.{kept_with, same_hold, one_holds, place_pending}
+use Rattle.given_steps.proofs.Taken.{snap_met}
 use Rattle.given_steps.proofs.steps.snap.Goals as goal
 
 pub keyed-at-requires-clause-place : goal.keyed-at-requires-clause-place
@@ -27,8 +26,8 @@ invariant_of-board g c =
     let run : Run = g.C.Case.run in
     let b : BoardView = c.board.inside.board in
     let k = c.board.invariant in
-    kept_with run b b c.keep.new.self c.board.inside.checks k.limit (stays run b b refl)
-    (others_hold (IsOfPlace run b.port) c.args.place c.board.inside.snaps c.keep.new.self k.snaps c.in_err-keep.ensures.none) k.checks
+    kept_with run b _ k.limit (stays run b b refl)
+    (same_hold (IsOfPlace run b.port) c.args.place c.board.inside.snaps.entries c.keep.new.kept.entries k.snaps c.in_err-keep.ensures.same) k.checks
 
 pub invariant_of-board-2 : goal.invariant_of-board-2
 invariant_of-board-2 g c =
@@ -41,9 +40,8 @@ invariant_of-board-2 g c =
     let port : at.port ≡ b.port = c.keyed-at.ensures.port ∙ c.port.ensures.same in
     let there = place_pending run b place c.journal.ensures.lawful (sym c.is_pending.ensures ∙ c.if-not-is_pending.false) in
     let same : made.key ≡ key_at run b.port place = c.in_ok-made.ensures.key ∙ at.key_is ∙ ap (λ i. key_at run at.port i) c.keyed-at.ensures.place ∙ ap (λ p. key_at run p place) port in
-    let one : KeptXlate g.row.C.Denot = record { number = place; xlate = made } in
-    kept_with run b b c.keep.new.self c.board.inside.checks k.limit (stays run b b refl)
-    (one_holds (IsOfPlace run b.port) one place c.board.inside.snaps c.keep.new.self (record { there = there; same = same }) k.snaps c.in_ok-keep.ensures.kept) k.checks
+    kept_with run b _ k.limit (stays run b b refl)
+    (one_holds (IsOfPlace run b.port) place c.board.inside.snaps.entries c.keep.new.kept.entries k.snaps made (record { there = there; same = same }) c.in_ok-keep.ensures.kept) k.checks
 
 pub returns : goal.returns
 returns g c =
@@ -52,9 +50,9 @@ returns g c =
     let place = c.args.place in
     let made : XlateView = c.in_ok-made.made in
     let newest = c.args.tables.now in
-    let ks : List (KeptXlate g.row.C.Denot) = c.board.inside.snaps in
-    let was : ScheduledView = record { board = b; snaps = kept_views ks; checks = kept_views c.board.inside.checks } in
-    let now : ScheduledView = record { board = b; snaps = kept_views c.keep.new.self; checks = kept_views c.board.inside.checks } in
-    let more : now.snaps ≡ keeping place newest was.snaps = ap (λ (xs : List (KeptXlate g.row.C.Denot)). kept_views xs) c.in_ok-keep.ensures.kept ∙ kept_one place newest made ks c.in_ok-made.ensures.version in
+    let checks = kept_views c.board.inside.checks.entries in
+    let was : ScheduledView = record { board = b; snaps = kept_views c.board.inside.snaps.entries; checks = checks } in
+    let now : ScheduledView = record { board = b; snaps = kept_views c.keep.new.kept.entries; checks = checks } in
+    let more = kept_in place newest made c.board.inside.snaps.entries c.keep.new.kept.entries c.in_ok-made.ensures.version c.in_ok-keep.ensures.kept in
     subst (λ (v : ScheduledView). Takes run newest (given.Snap v.board.port place) v true now) c.board.view_is
     (snap_met run newest was place now.snaps (sym c.is_pending.ensures ∙ c.if-not-is_pending.false) more)

@@ -4,4 +4,4 @@ use Rattle.given_steps.proofs.steps.sweep.Goals as goal
 pub invariant_of-board : goal.invariant_of-board
 invariant_of-board g c =
     let k = c.board.invariant in
-    kept_with g.C.Case.run c.board.inside.board c.begin.new.board c.board.inside.snaps c.board.inside.checks k.limit c.begin.ensures.goes_on k.snaps k.checks
+    kept_with g.C.Case.run c.board.inside.board _ k.limit c.begin.ensures.goes_on k.snaps k.checks
