@@ -1,0 +1,4 @@
+pub mod Looks
+pub mod Prefixes
+pub mod Sound
+pub mod Tries

@@ -1,0 +1,9 @@
+pub mod KeyLaws
+pub mod Members
+pub mod OnlyCount
+pub mod ProbeLaws
+pub mod RankLaws
+pub mod Removed
+pub mod Results
+pub mod StageLaws
+pub mod Updates

@@ -1,0 +1,5 @@
+pub mod Counts
+pub mod Numbered
+pub mod Ranks
+pub mod Stages
+pub mod Subtables

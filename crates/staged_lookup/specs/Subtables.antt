@@ -1,0 +1,72 @@
+-- A subtable, and the rules of its mask.
+use Rattle.std.specs.Prelude.{◌≡◌, ℕ, ◌<◌, true, false, nat_le, if◌then◌else◌, List, length, map, filter, Some, nat_eq}
+use Rattle.std.specs.Option.{option_map}
+use Rattle.std.specs.declared.hash.FoldHasher.{FoldHasher}
+use Rattle.std.specs.declared.hash.BuildHasherDefault.{BuildHasherDefault}
+use Rattle.indexmap.specs.IndexMap.{IndexMap, get}
+use Rattle.spec_keys.specs.Fields.{field_count}
+use Rattle.spec_keys.specs.Keys.{none, masked, same}
+use Rattle.spec_keys.specs.Stages.{staged, metadata_stage, ethernet_stage, network_stage}
+use Rattle.spec_tables.specs.Rules.{Rule, winner}
+use Rattle.translation_laws.specs.Members.{Among}
+use Rattle.ovs_fields.specs.Packed.{numbers, bits}
+use Rattle.staged_lookup.specs.declared.probe.Probe.{Probe}
+use Rattle.staged_lookup.specs.declared.probe.Probe.TheVariants.{Ended, Best}
+use Rattle.staged_lookup.specs.declared.rank.Rank.{Rank}
+use Rattle.ovs_fields.specs.declared.key.Key.{Key}
+use Rattle.staged_lookup.specs.Numbered.{AreDistinct, HasNumber, HasNoNumber}
+use Rattle.staged_lookup.specs.declared.subtable.Subtable.{Subtable}
+use Rattle.staged_lookup.specs.Counts.{ranks_at}
+use Rattle.staged_lookup.specs.Ranks.{rank_of}
+use Rattle.staged_lookup.specs.Stages.{IsStage, some_agrees}
+
+-- the ranks of the rules with this key
+abbrev pub ranks_with : List ℕ → List Rule → List Rank
+ranks_with key rs = map rank_of (filter (λ r. same key r.matching.key) rs)
+
+-- a rule of this mask: its key has no bits outside, and a number for each field
+pub record IsOfMask (mask : List ℕ) (r : Rule) : Type 0 where
+  pub mask_is : r.matching.mask ≡ mask
+  pub normalised : masked r.matching.key mask ≡ r.matching.key
+  pub fields : length r.matching.key ≡ field_count
+
+-- the keys of rules by their numbers
+abbrev pub Keys : Type 0
+Keys = IndexMap ℕ Key (BuildHasherDefault FoldHasher)
+
+-- each rule's key stands at its number, and nothing at a number that no rule has
+pub record AreKept (keys : Keys) (rs : List Rule) : Type 0 where
+  pub there : (r : Rule) → Among r rs → (k : Key) × (get nat_eq keys r.number ≡ Some k) × (numbers k ≡ r.matching.key)
+  pub only : (n : ℕ) (k : Key) → get nat_eq keys n ≡ Some k → HasNumber n rs
+
+-- the subtable has these rules, which are all of its mask, and no two of one number
+pub record IsSubtableOf (s : Subtable) (rs : List Rule) : Type 0 where
+  pub of_mask : (r : Rule) → Among r rs → IsOfMask (bits s.mask) r
+  pub distinct : AreDistinct rs
+  pub ranked : (key : List ℕ) → ranks_at s.buckets key ≡ ranks_with key rs
+  pub metadata : IsStage s.metadata none (staged metadata_stage (bits s.mask)) (bits s.mask) rs
+  pub ethernet : IsStage s.ethernet (staged metadata_stage (bits s.mask)) (staged ethernet_stage (bits s.mask)) (bits s.mask) rs
+  pub network : IsStage s.network (staged ethernet_stage (bits s.mask)) (staged network_stage (bits s.mask)) (bits s.mask) rs
+  pub kept : AreKept s.keys rs
+
+-- one of its rules has this number
+abbrev pub HasRule : ℕ → Subtable → Type 0
+HasRule number s = (rs : List Rule) × IsSubtableOf s rs × HasNumber number rs
+
+-- none of its rules has it
+abbrev pub HasNoRule : ℕ → Subtable → Type 0
+HasNoRule number s = (rs : List Rule) × IsSubtableOf s rs × HasNoNumber number rs
+
+-- the part of a mask that a stage reaches, with those before it; the last reaches all
+abbrev pub part_through : ℕ → List ℕ → List ℕ
+part_through stage mask = if nat_le stage network_stage then staged stage mask else mask
+
+-- this stage is the first on which no rule agrees with a key
+pub record EndsAt (stage : ℕ) (mask key : List ℕ) (rs : List Rule) : Type 0 where
+  pub none_agrees : some_agrees rs key (part_through stage mask) ≡ false
+  pub before : (s : ℕ) → s < stage → some_agrees rs key (part_through s mask) ≡ true
+
+-- what a probe says of a key
+abbrev pub IsProbe : Probe → List ℕ → List ℕ → List Rule → Type 0
+IsProbe (Ended stage) mask key rs = EndsAt stage mask key rs
+IsProbe (Best rule priority) mask key rs = option_map rank_of (winner rs key) ≡ Some (record { priority = priority; number = rule })

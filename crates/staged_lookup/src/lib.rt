@@ -1,0 +1,55 @@
+//! The rules of one mask, looked up in stages.
+//!
+//! # What?
+//!
+//! A classifier keeps the rules of a table that have the same mask in one *subtable*, by their keys in hash maps, so that
+//! one probe tells which of them a key matches: *tuple space search* (NSDI 2015, section 5.1). Most probes find none, and
+//! a whole mask would be consulted for that. So a subtable is probed in four stages: metadata and registers, Ethernet, IP
+//! and ARP, ports. The first on which no rule agrees with the key, by its bits and those of the stages before, ends the
+//! probe. It is the *staged lookup* of Open vSwitch (section 5.3; "Staged Lookup" in lib/classifier.h).
+//!
+//! # What is promised
+//!
+//! `IsSubtableOf` (`specs/Subtables`) says of a subtable which rules it has, a list of rules of its mask, of which no two
+//! have the same number. Their tables, cookies and actions say nothing here.
+//!
+//! - `new` has none. It takes no memory.
+//! - `insert` adds a rule of the mask, whose number no other has. Where it lacks memory it has the same rules.
+//! - `remove` takes the rule of a number out, which is there. It takes no memory.
+//! - `probe` answers `Ended` with the first stage on which no rule agrees with the key, or `Best` with the number and
+//!   priority of the rule that wins of those that the key matches. So it is `Ended` exactly where none matches. It takes no
+//!   memory.
+//!
+//! # How
+//!
+//! Each stage knows the part of the mask that it reaches with those before, and how many rules have each key under it. A
+//! stage that adds no bits to the one before isn't tested, and one that reaches the whole mask is tested by the map of the
+//! rules themselves, which the last stage would ask anyway. Where all rules have the same key under a part, nothing is
+//! hashed.
+//!
+//! The rules with a key stand in one bucket, of their *ranks*: the priority and the number, which decide who wins. Rules of
+//! one mask and one key differ in their priorities alone. A third map has the rules' keys by their numbers, for removals.
+//!
+//! # What it costs
+//!
+//! A probe takes a hash and a probe of a map for each stage that it tests, and one more for the rules themselves; none of
+//! it grows by the rules. An insertion and a removal take one of each map.
+//!
+//! # What is left to others
+//!
+//! Which bits a lookup consults. What prefixes tell stands between the second and the third stage, and concerns all masks
+//! of a table.
+#![tactic(auto)]
+
+mod buckets;
+mod counts;
+mod probe;
+mod rank;
+mod stage;
+mod subtable;
+
+pub use probe::Probe;
+pub use subtable::Subtable;
+
+#[cfg(test)]
+mod tests;

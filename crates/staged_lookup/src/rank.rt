@@ -1,0 +1,42 @@
+ghost use Rattle.std.specs.Prelude.{◌≡◌};
+ghost use Rattle.staged_lookup.specs.Ranks.{is_outranked, better_rank, best_rank};
+
+/// What decides among rules that match: the greatest priority wins, and of equal ones the least number.
+#[derive(Clone, Copy, Debug)]
+pub(crate) struct Rank {
+    pub(crate) priority: u16,
+    pub(crate) number: u32,
+}
+
+fn is_outranked(rank: Rank, other: Rank) -> bool
+    ensures { result ≡ is_outranked rank other }
+{
+    rank.priority < other.priority
+        || (rank.priority == other.priority && other.number < rank.number)
+}
+
+fn better(rank: Rank, best: Option<Rank>) -> Option<Rank>
+    ensures { result ≡ better_rank rank best }
+{
+    match best {
+        None => Some(rank),
+        Some(other) => {
+            if is_outranked(rank, other) {
+                Some(other)
+            } else {
+                Some(rank)
+            }
+        }
+    }
+}
+
+/// The best of a list.
+pub(crate) fn best_of(ranks: &[Rank]) -> Option<Rank>
+    ensures { result ≡ best_rank ranks.now }
+{
+    let mut best = None;
+    'ranks: for i in (0..ranks.len()).rev() {
+        best = better(ranks[i], best);
+    }
+    best
+}

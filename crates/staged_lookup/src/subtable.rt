@@ -1,0 +1,175 @@
+ghost use Rattle.std.specs.Prelude.{◌≡◌, ◌==◌, ◌<◌, ◌++◌, [], ◌∷◌, ℕ, nat_eq, List, IsTrue, OnOk, OnErr, IfSome, Some, None, if◌then◌else◌};
+ghost use Rattle.indexmap.specs.IndexMap.{spare, get};
+ghost use Rattle.staged_lookup.specs.declared.probe.Probe.TheVariants as probes;
+ghost use Rattle.std.specs.Option.{option_map};
+ghost use Rattle.spec_keys.specs.Keys.{same};
+ghost use Rattle.spec_tables.specs.Rules.{Rule, winner};
+ghost use Rattle.ovs_fields.specs.Packed.{numbers, bits};
+ghost use Rattle.rule_tables.specs.Views.{match_view};
+ghost use Rattle.staged_lookup.specs.Numbered.{without};
+ghost use Rattle.staged_lookup.specs.Ranks.{rank_of};
+
+use crate::buckets::{Buckets, add_rank, take_rank};
+use crate::probe::{ETHERNET, METADATA, NETWORK, PORTS, Probe};
+use crate::rank::{Rank, best_of};
+use crate::stage::{Stage, Step};
+use indexmap::IndexMap;
+use ovs_fields::{Key, Mask, ethernet_part, masked, metadata_part, network_part};
+use rule_tables::Match;
+use std::alloc::{AllocError, Global};
+
+/// The rules of one mask.
+#[derive(Drop)]
+pub struct Subtable {
+    pub(crate) alloc: Global,
+    pub(crate) mask: Mask,
+    /// The keys of the rules by their numbers.
+    pub(crate) keys: IndexMap<u32, Key>,
+    /// The ranks of the rules with each key.
+    pub(crate) buckets: Buckets,
+    pub(crate) metadata: Stage,
+    pub(crate) ethernet: Stage,
+    pub(crate) network: Stage,
+}
+
+impl Subtable {
+    ghost use Rattle.staged_lookup.specs.Subtables.{IsSubtableOf, HasRule, HasNoRule, IsProbe};
+
+    /// No rules of a mask. It takes no memory.
+    pub fn new(alloc: Global, mask: &Mask) -> Subtable
+        ensures mask { bits result.mask ≡ bits mask.now }
+        ensures rules { IsSubtableOf result [] }
+    {
+        let metadata = metadata_part(mask);
+        let ethernet = ethernet_part(mask);
+        let network = network_part(mask);
+        Subtable {
+            alloc,
+            mask: *mask,
+            keys: IndexMap::new(alloc),
+            buckets: IndexMap::new(alloc),
+            metadata: Stage::new(alloc, &Mask::none(), metadata, mask),
+            ethernet: Stage::new(alloc, &metadata, ethernet, mask),
+            network: Stage::new(alloc, &ethernet, network, mask),
+        }
+    }
+
+    /// The mask of the rules.
+    pub fn mask(&self) -> &Mask
+        ensures { result.now ≡ self.now.mask }
+    {
+        &self.mask
+    }
+
+    /// Adds a rule of the mask, whose number none of its rules has. The only error is out of memory, and then it has the
+    /// same rules.
+    pub fn insert(&mut self, number: u32, priority: u16, matching: &Match) -> Result<(), AllocError>
+        requires mask { IsTrue (same (bits matching.now.mask) (bits self.old.mask)) }
+        requires new { HasNoRule number self.old }
+        ensures mask { self.new.mask ≡ self.old.mask }
+        ensures ok { OnOk result
+            ((rs : List Rule) (r : Rule) → IsSubtableOf self.old rs
+            → r.number ≡ number → r.priority ≡ priority → r.matching ≡ match_view matching.now
+            → IsSubtableOf self.new (rs ++ r ∷ [])) }
+        ensures err { OnErr result
+            ((rs : List Rule) → IsSubtableOf self.old rs → IsSubtableOf self.new rs) }
+    {
+        let _ = self.keys.len();
+        self.metadata.reserve()?;
+        self.ethernet.reserve()?;
+        self.network.reserve()?;
+        self.keys.reserve(1)?;
+        add_rank(
+            self.alloc,
+            &mut self.buckets,
+            matching.key,
+            Rank { priority, number },
+        )?;
+        self.metadata.add(&matching.key);
+        self.ethernet.add(&matching.key);
+        self.network.add(&matching.key);
+        keep_key(&mut self.keys, number, matching.key);
+        Ok(())
+    }
+
+    /// Takes the rule of a number out, which is there. It takes no memory.
+    pub fn remove(&mut self, number: u32)
+        requires { HasRule number self.old }
+        ensures mask { self.new.mask ≡ self.old.mask }
+        ensures removed { (rs : List Rule)
+            → IsSubtableOf self.old rs → IsSubtableOf self.new (without number rs) }
+    {
+        let Some(key) = self.keys.swap_remove(&number) else {
+            unreachable!()
+        };
+        take_rank(&mut self.buckets, &key, number);
+        self.metadata.take(&key);
+        self.ethernet.take(&key);
+        self.network.take(&key);
+    }
+
+    /// The first stage on which no rule agrees with a key, or the rule that wins of those that it matches. It takes no
+    /// memory.
+    pub fn probe(&self, key: &Key) -> Probe
+        ensures { (rs : List Rule)
+            → IsSubtableOf self.now rs
+            → IsProbe result (bits self.now.mask) (numbers key.now) rs }
+    {
+        if self.keys.is_empty() {
+            return Probe::Ended { stage: METADATA };
+        }
+        match self.metadata.step(key) {
+            Step::Passes => {}
+            Step::Ends => return Probe::Ended { stage: METADATA },
+            Step::Decides => return decided(self.best(key), METADATA),
+        }
+        match self.ethernet.step(key) {
+            Step::Passes => {}
+            Step::Ends => return Probe::Ended { stage: ETHERNET },
+            Step::Decides => return decided(self.best(key), ETHERNET),
+        }
+        match self.network.step(key) {
+            Step::Passes => {}
+            Step::Ends => return Probe::Ended { stage: NETWORK },
+            Step::Decides => return decided(self.best(key), NETWORK),
+        }
+        decided(self.best(key), PORTS)
+    }
+
+    /// The best rank of the rules that a key matches.
+    fn best(&self, key: &Key) -> Option<Rank>
+        ensures { (rs : List Rule)
+            → IsSubtableOf self.now rs
+            → result ≡ option_map rank_of (winner rs (numbers key.now)) }
+    {
+        match self.buckets.get(&masked(key, &self.mask)) {
+            Some(ranks) => best_of(ranks),
+            None => None,
+        }
+    }
+}
+
+/// Keeps the key of a rule by its number, for which there is room.
+fn keep_key(keys: &mut IndexMap<u32, Key>, number: u32, key: Key)
+    requires { 0 < spare keys.old }
+    ensures { (n : ℕ)
+        → get nat_eq keys.new n ≡ (if number == n then Some key else get nat_eq keys.old n) }
+{
+    let Ok(_) = keys.insert(number, key) else {
+        unreachable!()
+    };
+}
+
+/// What a probe answers that tested all rules at this stage, by the best of those that match.
+fn decided(best: Option<Rank>, stage: u8) -> Probe
+    ensures none { best ≡ None → result ≡ probes.Ended stage }
+    ensures some { IfSome best (λ rank. result ≡ probes.Best rank.number rank.priority) }
+{
+    match best {
+        Some(rank) => Probe::Best {
+            rule: rank.number,
+            priority: rank.priority,
+        },
+        None => Probe::Ended { stage },
+    }
+}
