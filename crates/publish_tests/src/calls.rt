@@ -1,0 +1,31 @@
+//! Calls of an editor and of a seer, with what they are to answer.
+ghost use Rattle.std.specs.Prelude.{◌≡◌};
+
+use run_case::Case;
+use run_edits::RunEdits;
+use std::process::Abort;
+use std::sync::Wait;
+use table_publish::{Editor, PublishFault, Seer};
+
+/// Publishes the next edit, which is to be answered so.
+pub fn publishes<C: Case, R: Wait + Abort>(
+    rt: &R,
+    editor: Editor<C>,
+    edits: &RunEdits<C>,
+    answer: Result<u32, PublishFault>,
+) -> Editor<C>
+    ensures { result.publication ≡ editor.publication }
+{
+    let (editor, published) = editor.publish_next(rt, edits);
+    assert!(rt; published == answer);
+    editor
+}
+
+/// Enters the tables, which are to be of this version, and leaves them.
+pub fn enters<C: Case, R: Wait + Abort>(rt: &R, seer: Seer<C>, version: u32) -> Seer<C>
+    ensures { result.publication ≡ seer.publication }
+{
+    let guard = seer.enter(rt);
+    assert_eq!(rt; guard.tables().version(), version);
+    guard.leave()
+}

@@ -1,0 +1,112 @@
+//! News that a seer learns from behind a lock.
+ghost use Rattle.std.specs.Prelude.{◌≡◌, ◌≤◌, IsTrue, length};
+ghost use Rattle.std.specs.List.{list_all};
+ghost use Rattle.spec_tables.specs.Edits.{has_sound_actions};
+
+use crate::calls::{enters, publishes};
+use crate::edits::{EDITS, edits_of};
+use rule_tables::Edit;
+use run_case::Case;
+use run_edits::RunEdits;
+use std::alloc::Global;
+use std::marker::{Brand, Model, PhantomData};
+use std::process::Abort;
+use std::sync::{Mutex, Wait};
+use std::test::*;
+use table_publish::{Editor, News, Seer, publish};
+
+// Names one publication.
+trait Publication {
+    ghost use Rattle.atomic_table.specs.Seated.{TableId};
+
+    ghost id: { TableId };
+}
+
+impl Publication for Brand {
+    ghost use Rattle.std.specs.Prelude.{[]};
+
+    ghost id = { record { words = 0; slots = 0; views_name = 0; atom = 0; block = 0; offset = 0; slot_names = [] } };
+}
+
+// The newest news of a publication.
+#[derive(Drop)]
+struct Mailbox<C: Case, P: Publication> {
+    news: Option<News<C>>,
+    of: PhantomData<P>,
+}
+
+impl<C: Case, P: Publication> Model for Mailbox<C, P> {
+    ghost use Rattle.std.specs.Prelude.{◌≡◌, IfSome};
+
+    ghost Value = { Unit {0} };
+
+    ghost view = { λ m. tt };
+
+    ghost invariant = { λ m. IfSome m.news (λ n. n.publication ≡ P.id) };
+}
+
+impl<C: Case, P: Publication> Mailbox<C, P> {
+    fn new() -> Mailbox<C, P> {
+        Mailbox {
+            news: None,
+            of: PhantomData,
+        }
+    }
+
+    fn post(&mut self, news: News<C>)
+        requires { news.publication ≡ P.id }
+    {
+        self.news = Some(news);
+    }
+
+    // Has a seer learn the news, if there are any.
+    fn inform(&mut self, seer: Seer<C>) -> Seer<C>
+        requires { seer.publication ≡ P.id }
+        ensures publication { result.publication ≡ seer.publication }
+        ensures version { seer.version ≤ result.version }
+    {
+        match self.news.take() {
+            Some(news) => seer.learn(news),
+            None => seer,
+        }
+    }
+}
+
+#[test]
+fn news_are_learnt_from_behind_a_lock(rt: HostRuntime) -> Result<(), Fail> {
+    let alloc = rt.alloc();
+    let edits = edits_of(alloc)?;
+    in_run::<Brand, _>(&rt, alloc, edits)
+}
+
+fn in_run<C: Case, R: Wait + Abort>(rt: &R, alloc: Global, edits: Vec<Edit>) -> Result<(), Fail>
+    requires edits { edits.items ≡ C.run.edits }
+    requires sound { IsTrue (list_all has_sound_actions C.run.edits) }
+    requires few { length C.run.edits ≡ EDITS }
+{
+    let edits = RunEdits::<C>::new(edits);
+    let (editor, mut seers) = publish(rt, alloc, 1)?;
+    let editor = publishes(rt, editor, &edits, Ok(1));
+    in_publication::<C, Brand, R>(rt, editor, seers.remove(0));
+    Ok(())
+}
+
+fn in_publication<C: Case, P: Publication, R: Wait + Abort>(
+    rt: &R,
+    editor: Editor<C>,
+    seer: Seer<C>,
+)
+    requires editor { editor.publication ≡ P.id }
+    requires seer { seer.publication ≡ P.id }
+{
+    let mut editor = editor;
+    let mailbox: Mutex<Mailbox<C, P>> = Mutex::new(Mailbox::new());
+    let news = editor.tell(rt);
+    assert_eq!(rt; news.version(), 1);
+    mailbox.lock(rt).post(news);
+    assert_eq!(rt; seer.version(), 0);
+    let seer = mailbox.lock(rt).inform(seer);
+    assert_eq!(rt; seer.version(), 1);
+    enters(rt, seer, 1);
+    editor.end(rt);
+}

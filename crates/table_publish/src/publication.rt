@@ -1,0 +1,54 @@
+ghost use Rattle.std.specs.Prelude.{◌≡◌, ◌≤◌, ◌<◌, All, IfOk, IsTrue, vec_len};
+ghost use Rattle.std.specs.List.{list_all};
+ghost use Rattle.spec_tables.specs.Edits.{has_sound_actions};
+
+use crate::editor::Editor;
+use crate::seer::Seer;
+use run_case::Case;
+use std::alloc::{AllocError, Global};
+use std::sync::Wait;
+
+/// The most seers of a publication.
+pub const MOST_SEERS: usize = 64;
+
+/// Publishes the tables of a run: an editor that has published version 0, and so many seers of it.
+///
+/// The only error is out of memory, which is also answered where a seer finds no place among the readers. The handle is
+/// for ending an editor that was made, where there is no memory for its seers.
+pub fn publish<C: Case, R: Wait>(
+    rt: &R,
+    alloc: Global,
+    seers: usize,
+) -> Result<(Editor<C>, Vec<Seer<C>>), AllocError>
+    requires sound { IsTrue (list_all has_sound_actions C.run.edits) }
+    requires seers { (1 ≤ seers) × (seers ≤ MOST_SEERS) }
+    ensures editor { IfOk result (λ p. p.0.version ≡ 0) }
+    ensures seers { IfOk result (λ p. All (λ s. s ≡ p.0) p.1.items) }
+    ensures count { IfOk result (λ p. vec_len p.1 ≡ seers) }
+{
+    let editor = Editor::new(rt, alloc, 2 * seers + 1)?;
+    match seers_of(alloc, &editor, seers) {
+        Ok(seers) => Ok((editor, seers)),
+        Err(error) => {
+            editor.end(rt);
+            Err(error)
+        }
+    }
+}
+
+// So many seers of an editor, which have seen nothing yet.
+fn seers_of<C: Case>(
+    alloc: Global,
+    editor: &Editor<C>,
+    count: usize,
+) -> Result<Vec<Seer<C>>, AllocError>
+    requires { editor.now.version ≡ 0 }
+    ensures seers { IfOk result (λ seers. All (λ s. s ≡ editor.now) seers.items) }
+    ensures count { IfOk result (λ seers. vec_len seers ≡ count) }
+{
+    let mut seers = Vec::with_capacity(alloc, count)?;
+    'seers: for _ in 0..count {
+        seers.push(editor.seer()?)?;
+    }
+    Ok(seers)
+}
