@@ -1,0 +1,10 @@
+use Rattle.std.proofs.Common.{◌≡◌, ◌<◌, ◌≤◌}
+use Rattle.newest_xlate.specs.Versions.{IsWithinBlock}
+use Rattle.upcall_handler.proofs.handling.handle_frame.Given as goal
+
+abbrev pub invariant-tries : goal.invariant-tries
+invariant-tries g l = record {
+  publication : l.seer.publication ≡ l.fn.seer.publication;
+  newer : l.fn.seer.version ≤ l.seer.version;
+  stale : 0 < l.tried → (l.seer.version < l.floor) × IsWithinBlock g.C.Case.run l.floor;
+}

@@ -1,0 +1,118 @@
+//! The handling of one upcall.
+ghost use Rattle.std.specs.Prelude.{◌≡◌, ◌≤◌, IfOk, IfSome, IfNone};
+ghost use Rattle.run_blocks.specs.Places.{HasPort, HasPlace};
+ghost use Rattle.upcall_handler.specs.Settles.{Tells};
+ghost use Rattle.upcall_handler.specs.Upshots.{HasCause};
+
+use crate::settling::settle_lent;
+use crate::upshot::{Settling, Upshot};
+use edge_io::{Gate, Point};
+use newest_xlate::{SpareLists, translate_newest};
+use pmd_board::Board;
+use run_case::{Case, Keyed, RunData};
+use std::alloc::{AllocError, Global};
+use std::sync::{Mutex, Wait};
+use table_publish::Seer;
+use upcalls::Upcall;
+
+/// How often a frame is translated, where each time a newer sweep had begun.
+const TRIES: u32 = 4;
+
+// The frame of an upcall, if the run has it.
+fn frame_of<C: Case>(run: &RunData<C>, upcall: Upcall) -> Option<Keyed<C>>
+    ensures some { IfSome result (λ at. (at.port ≡ upcall.port) × (at.place ≡ upcall.place)) }
+    ensures none { IfNone result
+        (HasPort C.run.ports upcall.port → HasPlace C.run upcall.port upcall.place → ⊥) }
+{
+    run.ports().find(upcall.port)?;
+    if upcall.place == 0 || upcall.place > run.frames(upcall.port) {
+        return None;
+    }
+    Some(run.keyed(upcall.port, upcall.place))
+}
+
+// Translates the key of a frame under the newest version, and settles the frame by that. The gate, if there is one, is
+// told between the two.
+fn settle_newest<C: Case, G: Gate, R: Wait>(
+    rt: &R,
+    alloc: Global,
+    seer: Seer<C>,
+    run: &RunData<C>,
+    board: &Mutex<Board<C>>,
+    at: &Keyed<C>,
+    gate: Option<&G>,
+) -> (Seer<C>, Result<Settling, AllocError>)
+    ensures publication { result.0.publication ≡ seer.publication }
+    ensures newer { seer.version ≤ result.0.version }
+    ensures tells { IfOk result.1 (λ r. Tells C.run result.0.version r) }
+{
+    let (seer, made) = translate_newest(rt, seer, run, &at.key, SpareLists::new(alloc));
+    let made = match made {
+        Ok(made) => made,
+        Err(e) => return (seer, Err(e)),
+    };
+    if let Some(gate) = gate {
+        gate.pass(Point::Upcall {
+            port: at.port,
+            place: at.place,
+        });
+    }
+    let answer = settle_lent(&mut *board.lock(rt), at, made);
+    (seer, answer)
+}
+
+// Handles the upcall of a frame.
+fn handle_frame<C: Case, G: Gate, R: Wait>(
+    rt: &R,
+    alloc: Global,
+    seer: Seer<C>,
+    run: &RunData<C>,
+    board: &Mutex<Board<C>>,
+    at: &Keyed<C>,
+    gate: &G,
+) -> (Seer<C>, Result<Upshot, AllocError>)
+    ensures publication { result.0.publication ≡ seer.publication }
+    ensures newer { seer.version ≤ result.0.version }
+    ensures cause { IfOk result.1 (λ r. HasCause C.run result.0.version r) }
+{
+    let mut seer = seer;
+    let mut floor = 0;
+    'tries: for tried in 0..TRIES {
+        let gate = if tried == 0 { Some(gate) } else { None };
+        let (back, answer) = settle_newest(rt, alloc, seer, run, board, at, gate);
+        seer = back;
+        match answer {
+            Ok(Settling::Done) => return (seer, Ok(Upshot::Done)),
+            Ok(Settling::Gone) => return (seer, Ok(Upshot::Gone)),
+            Ok(Settling::Stale { floor: newest }) => floor = newest,
+            Ok(Settling::Ahead { hi }) => return (seer, Ok(Upshot::Beyond { hi })),
+            Err(e) => return (seer, Err(e)),
+        }
+    }
+    (seer, Ok(Upshot::Left { floor }))
+}
+
+/// Handles one upcall: it translates the frame's key under the newest version that is published, and settles the frame
+/// on its board. Where a newer sweep has begun there, it translates again, four times at most. The board's lock is held
+/// for the settles alone.
+///
+/// The gate is told once, between the first translation and the first settle. The seer is handed back. The only error
+/// is out of memory, and then this call has taken no step of the board.
+pub fn handle_one<C: Case, G: Gate, R: Wait>(
+    rt: &R,
+    alloc: Global,
+    seer: Seer<C>,
+    run: &RunData<C>,
+    board: &Mutex<Board<C>>,
+    upcall: Upcall,
+    gate: &G,
+) -> (Seer<C>, Result<Upshot, AllocError>)
+    ensures publication { result.0.publication ≡ seer.publication }
+    ensures newer { seer.version ≤ result.0.version }
+    ensures cause { IfOk result.1 (λ r. HasCause C.run result.0.version r) }
+{
+    match frame_of(run, upcall) {
+        Some(at) => handle_frame(rt, alloc, seer, run, board, &at, gate),
+        None => (seer, Ok(Upshot::Gone)),
+    }
+}

@@ -1,0 +1,45 @@
+//! Handlers of upcalls: they translate the frames that caches missed, and settle them.
+//!
+//! # What?
+//!
+//! A frame that its port's caches missed waits on its board. A handler takes up its upcall, translates the frame's key
+//! through the tables that are published, and settles the frame on its board: so it is decided, and a megaflow is installed
+//! where there is room. (Open vSwitch's handler threads; Pfaff et al., NSDI 2015.)
+//!
+//! # What is promised
+//!
+//! `handle_one` handles one upcall. It translates outside the board's lock and takes the lock for each settle alone, so
+//! that frames of the port are looked up meanwhile. A sweep may begin in between, and then the board refuses a translation
+//! that is older: the handler translates again, four times at most. It says how it ended:
+//!
+//! - `Done`: the frame is decided.
+//! - `Gone`: the run has no such frame, or the board was of another port, or the frame wasn't pending.
+//! - `Left`: four translations were each older than a sweep. The last sweep's version is newer than all that the seer saw,
+//!   and some block of the run allows it.
+//! - `Beyond`: the translation was newer than the board's block allows, by a version that the seer saw.
+//!
+//! The seer comes back, of the same publication, and has seen no less than before. Where memory is wanting the board is as
+//! it was.
+//!
+//! What a board had and has behind its lock no contract can say. What one settle does with a board that was lent is a
+//! clause of `settle_lent`.
+//!
+//! # How
+//!
+//! Each try is a translation and a settle (`settle_newest`); a try after a stale one enters the tables anew, and so finds
+//! the version at which the sweep began, if that is published by then. What a try tells of versions is a clause of its own
+//! (`Tells`), since it stays true when the lock is free again; what it did with the board (`Settles`) doesn't.
+//!
+//! # What is left to others
+//!
+//! The queue of upcalls, threads, and frames that were left: the end of their block settles them.
+#![tactic(auto)]
+
+mod handling;
+mod settling;
+mod upshot;
+
+pub use handling::handle_one;
+pub use settling::settle_lent;
+pub use upcalls::Upcall;
+pub use upshot::{Settling, Upshot};

@@ -1,0 +1,155 @@
+//! Acts on a board behind its lock, and what they are to answer.
+use crate::meddling::swept_beside;
+use crate::runs::PORT;
+use crate::stage::{Points, SmallQueue, Stage, Told};
+use pmd_board::{BeginFault, Board, EndFault};
+use revalidator::{Swept, sweep_board};
+use run_case::{Case, RunData};
+use rx_worker::{Polled, poll_batch};
+use std::alloc::{AllocError, Global};
+use std::sync::{Mutex, Wait};
+use table_publish::Seer;
+use upcall_handler::{Upshot, handle_one};
+use upcalls::Upcall;
+
+/// An act on a board, with what it is to answer.
+#[derive(Clone, Copy)]
+pub enum Act {
+    /// A batch is polled.
+    Poll(Polled),
+    /// The upcall of a frame is handled on this board.
+    Handle(Upcall, Upshot),
+    /// The board is swept.
+    Sweep(Swept),
+    /// The board is swept while another puts its first entry, and then begins a sweep at the version, if there is one.
+    SweepBeside(Option<u32>, Swept),
+    /// The board is called under its lock.
+    Call(Call),
+    /// The upcalls of the frames from the first to this place, and no others, are in the queue.
+    Queued(u32),
+    /// The gate was told so often.
+    Points(Told),
+}
+
+/// A call of a board, with what it is to answer.
+#[derive(Clone, Copy)]
+pub enum Call {
+    Begin(u32, Result<(), BeginFault>),
+    End(Result<(), EndFault>),
+    /// The last sweep that was ended began at the version.
+    Done(u32),
+    /// The frame of the place is decided, or isn't.
+    Decided(u32, bool),
+}
+
+/// The upcalls of the port's first two frames.
+pub const FIRST: Upcall = Upcall {
+    port: PORT,
+    place: 1,
+};
+
+pub const SECOND: Upcall = Upcall {
+    port: PORT,
+    place: 2,
+};
+
+/// Whether a board answers a call as it says.
+fn is_answered<C: Case>(board: &mut Board<C>, call: Call) -> bool {
+    match call {
+        Call::Begin(version, expected) => board.begin(version) == expected,
+        Call::End(expected) => board.end() == expected,
+        Call::Done(version) => board.done() == version,
+        Call::Decided(place, expected) => board.decision(place).is_some() == expected,
+    }
+}
+
+/// Whether the upcalls of the frames from the first to this place are in a queue, and no others.
+fn has_queued(queue: &SmallQueue, last: u32) -> bool {
+    if queue.upcalls.len() != last as usize {
+        return false;
+    }
+    for (place, upcall) in queue.upcalls.iter().enumerate() {
+        if upcall.port != PORT || upcall.place as usize != place + 1 {
+            return false;
+        }
+    }
+    true
+}
+
+/// Whether an act answers as it says. The seer is handed back.
+fn answers<C: Case, R: Wait>(
+    rt: &R,
+    alloc: Global,
+    seer: Seer<C>,
+    run: &RunData<C>,
+    stage: &mut Stage<C>,
+    act: Act,
+) -> (Seer<C>, Result<bool, AllocError>) {
+    match act {
+        Act::Poll(expected) => {
+            let polled = poll_batch(rt, run, PORT, &stage.board, &mut stage.queue, &stage.points);
+            (seer, Ok(polled == expected))
+        }
+        Act::Handle(upcall, expected) => {
+            let (seer, upshot) = handle_one(
+                rt,
+                alloc,
+                seer,
+                run,
+                &stage.board,
+                upcall,
+                &stage.points,
+            );
+            (seer, upshot.map(|upshot| upshot == expected))
+        }
+        Act::Sweep(expected) => {
+            let (seer, swept) = sweep_board(
+                rt,
+                alloc,
+                seer,
+                run,
+                PORT,
+                &stage.board,
+                &stage.points,
+            );
+            (seer, swept.map(|swept| swept == expected))
+        }
+        Act::SweepBeside(again, expected) => {
+            let (seer, swept) = swept_beside(rt, alloc, seer, run, &stage.board, again);
+            (seer, swept.map(|swept| swept == expected))
+        }
+        Act::Call(call) => (seer, Ok(is_answered(&mut *stage.board.lock(rt), call))),
+        Act::Queued(last) => (seer, Ok(has_queued(&stage.queue, last))),
+        Act::Points(expected) => (seer, Ok(stage.points.told() == expected)),
+    }
+}
+
+/// The place of the first act, from 0, that doesn't answer as it says.
+pub fn first_wrong<C: Case, R: Wait>(
+    rt: &R,
+    alloc: Global,
+    seer: Seer<C>,
+    run: &RunData<C>,
+    board: Board<C>,
+    room: usize,
+    acts: &[Act],
+) -> Result<Option<usize>, AllocError> {
+    let mut stage = Stage {
+        board: Mutex::new(board),
+        queue: SmallQueue {
+            upcalls: Vec::new(alloc),
+            room,
+            refused: 0,
+        },
+        points: Points::new(),
+    };
+    let mut seer = seer;
+    for (place, act) in acts.iter().enumerate() {
+        let (back, right) = answers(rt, alloc, seer, run, &mut stage, *act);
+        seer = back;
+        if !right? {
+            return Ok(Some(place));
+        }
+    }
+    Ok(None)
+}
