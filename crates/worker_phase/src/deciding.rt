@@ -1,0 +1,141 @@
+//! A run, decided by workers.
+ghost use Rattle.std.specs.Prelude.{◌≡◌, ◌≤◌, true, IsTrue, IfOk, MatchBool};
+ghost use Rattle.std.specs.List.{list_all};
+ghost use Rattle.spec_case.specs.Blocks.{hi, last_block};
+ghost use Rattle.spec_tables.specs.Edits.{has_sound_actions};
+ghost use Rattle.spec_words.specs.Words.{most_workers};
+ghost use Rattle.step_runner.specs.Finished.{AreFinished};
+
+use crate::pool::WorkerPool;
+use edge_io::Gate;
+use pmd_board::Board;
+use run_case::{Case, RunData};
+use run_edits::RunEdits;
+use run_tables::Tables;
+use std::alloc::{AllocError, Global};
+use std::sync::Wait;
+use std::thread::Threads;
+use step_runner::{Boards, Finished, close_phase};
+
+// Ends a phase: the tables, which aren't the published ones, are carried to the last version of its block, and the boards
+// finish it. It says whether they fitted; where they didn't, the whole run is finished.
+fn close_block<C: Case>(
+    alloc: Global,
+    run: &RunData<C>,
+    edits: &RunEdits<C>,
+    boards: Vec<Board<C>>,
+    tables: &mut Tables<C>,
+    block: u32,
+    flow_limit: u32,
+) -> Result<(Boards<C>, bool), AllocError>
+    requires sound { IsTrue (list_all has_sound_actions C.run.edits) }
+    requires limit { flow_limit ≡ C.run.flow_limit }
+    requires there { block ≤ last_block C.run }
+    requires version { tables.old ≤ hi C.run block }
+    ensures version { IfOk result (λ r. r.1 ≡ true → tables.new ≡ hi C.run block) }
+    ensures finished { IfOk result (λ r. MatchBool r.1
+        (block ≡ last_block C.run → AreFinished C.run r.0) (AreFinished C.run r.0)) }
+{
+    tables.follow(edits, run.hi(block))?;
+    close_phase(alloc, run, edits, boards, tables, block, flow_limit)
+}
+
+// A phase, and its end.
+fn decide_block<C: Case + Send + Sync, R: Threads + Wait + Sync, G: Gate + Sync>(
+    rt: &R,
+    alloc: Global,
+    run: &RunData<C>,
+    edits: &RunEdits<C>,
+    pool: WorkerPool<C>,
+    boards: Boards<C>,
+    tables: &mut Tables<C>,
+    block: u32,
+    flow_limit: u32,
+    gate: &G,
+) -> Result<(WorkerPool<C>, Boards<C>, bool), AllocError>
+    requires sound { IsTrue (list_all has_sound_actions C.run.edits) }
+    requires limit { flow_limit ≡ C.run.flow_limit }
+    requires there { block ≤ last_block C.run }
+    requires version { tables.old ≤ hi C.run block }
+    ensures version { IfOk result (λ r. r.2 ≡ true → tables.new ≡ hi C.run block) }
+    ensures finished { IfOk result (λ r. MatchBool r.2
+        (block ≡ last_block C.run → AreFinished C.run r.1) (AreFinished C.run r.1)) }
+{
+    let (pool, left) = pool.work(rt, alloc, run, edits, boards.into_vec(), block, gate)?;
+    match close_block(alloc, run, edits, left, tables, block, flow_limit) {
+        Ok((boards, fit)) => Ok((pool, boards, fit)),
+        Err(e) => {
+            pool.end(rt);
+            Err(e)
+        }
+    }
+}
+
+// All phases, until each block is finished.
+fn decide_blocks<C: Case + Send + Sync, R: Threads + Wait + Sync, G: Gate + Sync>(
+    rt: &R,
+    alloc: Global,
+    run: &RunData<C>,
+    edits: &RunEdits<C>,
+    pool: WorkerPool<C>,
+    boards: Boards<C>,
+    flow_limit: u32,
+    gate: &G,
+) -> Result<Boards<C>, AllocError>
+    requires sound { IsTrue (list_all has_sound_actions C.run.edits) }
+    requires limit { flow_limit ≡ C.run.flow_limit }
+    ensures { IfOk result (AreFinished C.run) }
+{
+    let last = run.last_block();
+    let mut pool = pool;
+    let mut boards = boards;
+    let mut tables = Tables::new(alloc);
+    'blocks: for block in 0..last + 1 {
+        let (next, left, fit) = decide_block(
+            rt,
+            alloc,
+            run,
+            edits,
+            pool,
+            boards,
+            &mut tables,
+            block,
+            flow_limit,
+            gate,
+        )?;
+        if !fit {
+            next.end(rt);
+            return Ok(left);
+        }
+        pool = next;
+        boards = left;
+    }
+    pool.end(rt);
+    Ok(boards)
+}
+
+/// Decides all frames of a run by workers, so many of each kind, from 1 to 16: each block is a phase of threads, and the
+/// calling thread ends it.
+///
+/// Which steps were taken is up to the threads; what is so of finished boards is so of these. By its bounds the call may
+/// wait, so that it returns is no part of what is proved.
+///
+/// The only error is out of memory.
+pub fn decide_by_workers<C: Case + Send + Sync, R: Threads + Wait + Sync, G: Gate + Sync>(
+    rt: &R,
+    alloc: Global,
+    run: &RunData<C>,
+    edits: &RunEdits<C>,
+    flow_limit: u32,
+    workers: u8,
+    gate: &G,
+) -> Result<Finished<C>, AllocError>
+    requires sound { IsTrue (list_all has_sound_actions C.run.edits) }
+    requires limit { flow_limit ≡ C.run.flow_limit }
+    requires workers { (1 ≤ workers) × (workers ≤ most_workers) }
+{
+    let boards = Boards::new(alloc, run, flow_limit)?;
+    let pool = WorkerPool::new(rt, alloc, workers)?;
+    let boards = decide_blocks(rt, alloc, run, edits, pool, boards, flow_limit, gate)?;
+    Finished::new(alloc, run, boards)
+}

@@ -1,0 +1,67 @@
+//! The editor of a phase.
+ghost use Rattle.std.specs.Prelude.{◌≡◌};
+
+use crate::mailbox::tell_all;
+use crate::phase::Phase;
+use crate::shared::Shared;
+use run_case::Case;
+use std::marker::PhantomData;
+use std::sync::Wait;
+use std::sync::atomic::Ordering;
+use table_publish::Editor;
+
+/// The editor of the phase's publication.
+pub struct PhaseEditor<C: Case, P: Phase> {
+    pub editor: Editor<C>,
+    pub of: PhantomData<P>,
+    pub ghost publication_is: { editor.publication ≡ P.publication },
+}
+
+// Publishes the edits of the block, in order, and tells each version. It stops where memory is wanting.
+fn publish_block<C: Case, P: Phase, R: Wait>(
+    rt: &R,
+    shared: &Shared<'_, C, P>,
+    editor: Editor<C>,
+) -> Editor<C>
+    requires { editor.publication ≡ P.publication }
+    ensures { result.publication ≡ P.publication }
+{
+    let mut editor = editor;
+    'edits: for _ in rt.forever() {
+        if editor.version() >= shared.last {
+            break;
+        }
+        let (next, published) = editor.publish_next(rt, shared.edits);
+        editor = next;
+        if published.is_err() {
+            break;
+        }
+        tell_all(rt, &mut editor, shared.mailboxes);
+    }
+    editor
+}
+
+// Puts the editor back into its slot, which is empty.
+fn put_back<C: Case, P: Phase, R: Wait>(
+    rt: &R,
+    slot: &mut Option<PhaseEditor<C, P>>,
+    editor: PhaseEditor<C, P>,
+) {
+    match slot.replace(editor) {
+        None => {}
+        Some(PhaseEditor { editor, of: _ }) => editor.end(rt),
+    }
+}
+
+/// Publishes the edits of the block with the editor that lies in a slot, puts it back, and says that it has ended.
+pub fn edit<C: Case, P: Phase, R: Wait>(
+    rt: &R,
+    shared: &Shared<'_, C, P>,
+    slot: &mut Option<PhaseEditor<C, P>>,
+) {
+    if let Some(PhaseEditor { editor, of }) = slot.take() {
+        let editor = publish_block(rt, shared, editor);
+        put_back(rt, slot, PhaseEditor { editor, of });
+    }
+    shared.editing.store(0, Ordering::SeqCst);
+}

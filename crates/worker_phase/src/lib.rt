@@ -1,0 +1,68 @@
+//! A run decided by workers: each block is a phase of threads.
+//!
+//! # What?
+//!
+//! A switch doesn't look frames up, translate them and keep its caches right in one thread. In Open vSwitch PMD threads
+//! poll the ports, handlers translate what no cache knows, revalidators go over the megaflows when flows change, and the
+//! flows change while all of that goes on. Here each block of a run is a *phase* of such threads. With N workers it has N
+//! *receive workers*, N *handlers*, a *revalidator*, and an *editor*, which publishes the edits of the block. They meet in a
+//! lock round each port's board, in a queue of upcalls, and in published tables.
+//!
+//! # What is promised
+//!
+//! `decide_by_workers` answers finished boards (`step_runner`), whatever the threads did and in whichever order: there is
+//! a journal for each port, it is legal and complete, each frame is decided once and within its window, and each rule has
+//! what it is due. Which of the many journals that a run may have these are, nobody promises. The only error is out of
+//! memory.
+//!
+//! By its bounds the call may wait, so that it returns is no part of what is proved; nor is which thread took a step, and
+//! whether frames were decided by workers at all or at the end of their block. That is tested.
+//!
+//! # How
+//!
+//! What comes out of a lock, or from a thread, is known by its type alone. That is enough: a board's journal is legal by its
+//! type, whoever had it, and `close_phase` tests whether the boards are those of the block, and completes it. If they
+//! weren't, it would decide the whole run anew, and no further phase would be started. So no proof follows what the
+//! threads do.
+//!
+//! - A **phase** (`pool`, `working`) takes boards and gives boards. The types of what its workers hand on have a name of the
+//!   phase (`phase`), by which they are of its queue and of its tables. Editor and seers stay from phase to phase (`pool`).
+//! - A **receive worker** (`receiving`) polls its ports in turns, until their block is looked up. The port at place q
+//!   belongs to the worker q mod N.
+//! - A **handler** (`handling`) takes upcalls from the queue. No lock is held from a translation to its use: what has grown
+//!   old meanwhile the board refuses. A handler ends where the queue is empty after all receive workers have ended.
+//! - The **editor** (`editing`) publishes the block's edits in order, and puts news of each version into the mailbox of
+//!   each seer (`mailbox`).
+//! - The **revalidator** (`revalidating`) makes a sweep of each board, and another where a newer version was told meanwhile.
+//! - **Threads** (`scoped`) are started in this order: receive workers, editor, handlers, revalidator. Where none can be
+//!   made, the calling thread does the work at once.
+//! - At the **end** of a phase (`assembling`, `deciding`) the calling thread takes in the passes and pops what is left in the
+//!   queue. It carries tables of its own on by the block's edits, and with these `close_phase` completes the block.
+//!
+//! A look takes a fraction of the time of a translation. Receive workers that know no brake would look the whole block up in
+//! a moment: each frame of a new flow would miss, the queue would be full, and what it refuses is left to the end of the
+//! block, where one thread settles it. So a receive worker yields while the queue has no room for a batch of each worker;
+//! handlers keep up, and later frames of a flow find what the first one had installed. It yields a bounded number of turns
+//! and then goes on, so that nothing depends on a handler. The revalidator waits until the last version of its block is
+//! told, or the editor has ended: then its first sweep is mostly the only one.
+//!
+//! # What is left to others
+//!
+//! What a batch, an upcall and a sweep do to a board (`rx_worker`, `upcall_handler`, `revalidator`), the queue and the
+//! tables that threads share (`upcall_queue`, `table_publish`), and the end of a block (`step_runner`).
+#![tactic(auto)]
+
+mod assembling;
+mod deciding;
+mod editing;
+mod handling;
+mod mailbox;
+mod phase;
+mod pool;
+mod receiving;
+mod revalidating;
+mod scoped;
+mod shared;
+mod working;
+
+pub use deciding::decide_by_workers;

@@ -1,0 +1,110 @@
+//! What the workers of a run keep from phase to phase.
+ghost use Rattle.std.specs.Prelude.{◌≡◌, ◌≤◌, All, IsTrue};
+ghost use Rattle.std.specs.List.{list_all};
+ghost use Rattle.spec_case.specs.Blocks.{last_block};
+ghost use Rattle.spec_tables.specs.Edits.{has_sound_actions};
+ghost use Rattle.spec_words.specs.Words.{most_workers};
+
+use crate::working::work_at_block;
+use edge_io::Gate;
+use pmd_board::Board;
+use run_case::{Case, RunData};
+use run_edits::RunEdits;
+use std::alloc::{AllocError, Global};
+use std::marker::Brand;
+use std::sync::Wait;
+use std::thread::Threads;
+use table_publish::{Editor, Seer, publish};
+use upcall_queue::UpcallQueue;
+
+/// How many upcalls wait at most.
+const QUEUE_CAPACITY: usize = 1024;
+
+/// How many workers of each kind a run has, the editor of its tables, and a seer of them for each handler and for the
+/// revalidator. End it by `end`.
+pub struct WorkerPool<C: Case> {
+    editor: Editor<C>,
+    seers: Vec<Seer<C>>,
+    workers: u8,
+    ghost of_editor: { All (λ s. s.publication ≡ editor.publication) seers.items },
+    ghost few: { (1 ≤ workers) × (workers ≤ most_workers) },
+}
+
+impl<C: Case + Send + Sync> WorkerPool<C> {
+    /// So many workers, and tables without a rule. The only error is out of memory.
+    pub fn new<R: Wait>(rt: &R, alloc: Global, workers: u8) -> Result<WorkerPool<C>, AllocError>
+        requires sound { IsTrue (list_all has_sound_actions C.run.edits) }
+        requires workers { (1 ≤ workers) × (workers ≤ most_workers) }
+    {
+        let (editor, seers) = publish(rt, alloc, workers as usize + 1)?;
+        Ok(WorkerPool {
+            editor,
+            seers,
+            workers,
+        })
+    }
+
+    /// Works at a block of the run in threads. The boards are those that come out of their locks.
+    ///
+    /// The only error is out of memory, and then workers and boards are given up.
+    pub fn work<R: Threads + Wait + Sync, G: Gate + Sync>(
+        self,
+        rt: &R,
+        alloc: Global,
+        run: &RunData<C>,
+        edits: &RunEdits<C>,
+        boards: Vec<Board<C>>,
+        block: u32,
+        gate: &G,
+    ) -> Result<(WorkerPool<C>, Vec<Board<C>>), AllocError>
+        requires { block ≤ last_block C.run }
+    {
+        let WorkerPool {
+            editor,
+            seers,
+            workers,
+        } = self;
+        let (queue, passes) = match UpcallQueue::new(
+            alloc,
+            QUEUE_CAPACITY,
+            2 * workers as usize + 1,
+        ) {
+            Ok(made) => made,
+            Err(e) => {
+                editor.end(rt);
+                return Err(e);
+            }
+        };
+        let (editor, worked) = work_at_block::<C, Brand, R, G>(
+            rt, alloc, run, edits, editor, seers, &queue, passes, boards, block, workers, gate,
+        );
+        // The editor is always back; no contract can say so of what a thread leaves.
+        let Some(editor) = editor else {
+            return Err(AllocError);
+        };
+        match worked {
+            Ok((seers, boards)) => {
+                let pool = WorkerPool {
+                    editor,
+                    seers,
+                    workers,
+                };
+                Ok((pool, boards))
+            }
+            Err(e) => {
+                editor.end(rt);
+                Err(e)
+            }
+        }
+    }
+
+    /// Ends the publishing of tables.
+    pub fn end<R: Wait>(self, rt: &R) {
+        let WorkerPool {
+            editor,
+            seers: _,
+            workers: _,
+        } = self;
+        editor.end(rt);
+    }
+}

@@ -1,0 +1,121 @@
+//! One phase: a block of the run, worked at by threads.
+ghost use Rattle.std.specs.Prelude.{◌≡◌, ◌≤◌, ◌<◌, All, IfOk, IfSome};
+ghost use Rattle.spec_case.specs.Blocks.{last_block};
+
+use crate::assembling::{locked, mailboxes, next_pass, take_in_workers, unlocked, workers_of};
+use crate::editing::PhaseEditor;
+use crate::phase::Phase;
+use crate::scoped::work;
+use crate::shared::Shared;
+use edge_io::Gate;
+use pmd_board::Board;
+use run_case::{Case, RunData};
+use run_edits::RunEdits;
+use std::alloc::{AllocError, Global};
+use std::marker::PhantomData;
+use std::sync::Wait;
+use std::sync::atomic::AtomicU64;
+use std::thread::Threads;
+use table_publish::{Editor, Seer};
+use upcall_queue::{Pass, UpcallQueue};
+
+// Works at a block in threads. It gives the seers back, and the boards as they come out of their locks.
+fn work_in_threads<
+    C: Case + Send + Sync,
+    P: Phase + Send + Sync,
+    R: Threads + Wait + Sync,
+    G: Gate + Sync,
+>(
+    rt: &R,
+    alloc: Global,
+    run: &RunData<C>,
+    edits: &RunEdits<C>,
+    slot: &mut Option<PhaseEditor<C, P>>,
+    seers: Vec<Seer<C>>,
+    queue: &UpcallQueue<C>,
+    passes: Vec<Pass<C>>,
+    boards: Vec<Board<C>>,
+    block: u32,
+    workers: u8,
+    gate: &G,
+) -> Result<(Vec<Seer<C>>, Vec<Board<C>>), AllocError>
+    requires publication { All (λ s. s.publication ≡ P.publication) seers.items }
+    requires queue { queue.now.name ≡ P.queue }
+    requires passes { All (λ p. p.queue ≡ P.queue) passes.items }
+    requires there { block ≤ last_block C.run }
+    requires some { 0 < workers }
+    ensures { IfOk result (λ r. All (λ s. s.publication ≡ P.publication) r.0.items) }
+{
+    let count = workers as usize;
+    let mut passes = passes;
+    let team = workers_of::<C, P>(alloc, seers, &mut passes, count)?;
+    let first = next_pass::<C, P>(&mut passes)?;
+    let locks = locked(alloc, boards)?;
+    let boxes = mailboxes::<C, P>(alloc, count + 1)?;
+    let receiving = AtomicU64::new(workers as u64);
+    let editing = AtomicU64::new(1);
+    let shared = Shared {
+        run,
+        edits,
+        locks: locks.as_slice(),
+        queue,
+        mailboxes: boxes.as_slice(),
+        receiving: &receiving,
+        editing: &editing,
+        workers: count,
+        last: run.hi(block),
+        of: PhantomData,
+    };
+    let team = work(rt, alloc, &shared, slot, team, gate)?;
+    let seers = take_in_workers::<C, P, R>(rt, alloc, queue, first, team)?;
+    let boards = unlocked(alloc, locks)?;
+    Ok((seers, boards))
+}
+
+/// Works at a block in threads, under a name of the publication and the queue. The editor and the seers come back, and the
+/// boards as they come out of their locks.
+///
+/// The only error is out of memory.
+pub fn work_at_block<
+    C: Case + Send + Sync,
+    P: Phase + Send + Sync,
+    R: Threads + Wait + Sync,
+    G: Gate + Sync,
+>(
+    rt: &R,
+    alloc: Global,
+    run: &RunData<C>,
+    edits: &RunEdits<C>,
+    editor: Editor<C>,
+    seers: Vec<Seer<C>>,
+    queue: &UpcallQueue<C>,
+    passes: Vec<Pass<C>>,
+    boards: Vec<Board<C>>,
+    block: u32,
+    workers: u8,
+    gate: &G,
+) -> (
+    Option<Editor<C>>,
+    Result<(Vec<Seer<C>>, Vec<Board<C>>), AllocError>,
+)
+    requires editor { editor.publication ≡ P.publication }
+    requires publication { All (λ s. s.publication ≡ P.publication) seers.items }
+    requires queue { queue.now.name ≡ P.queue }
+    requires passes { All (λ p. p.queue ≡ P.queue) passes.items }
+    requires there { block ≤ last_block C.run }
+    requires some { 0 < workers }
+    ensures editor { IfSome result.0 (λ e. e.publication ≡ editor.publication) }
+    ensures seers { IfOk result.1 (λ r. All (λ s. s.publication ≡ editor.publication) r.0.items) }
+{
+    let mut slot = Some(PhaseEditor {
+        editor,
+        of: PhantomData,
+    });
+    let worked = work_in_threads::<C, P, R, G>(
+        rt, alloc, run, edits, &mut slot, seers, queue, passes, boards, block, workers, gate,
+    );
+    match slot {
+        Some(PhaseEditor { editor, of: _ }) => (Some(editor), worked),
+        None => (None, worked),
+    }
+}
