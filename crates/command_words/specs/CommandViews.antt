@@ -1,5 +1,5 @@
 -- The words of the command line, and what was read of them, as the definitions see it.
-use Rattle.std.specs.Prelude.{ℕ, List, map, Option, String, string_bytes}
+use Rattle.std.specs.Prelude.{◌≡◌, ◌≤◌, ℕ, List, map, Option, Some, None, String, string_bytes}
 use Rattle.std.specs.Option.{option_map}
 use Rattle.std.specs.Borrow.{Bor}
 use Rattle.std.specs.declared.alloc.Global.{Global}
@@ -28,3 +28,14 @@ command_view c = record { workers = c.workers; flow_limit = c.flow_limit; input 
 abbrev pub IfFiles : Input → (List PortWord → Type 0) → Type 0
 IfFiles (Files edits steps out ports) P = P ports.items
 IfFiles (Made number) P = Unit {0}
+
+-- This holds where steps are given.
+abbrev pub IfSteps : Input → Type 0 → Type 0
+IfSteps (Files edits (Some name) out ports) P = P
+IfSteps (Files edits None out ports) P = Unit {0}
+IfSteps (Made number) P = Unit {0}
+
+-- There are not too many workers, and none where steps are given.
+pub record HasWorkers (c : Command) : Type 0 where
+  pub few : c.workers ≤ words.most_workers
+  pub alone : IfSteps c.input (c.workers ≡ 0)

@@ -4,7 +4,7 @@ ghost use Rattle.std.specs.Option.{option_map};
 ghost use Rattle.clap.specs.Words.{rows_of, found_of, first_of, all_of};
 ghost use Rattle.spec_words.specs.Words.{most_workers, most_flows, most_made, number_of, workers_of, flow_limit_of, name_in, name_of, steps_of, ports_of, given_steps, files_in, is_alone, input_by, command_in, command_of};
 ghost use Rattle.command_words.specs.PortViews.{lent, ports_view, ArePorts};
-ghost use Rattle.command_words.specs.CommandViews.{texts, text_view, input_view, command_view, IfFiles};
+ghost use Rattle.command_words.specs.CommandViews.{texts, text_view, input_view, command_view, IfFiles, IfSteps, HasWorkers};
 
 use crate::parsing::{EDITS, FLOW_LIMIT, GENERATE, OUT, STEPS, TRACE, WORKERS, matches};
 use crate::ports::{PortWord, read_port_words};
@@ -45,7 +45,7 @@ pub enum Input<'a> {
 #[derive(Debug, Drop)]
 pub struct Command<'a> {
     /// How many workers there are, at most 16; 0 for a run without threads.
-    pub workers: u32,
+    pub workers: u8,
     /// The most megaflows of a port, from 1 to 65,536.
     pub flow_limit: u32,
     pub input: Input<'a>,
@@ -84,11 +84,12 @@ fn number_of(found: &ArgMatches<'_>, name: &str, most: u128) -> Option<Option<u1
     }
 }
 
-fn workers_of(found: &ArgMatches<'_>) -> Option<u32>
-    ensures { result ≡ workers_of (rows_of (found_of found.now)) }
+fn workers_of(found: &ArgMatches<'_>) -> Option<u8>
+    ensures value { result ≡ workers_of (rows_of (found_of found.now)) }
+    ensures few { IfSome result (λ n. n ≤ most_workers) }
 {
     let number = number_of(found, WORKERS, MOST_WORKERS)?;
-    Some(number.unwrap_or(0) as u32)
+    Some(number.unwrap_or(0) as u8)
 }
 
 fn flow_limit_of(found: &ArgMatches<'_>) -> Option<u32>
@@ -127,8 +128,9 @@ fn steps_of<'a>(found: &ArgMatches<'a>) -> Option<Option<&'a str>>
     }
 }
 
-fn given_steps<'a>(found: &ArgMatches<'a>, workers: u32) -> Option<Option<&'a str>>
-    ensures { option_map text_view result ≡ given_steps workers (rows_of (found_of found.now)) }
+fn given_steps<'a>(found: &ArgMatches<'a>, workers: u8) -> Option<Option<&'a str>>
+    ensures value { option_map text_view result ≡ given_steps workers (rows_of (found_of found.now)) }
+    ensures alone { IfSome result (λ steps. IfSome steps (λ _. workers ≡ 0)) }
 {
     let steps = steps_of(found)?;
     if steps.is_none() || workers == 0 {
@@ -163,11 +165,12 @@ fn ports_of<'a>(
 fn files_in<'a>(
     alloc: Global,
     found: &ArgMatches<'a>,
-    workers: u32,
+    workers: u8,
 ) -> Result<Option<Input<'a>>, AllocError>
     ensures value { IfOk result
         (λ input. option_map input_view input ≡ files_in workers (rows_of (found_of found.now))) }
     ensures ports { IfOk result (λ input. IfSome input (λ i. IfFiles i ArePorts)) }
+    ensures alone { IfOk result (λ input. IfSome input (λ i. IfSteps i (workers ≡ 0))) }
 {
     let Some(edits) = name_of(found, EDITS) else {
         return Ok(None);
@@ -203,13 +206,14 @@ fn is_alone(found: &ArgMatches<'_>) -> bool
 fn input_by<'a>(
     alloc: Global,
     found: &ArgMatches<'a>,
-    workers: u32,
+    workers: u8,
     number: Option<u128>,
 ) -> Result<Option<Input<'a>>, AllocError>
     requires { IfSome number (λ n. n ≤ most_made) }
     ensures value { IfOk result (λ input.
         option_map input_view input ≡ input_by workers (rows_of (found_of found.now)) number) }
     ensures ports { IfOk result (λ input. IfSome input (λ i. IfFiles i ArePorts)) }
+    ensures alone { IfOk result (λ input. IfSome input (λ i. IfSteps i (workers ≡ 0))) }
 {
     match number {
         None => files_in(alloc, found, workers),
@@ -231,6 +235,7 @@ fn command_in<'a>(alloc: Global, found: &ArgMatches<'a>) -> Result<Option<Comman
     ensures value { IfOk result
         (λ said. option_map command_view said ≡ command_in (rows_of (found_of found.now))) }
     ensures ports { IfOk result (λ said. IfSome said (λ c. IfFiles c.input ArePorts)) }
+    ensures workers { IfOk result (λ said. IfSome said HasWorkers) }
 {
     let Some(workers) = workers_of(found) else {
         return Ok(None);
@@ -252,7 +257,7 @@ fn command_in<'a>(alloc: Global, found: &ArgMatches<'a>) -> Result<Option<Comman
 }
 
 /// What the words after the program's name ask for; none where the program doesn't take them. Files have one port at least,
-/// and no two of one number.
+/// and no two of one number; there are no workers where steps are given.
 ///
 /// It takes memory for what `clap` makes of the words, and for the list of ports.
 #[tactic(auto, unfolding(spec_words::specs::Words::command_of))]
@@ -260,6 +265,7 @@ pub fn read_command(alloc: Global, words: &[String]) -> Result<Option<Command<'_
     ensures value { IfOk result
         (λ said. option_map command_view said ≡ command_of (texts words.now)) }
     ensures ports { IfOk result (λ said. IfSome said (λ c. IfFiles c.input ArePorts)) }
+    ensures workers { IfOk result (λ said. IfSome said HasWorkers) }
 {
     match matches(alloc, words)? {
         None => Ok(None),

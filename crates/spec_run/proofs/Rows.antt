@@ -52,7 +52,7 @@ use Rattle.spec_steps.specs.Steps as steps_file
 use Rattle.spec_steps.specs.Steps.{number_in, port_in, step_in, with_words, steps_of}
 use Rattle.spec_run.specs.declared.quantity.Quantity.{Quantity}
 use Rattle.spec_run.specs.declared.quantity.Quantity.TheVariants.{EditsBytes, StepsBytes, Line, Edits, Syncs, Actions, Steps as StepCount, Changes, TraceBytes, Frames}
-use Rattle.spec_run.specs.Verdict.{Files, Refusal, Usage, NotBuilt, Missing, Text, Steps, Trace, Limit, TraceFile, Accepted, command_in, script_in, file_in, traces_after, run_in, verdict, traces_opened, later_opened, sources_opened, files_opened}
+use Rattle.spec_run.specs.Verdict.{Files, Refusal, Usage, Missing, Text, Steps, Trace, Limit, TraceFile, Accepted, command_in, script_in, file_in, traces_after, run_in, verdict, traces_opened, later_opened, sources_opened, files_opened}
 use Rattle.spec_base.specs.Files.{File, IsPrefixOf}
 use Rattle.spec_run.specs.Journals.{scheduled_journals}
 use Rattle.spec_run.specs.Outputs.{out_of, output_of, has_steps, ran_of}
@@ -165,13 +165,15 @@ refused_words_come_first : outcome (codes "e" ∷ []) None None ≡ Err Usage
 unfolding outcome
 refused_words_come_first = refl
 
-what_is_not_built_comes_next : outcome (codes "--workers=1" ∷ said) None None ≡ Err (NotBuilt (codes "workers"))
-unfolding outcome
-what_is_not_built_comes_next = refl
-
 -- a run whose steps file is `a`
 abbrev stepped : List (List ℕ)
 stepped = codes "--steps=a" ∷ codes "e" ∷ codes "o" ∷ codes "1=b" ∷ []
+
+workers_are_taken_but_not_with_steps :
+    (outcome (codes "--workers=1" ∷ said) None None ≡ Err (Missing (codes "e")))
+    × (outcome (codes "--workers=1" ∷ stepped) None None ≡ Err Usage)
+unfolding outcome
+workers_are_taken_but_not_with_steps = (refl, refl)
 
 the_steps_come_after_the_edits_and_before_the_traces :
     (outcome stepped (Some (codes "actions")) None ≡ Err (Text (codes "e") (script.Line 1 (text.Syntax 1))))

@@ -4,7 +4,7 @@ use Rattle.std.specs.List.{find}
 use Rattle.std.specs.Option.{option_map}
 use Rattle.spec_actions.specs.declared.action.DpAction.{DpAction}
 use Rattle.spec_case.specs.Run.{Run, frames_of}
-use Rattle.spec_case.specs.Blocks.{hi, block_of}
+use Rattle.spec_case.specs.Blocks.{lo, hi, block_of}
 use Rattle.spec_board.specs.Steps.{Step}
 use Rattle.spec_board.specs.Journals.{IsLegal, IsComplete}
 use Rattle.spec_board.specs.Decisions.{Decision, decision_of, IsDecided}
@@ -43,12 +43,19 @@ journal_in b = record { port = b.port; steps = b.steps }
 abbrev pub scheduled_journals : Run → List Journal
 scheduled_journals run = map journal_in (scheduled run).boards
 
+-- No block has both edits and frames: the version of each frame is known before it comes.
+abbrev pub HasEditsApart : Run → Type 0
+HasEditsApart run =
+    (port place : ℕ) → 1 ≤ place → place ≤ length (frames_of run port) → lo run (block_of run port place) ≡ hi run (block_of run port place)
+
 -- They are whole. Without workers they are those of the run's schedule, and where no steps are given each frame is decided
--- under the last version of its block; with workers threads make one of the many lists that the run may have.
+-- under the last version of its block; with workers threads make one of the many lists that the run may have. Where edits
+-- are apart from frames, each of these decides by the last version too.
 pub record AreJournals (workers : ℕ) (run : Run) (journals : List Journal) : Type 0 where
   pub are_whole : AreWhole run journals
   pub as_scheduled : workers ≡ 0 → journals ≡ scheduled_journals run
   pub by_last_version : workers ≡ 0 → run.steps ≡ [] → All (IsByLastVersion run) journals
+  pub apart : HasEditsApart run → All (IsByLastVersion run) journals
 
 -- the steps of a port's journal
 abbrev pub steps_in : Option Journal → List Step

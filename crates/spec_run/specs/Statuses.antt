@@ -15,7 +15,7 @@ use Rattle.spec_steps.specs.declared.fault.StepsFault.TheVariants as given
 use Rattle.spec_run.specs.declared.quantity.Quantity.{Quantity}
 use Rattle.spec_run.specs.declared.quantity.Quantity.TheVariants.{Line, Edits, Syncs, Steps as StepCount}
 use Rattle.spec_run.specs.Limits.{limit_of, quantity_name}
-use Rattle.spec_run.specs.Verdict.{Files, Refusal, Usage, NotBuilt, Missing, Text, Steps, Trace, Limit, verdict}
+use Rattle.spec_run.specs.Verdict.{Files, Refusal, Usage, Missing, Text, Steps, Trace, Limit, verdict}
 
 -- all is done
 abbrev pub done_status : ℕ
@@ -48,10 +48,6 @@ limit_status = 7
 abbrev pub out_of_memory_status : ℕ
 out_of_memory_status = 8
 
--- the words ask for something that isn't built
-abbrev pub not_built_status : ℕ
-not_built_status = 9
-
 -- which words the program takes
 abbrev pub usage_text : List ℕ
 usage_text = line_of (codes "usage: megaswitch [--workers N] [--steps FILE] [--flow-limit N] EDITS OUT PORT=FILE...")
@@ -64,9 +60,6 @@ write_fault_text name = line_of (codes "write fault: " ++ name)
 
 abbrev pub out_of_memory_text : List ℕ
 out_of_memory_text = line_of (codes "out of memory")
-
-abbrev pub not_built_text : List ℕ → List ℕ
-not_built_text what = line_of (codes "not built: " ++ what)
 
 -- what is wrong with a trace
 abbrev pub reason : PcapFault → List ℕ
@@ -130,7 +123,6 @@ trace_text name fault = name ++ line_of (codes ": " ++ reason fault)
 -- the status that a refusal ends with; a file that isn't there can't be opened, so that reading fails
 abbrev pub status_of : Refusal → ℕ
 status_of Usage = usage_status
-status_of (NotBuilt what) = not_built_status
 status_of (Missing name) = read_fault_status
 status_of (Text name fault) = text_status
 status_of (Steps name fault) = text_status
@@ -140,7 +132,6 @@ status_of (Limit q) = limit_status
 -- the text that is printed with it
 abbrev pub text_of : Refusal → List ℕ
 text_of Usage = usage_text
-text_of (NotBuilt what) = not_built_text what
 text_of (Missing name) = read_fault_text name
 text_of (Text name fault) = script_text name fault
 text_of (Steps name fault) = steps_text name fault
@@ -151,7 +142,7 @@ text_of (Limit q) = limit_text q
 abbrev pub is_refusal : ℕ → Bool
 is_refusal status =
     (status == usage_status)
-    || ((status == text_status) || ((status == trace_status) || ((status == limit_status) || (status == not_built_status))))
+    || ((status == text_status) || ((status == trace_status) || (status == limit_status)))
 
 -- The verdict is a refusal that ends with this status.
 pub record IsRefused (words : List (List ℕ)) (files : Files) (status : ℕ) : Type 0 where

@@ -26,12 +26,10 @@ use Rattle.spec_run.specs.Limits.{most_edits_bytes, most_steps_bytes, most_chang
 abbrev pub Files : Type 0
 Files = List ℕ → Option (List ℕ)
 
--- Why there is no run: words that the program doesn't take, something by name that they ask for and that isn't built, a
--- file that isn't there, the file of edits by its name and what is wrong with it, the steps file and a trace likewise, or a
--- quantity that is above its limit.
+-- Why there is no run: words that the program doesn't take, a file that isn't there, the file of edits by its name and what
+-- is wrong with it, the steps file and a trace likewise, or a quantity that is above its limit.
 pub data Refusal : Type 0 where
   Usage : Refusal
-  NotBuilt : List ℕ → Refusal
   Missing : List ℕ → Refusal
   Text : List ℕ → ScriptFault → Refusal
   Steps : List ℕ → StepsFault → Refusal
@@ -50,12 +48,8 @@ Err e >>= f = Err e
 
 -- ---- the words
 
--- workers aren't built
-abbrev pub command_built : Command → Result Command Refusal
-command_built c = if c.workers == 0 then Ok c else Err (NotBuilt (codes "workers"))
-
 unfoldable pub command_in : List (List ℕ) → Result Command Refusal
-command_in words = ok_or (command_of words) Usage >>= command_built
+command_in words = ok_or (command_of words) Usage
 
 -- ---- what is read
 

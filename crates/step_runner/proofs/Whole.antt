@@ -12,9 +12,8 @@ use Rattle.spec_board.specs.State.{place_at, is_decided}
 use Rattle.spec_board.specs.Journals.{IsLegal, IsFinished}
 use Rattle.spec_board.specs.Decisions.{Decision}
 use Rattle.spec_board.specs.Schedules as schedules
-use Rattle.spec_board.specs.Scheduled as whole_runs
 use Rattle.spec_board.specs.Texts.{Journal}
-use Rattle.spec_run.specs.Journals.{journal_in, scheduled_journals, IsWhole, AreWhole, IsByLastVersion, AreJournals, steps_of, steps_in}
+use Rattle.spec_run.specs.Journals.{journal_in, IsWhole, AreWhole, IsByLastVersion, steps_of, steps_in}
 use Rattle.run_blocks.specs.Places.{HasPlace}
 use Rattle.pmd_board.specs.BoardView.{BoardView, journal_view, journals_view, state_of}
 use Rattle.step_runner.specs.Progress.{AreDecided}
@@ -57,13 +56,6 @@ by_last_version run b decided place one last =
 
 pub all_by_last_version : (run : Run) (boards : List BoardView) → All (AreDecided run) boards → All (IsByLastVersion run) (journals_view boards)
 all_by_last_version run boards decided = All-map (IsByLastVersion run) journal_view boards (λ k d within. by_last_version run (slice_index_or boards k d) (decided k d within))
-
-pub are_journals : (run : Run) (boards : List BoardView) → AreWhole run (journals_view boards) → map (under_way run) boards ≡ (whole_runs.scheduled run).boards → All (AreDecided run) boards → AreJournals 0 run (journals_view boards)
-are_journals run boards whole scheduled decided = record {
-  are_whole = whole;
-  as_scheduled = λ alone. sym (map-map journal_in (under_way run) boards) ∙ ap (map journal_in) scheduled;
-  by_last_version = λ alone none. all_by_last_version run boards decided;
-}
 
 -- ---- the journal of a port
 

@@ -26,7 +26,6 @@ use Rattle.switch_app.specs.RunViews.{Leaves}
 
 is_turned_down : (f : InputFault) → IsTrue (is_refusal (refusal_status (fault_view f)))
 is_turned_down fault.Usage = refl
-is_turned_down (fault.NotBuilt what) = refl
 is_turned_down (fault.Text name why) = refl
 is_turned_down (fault.Steps name why) = refl
 is_turned_down (fault.Trace name why) = refl

@@ -1,3 +1,3 @@
-pub mod Journals
+pub mod WithWorkers
 pub mod Leaving
 pub mod Ending

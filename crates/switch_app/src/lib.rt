@@ -14,12 +14,13 @@
 //! - Where all is done, the verdict accepts the words and the files, and the files written are exactly those of the
 //!   run: one for each port, in the order of the words, and after them its rules, its megaflows and its journals. Exactly
 //!   its summary is printed. Where a number makes what is read, the summary is all.
-//! - The journals are those of the run's schedule, one for each port: the given steps that are met, and then what is left.
-//!   Each is legal and complete: each step is one that may be taken where it stands and has the result that it has there,
+//! - There is a journal for each port. Without workers they are those of the run's schedule: the given steps that are met, and
+//!   then what is left. With workers they are those that threads made. Each is legal and complete: each step is one that may be taken where it stands and has the result that it has there,
 //!   exactly one of them decides each frame of the port's trace, and at the end a sweep of the last version is completed.
 //! - A frame is decided as a plain priority scan of one version of the tables decides it. That version is in the
 //!   frame's *window*: it is of the frame's block, which lies between two sync points, it is no older than the last
-//!   sweep completed before, and no newer than the newest version that the board had carried.
+//!   sweep completed before, and no newer than the newest version that the board had carried. Where no block has both edits
+//!   and frames, it is the last of the frame's block, with any number of workers.
 //! - The bytes of a port's file are those of the frames that these decisions send there, in the order of time, ingress
 //!   port and place.
 //! - Every other status has its cause. An input is refused as the verdict refuses it. A fault in reading is told only
@@ -39,20 +40,20 @@
 //! Reading comes first and whole (`switch_input`). What was read is one run, and `decide_and_tell` has it as its type
 //! parameter: every board, and every fact of a board, speaks of it.
 //!
-//! Each port's board takes the given steps and is then run to its end, which decides every frame; it keeps as many
-//! megaflows at most as the words say. The tables follow the edits meanwhile (`given_steps`, `step_runner`). Only then
-//! files are written and the summary is printed (`switch_output`), of boards whose type says that they are finished. Why
-//! a run was refused is told without memory (`switch_refusals`).
+//! Without workers each port's board takes the given steps and is then run to its end, which decides every frame; it keeps
+//! as many megaflows at most as the words say. The tables follow the edits meanwhile (`given_steps`, `step_runner`). With
+//! workers threads do all of this (`worker_phase`). Only then files are written and the summary is printed
+//! (`switch_output`), of boards whose type says that they are finished. Why a run was refused is told without memory
+//! (`switch_refusals`).
 //!
-//! `run_switch` is handed a runtime and a gate for workers, which aren't built yet, and a call that may wait need not
-//! return. So all that a run does without workers, which every run is so far, is a call of its own without a runtime
-//! (`run_alone`), with the same clause, and that it returns is a part of its proof.
+//! A call that is handed a runtime may wait, and need not return. What a run does without workers is done by calls that
+//! have none: `read_inputs`, `decide_alone`, `put_out` and `say_refusal`. That each of these returns is a part of its proof.
 //!
 //! # What is left to others
 //!
 //! Words, files and the rules of the edits to `switch_input`, the edits under the run's name to `run_edits`, the run
-//! and its blocks to `run_case`, boards to `given_steps` and `step_runner`, what is written to `switch_output`, texts and
-//! statuses to `switch_refusals`, and all that touches the system to `edge_io`.
+//! and its blocks to `run_case`, boards to `given_steps` and `step_runner`, threads to `worker_phase`, what is written to
+//! `switch_output`, texts and statuses to `switch_refusals`, and all that touches the system to `edge_io`.
 #![tactic(auto)]
 
 mod refusal;

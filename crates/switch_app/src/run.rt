@@ -1,12 +1,16 @@
-ghost use Rattle.std.specs.Prelude.{◌≡◌, ◌⊎◌, IsTrue, IsOk, OnOk, IfErr};
+ghost use Rattle.std.specs.Prelude.{◌≡◌, ◌≤◌, ◌⊎◌, length, IsTrue, IsOk, OnOk, IfOk, IfErr};
+ghost use Rattle.std.specs.List.{list_all};
 ghost use Rattle.spec_base.specs.Counts.{Rose};
+ghost use Rattle.spec_tables.specs.Edits.{has_sound_actions};
+ghost use Rattle.spec_steps.specs.Steps.{most_steps};
 ghost use Rattle.spec_dumps.specs.Summary.{summary};
 ghost use Rattle.spec_run.specs.Verdict.{verdict};
+ghost use Rattle.spec_run.specs.Journals.{AreJournals};
 ghost use Rattle.spec_run.specs.Outputs.{out_of, output_of, has_steps, ran_of};
 ghost use Rattle.spec_run.specs.Statuses.{done_status, read_fault_status, out_of_memory_status, status_of as refusal_status};
 ghost use Rattle.edge_io.specs.declared.outside.InUse.TheVariants.{Nothing};
-ghost use Rattle.command_words.specs.CommandViews.{texts, input_view};
-ghost use Rattle.switch_input.specs.InputViews.{run_view, IsBuilt};
+ghost use Rattle.command_words.specs.CommandViews.{texts, input_view, HasWorkers};
+ghost use Rattle.switch_input.specs.InputViews.{run_view, IsWithinLimits};
 ghost use Rattle.switch_output.specs.declared.refusal.OutputRefusal.TheVariants.{Files};
 ghost use Rattle.switch_output.specs.declared.refusal.WriteRefusal.TheVariants.{OutOfMemory};
 ghost use Rattle.switch_output.specs.Put.{name_in, PutsWhole, CutsOut};
@@ -20,14 +24,17 @@ use edge_io::{Gate, Shelf, Sink};
 use given_steps::run_schedule;
 use run_case::{Case, RunData};
 use run_edits::RunEdits;
+use spec_case::RunStep;
 use spec_dumps::Ran;
-use std::alloc::Global;
+use std::alloc::{AllocError, Global};
 use std::marker::Brand;
 use std::sync::Wait;
 use std::thread::Threads;
-use switch_input::{Input, Inputs, read_inputs};
+use step_runner::Finished;
+use switch_input::{Command, Input, Inputs, read_inputs};
 use switch_output::{OutputRefusal, put_out};
 use switch_refusals::DONE;
+use worker_phase::decide_by_workers;
 
 // The begin of the names of what is written, where something is.
 fn out_of<'a>(input: &Input<'a>) -> Option<&'a str>
@@ -49,16 +56,72 @@ fn told_of(input: &Input<'_>, ran: Ran) -> Option<Ran>
     }
 }
 
+// Decides all frames of a run without workers, as its schedule has it. Its bounds leave nothing to wait for, so that it
+// returns is part of its proof.
+fn decide_alone<C: Case>(
+    alloc: Global,
+    run: &RunData<C>,
+    edits: &RunEdits<C>,
+    command: &Command<'_>,
+    steps: &[RunStep],
+) -> Result<(Finished<C>, Option<Ran>), AllocError>
+    requires sound { IsTrue (list_all has_sound_actions C.run.edits) }
+    requires limit { command.now.flow_limit ≡ C.run.flow_limit }
+    requires steps { steps.now ≡ C.run.steps }
+    requires few { length steps.now ≤ most_steps }
+    ensures journals { IfOk result (λ r. AreJournals 0 C.run r.0) }
+    ensures told { IfOk result (λ r. r.1 ≡ ran_of (has_steps (input_view command.now.input)) C.run) }
+{
+    let (finished, ran) = run_schedule(alloc, run, edits, command.flow_limit, steps)?;
+    Ok((finished, told_of(&command.input, ran)))
+}
+
+// Decides all frames of a run: in threads where there are workers, and else as its schedule has it.
+fn decide<C: Case + Send + Sync, R: Threads + Wait + Sync, G: Gate + Sync>(
+    rt: &R,
+    alloc: Global,
+    run: &RunData<C>,
+    edits: &RunEdits<C>,
+    command: &Command<'_>,
+    steps: &[RunStep],
+    gate: &G,
+) -> Result<(Finished<C>, Option<Ran>), AllocError>
+    requires sound { IsTrue (list_all has_sound_actions C.run.edits) }
+    requires limit { command.now.flow_limit ≡ C.run.flow_limit }
+    requires steps { steps.now ≡ C.run.steps }
+    requires few { length steps.now ≤ most_steps }
+    requires workers { HasWorkers command.now }
+    ensures journals { IfOk result (λ r. AreJournals command.now.workers C.run r.0) }
+    ensures told { IfOk result (λ r. r.1 ≡ ran_of (has_steps (input_view command.now.input)) C.run) }
+{
+    if command.workers == 0 {
+        return decide_alone(alloc, run, edits, command, steps);
+    }
+    let limit = command.flow_limit;
+    let finished = decide_by_workers(rt, alloc, run, edits, limit, command.workers, gate)?;
+    // The journals are whole.
+    let _ = finished.boards();
+    Ok((finished, None))
+}
+
 // Decides all frames of a run, and then tells what became of it: writes its files, where it has some, and prints its summary.
-fn decide_and_tell<C: Case, S: Shelf, K: Sink>(
+fn decide_and_tell<
+    C: Case + Send + Sync,
+    R: Threads + Wait + Sync,
+    S: Shelf,
+    K: Sink,
+    G: Gate + Sync,
+>(
+    rt: &R,
     alloc: Global,
     shelf: &mut S,
     say: &mut K,
     inputs: Inputs<'_>,
+    gate: &G,
 ) -> Result<(), OutputRefusal>
     requires in_use { S.in_use shelf.old ≡ Nothing }
     requires run { C.run ≡ run_view inputs }
-    requires built { IsBuilt inputs }
+    requires within { IsWithinLimits inputs }
     ensures ok { let input = input_view inputs.entry.command.input in
         OnOk result (ByJournals inputs.entry.command.workers C.run (λ journals.
         PutsWhole S.Shelf K.Sink shelf.old shelf.new say.old say.new
@@ -83,17 +146,18 @@ fn decide_and_tell<C: Case, S: Shelf, K: Sink>(
     } = inputs;
     let edits = RunEdits::<C>::new(script.edits);
     let run = RunData::<C>::new(alloc, ports, edits.count(), script.syncs, traces)?;
-    let (finished, ran) = run_schedule(alloc, &run, &edits, command.flow_limit, &steps)?;
+    let (finished, told) = decide(rt, alloc, &run, &edits, &command, &steps, gate)?;
     let out = out_of(&command.input);
-    let told = told_of(&command.input, ran);
     put_out(alloc, shelf, say, out, &run, &rules, &finished, told)
 }
 
-fn run<'a, S: Shelf, K: Sink>(
+fn run<'a, R: Threads + Wait + Sync, S: Shelf, K: Sink, G: Gate + Sync>(
+    rt: &R,
     alloc: Global,
     words: &'a [String],
     shelf: &mut S,
     say: &mut K,
+    gate: &G,
 ) -> Result<(), Refusal<'a>>
     requires { S.in_use shelf.old ≡ Nothing }
     ensures ok { OnOk result
@@ -102,23 +166,23 @@ fn run<'a, S: Shelf, K: Sink>(
         (Leaves S.Shelf K.Sink (texts words.now) shelf.old shelf.new say.old say.new) }
 {
     let inputs = read_inputs(alloc, words, shelf)?;
-    decide_and_tell::<Brand, S, K>(alloc, shelf, say, inputs)?;
+    decide_and_tell::<Brand, R, S, K, G>(rt, alloc, shelf, say, inputs, gate)?;
     Ok(())
 }
 
-/// Runs the switch without workers, in the calling thread alone. Its bounds leave nothing to wait for, so that it returns is
-/// part of its proof.
-pub(crate) fn run_alone<S: Shelf, K: Sink>(
+fn end<R: Threads + Wait + Sync, S: Shelf, K: Sink, G: Gate + Sync>(
+    rt: &R,
     alloc: Global,
     words: &[String],
     shelf: &mut S,
     say: &mut K,
+    gate: &G,
 ) -> u8
     requires { S.in_use shelf.old ≡ Nothing }
     ensures { let words = texts words.now in
         Ends S.Shelf K.Sink words shelf.old shelf.new say.old say.new result }
 {
-    match run(alloc, words, shelf, say) {
+    match run(rt, alloc, words, shelf, say, gate) {
         Ok(()) => DONE,
         Err(refusal) => {
             say_refusal(say, &refusal);
@@ -133,8 +197,8 @@ pub(crate) fn run_alone<S: Shelf, K: Sink>(
 /// The words are those after the program's name:
 /// `[--workers N] [--steps FILE] [--flow-limit N] EDITS OUT PORT=FILE..`, or `--generate N [--workers N] [--flow-limit N]`.
 /// Each port may have a trace; where nothing stands after its `=` no frame comes in there. A port keeps at most as many
-/// megaflows as the flow limit says, from 1 to 65,536, and 8,192 where none is given. Other words end with status 2;
-/// workers above 0 aren't built yet and end with status 9.
+/// megaflows as the flow limit says, from 1 to 65,536, and 8,192 where none is given. With 1 to 16 workers threads decide
+/// the frames, beside a steps file never. Other words end with status 2.
 ///
 /// EDITS has a line for each edit of the tables, as ovs-ofctl(8) writes flows: a word (`add` where it is left out,
 /// `modify`, `modify_strict`, `delete`, `delete_strict`), a match of fields with values and masks, a table, a priority and
@@ -155,8 +219,8 @@ pub(crate) fn run_alone<S: Shelf, K: Sink>(
 /// The answer is the exit status; `spec_run` has the statuses, and the text that is printed with each. Of a text a prefix
 /// may stand, where the sink fails or is out of memory.
 ///
-/// The runtime and the gate are for workers, which aren't built yet. By its bounds the call may wait, so that it returns
-/// is no part of what is proved of it; it is proved of all that it does without workers.
+/// The runtime and the gate are for workers. By its bounds the call may wait, so that it returns is no part of what is
+/// proved of it. It is proved of each call that it makes without workers: of reading, of deciding, of writing and printing.
 pub fn run_switch<R: Threads + Wait + Sync, S: Shelf, K: Sink, G: Gate + Sync>(
     rt: &R,
     alloc: Global,
@@ -182,7 +246,5 @@ pub fn run_switch<R: Threads + Wait + Sync, S: Shelf, K: Sink, G: Gate + Sync>(
         → ¬ Rose (K.faults say.old) (K.faults say.new)
         → (result ≡ done_status) ⊎ (result ≡ out_of_memory_status) }
 {
-    let _ = rt;
-    let _ = gate;
-    run_alone(alloc, words, shelf, say)
+    end(rt, alloc, words, shelf, say, gate)
 }

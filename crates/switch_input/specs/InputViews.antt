@@ -12,7 +12,7 @@ use Rattle.spec_tables.specs.Edits.{has_sound_actions}
 use Rattle.rule_tables.specs.History.{history_of}
 use Rattle.edit_script.specs.ScriptViews.{script_view}
 use Rattle.command_words.specs.declared.reading.Command.{Command}
-use Rattle.command_words.specs.CommandViews.{input_view, command_view}
+use Rattle.command_words.specs.CommandViews.{input_view, command_view, HasWorkers}
 use Rattle.switch_input.specs.declared.inputs.Inputs.{Inputs}
 use Rattle.switch_input.specs.declared.reading.TraceFile.{TraceFile}
 
@@ -31,8 +31,9 @@ run_view i = verdicts.run_of i.command.flow_limit (sources_for i.command) (scrip
 abbrev pub accepted_view : Inputs → verdicts.Accepted
 accepted_view i = record { command = command_view i.command; run = run_view i }
 
--- What was read has the form that is built, and is within its limits. The rules are those that the edits make.
-pub record IsBuilt (i : Inputs) : Type 0 where
+-- What was read is within its limits. The rules are those that the edits make.
+pub record IsWithinLimits (i : Inputs) : Type 0 where
+  pub workers : HasWorkers i.command
   pub ports : i.ports ≡ verdicts.ports_said (sources_for i.command).ports
   pub trace_each : length i.traces.items ≡ length i.ports
   pub few_frames : All (λ (t : Capture). length t.frames ≤ most_frames) i.traces.items

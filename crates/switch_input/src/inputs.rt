@@ -4,8 +4,8 @@ ghost use Rattle.edge_io.specs.ReadAll.{OnlyRead};
 ghost use Rattle.spec_base.specs.Files.{lookup_or_empty};
 ghost use Rattle.spec_run.specs.Verdict.{verdict, run_in, files_for, made_list, sources_opened, opened_for, files_opened};
 ghost use Rattle.command_words.specs.PortViews.{ArePorts};
-ghost use Rattle.command_words.specs.CommandViews.{texts, input_view, IfFiles};
-ghost use Rattle.switch_input.specs.InputViews.{sources_for, run_view, accepted_view, IsBuilt};
+ghost use Rattle.command_words.specs.CommandViews.{texts, input_view, IfFiles, HasWorkers};
+ghost use Rattle.switch_input.specs.InputViews.{sources_for, run_view, accepted_view, IsWithinLimits};
 ghost use Rattle.switch_refusals.specs.Refused.{IfReadFault, Explains, HasReadCause, OpensInTurn};
 
 use crate::command::read_command;
@@ -48,11 +48,12 @@ fn read_sources<'a, S: Shelf>(
 ) -> Result<Inputs<'a>, InputRefusal<'a>>
     requires in_use { S.in_use shelf.old ≡ Nothing }
     requires ports { IfFiles command.input ArePorts }
+    requires workers { HasWorkers command }
     ensures in_use { OnOk result (S.in_use shelf.new ≡ Nothing) }
     ensures command { IfOk result (λ inputs. inputs.command ≡ command.entry) }
     ensures ok { let sources = sources_for command.entry in IsTrue S.tells → IfOk result
         (λ inputs. run_in (S.told shelf.old).holds command.entry.flow_limit sources ≡ Ok (run_view inputs)) }
-    ensures built { IfOk result IsBuilt }
+    ensures within { IfOk result IsWithinLimits }
     ensures err { let sources = sources_for command.entry in IsTrue S.tells → IfErr result
         (Explains (run_in (S.told shelf.old).holds command.entry.flow_limit sources)) }
     ensures named { IsTrue S.tells → IfErr result (λ r. IfReadFault r (λ n. (S.told shelf.new).last ≡ n)) }
@@ -83,11 +84,12 @@ fn read_made<'a>(
     number: u32,
     command: Command<'a>,
 ) -> Result<Inputs<'a>, InputRefusal<'a>>
-    requires { command.input ≡ Input.Made number }
+    requires made { command.input ≡ Input.Made number }
+    requires workers { HasWorkers command }
     ensures command { IfOk result (λ inputs. inputs.command ≡ command.entry) }
     ensures ok { let files = lookup_or_empty (made_list number) in IfOk result
         (λ inputs. run_in files command.entry.flow_limit (sources_for command.entry) ≡ Ok (run_view inputs)) }
-    ensures built { IfOk result IsBuilt }
+    ensures within { IfOk result IsWithinLimits }
     ensures err { let files = lookup_or_empty (made_list number) in IfErr result
         (Explains (run_in files command.entry.flow_limit (sources_for command.entry))) }
     ensures no_fault { IfErr result (λ r. IfReadFault r (λ _. ⊥)) }
@@ -104,12 +106,13 @@ fn read_run<'a, S: Shelf>(
 ) -> Result<Inputs<'a>, InputRefusal<'a>>
     requires in_use { S.in_use shelf.old ≡ Nothing }
     requires ports { IfFiles command.input ArePorts }
+    requires workers { HasWorkers command }
     ensures in_use { OnOk result (S.in_use shelf.new ≡ Nothing) }
     ensures command { IfOk result (λ inputs. inputs.command ≡ command.entry) }
     ensures ok { let files = files_for (S.told shelf.old).holds (input_view command.entry.input) in
         IsTrue S.tells → IfOk result
         (λ inputs. run_in files command.entry.flow_limit (sources_for command.entry) ≡ Ok (run_view inputs)) }
-    ensures built { IfOk result IsBuilt }
+    ensures within { IfOk result IsWithinLimits }
     ensures err { let files = files_for (S.told shelf.old).holds (input_view command.entry.input) in
         IsTrue S.tells → IfErr result
         (Explains (run_in files command.entry.flow_limit (sources_for command.entry))) }
@@ -139,7 +142,7 @@ pub fn read_inputs<'a, S: Shelf>(
     // What is read is what the verdict accepts.
     ensures accepted { IsTrue S.tells
         → IfOk result (λ inputs. verdict (texts words.now) (S.told shelf.old).holds ≡ Ok (accepted_view inputs)) }
-    ensures built { IfOk result IsBuilt }
+    ensures within { IfOk result IsWithinLimits }
     ensures without_fault { OnOk result (S.counts shelf.new ≡ S.counts shelf.old) }
 
     // A refusal of an input is the verdict's, and a fault is told of the file that was last asked for.

@@ -12,10 +12,10 @@
 //! Where the shelf tells its bytes, `read_inputs` answers just that.
 //!
 //! - What was read is what the verdict accepts: the command, the edits and the sync points, the given steps, and a trace for
-//!   each port. All of it has the form that is built, and is within the limits. The actions of the edits are sound.
+//!   each port. All of it is within the limits. The actions of the edits are sound.
 //! - The rules of all versions that the edits make are handed on with it.
-//! - An input is refused only as the verdict refuses it: words that the program doesn't take, what they ask for and isn't
-//!   built by its name, the edits, the steps or a trace by the name and the first fault, or a quantity as above its limit.
+//! - An input is refused only as the verdict refuses it: words that the program doesn't take, the edits, the steps or a trace
+//!   by the name and the first fault, or a quantity as above its limit.
 //! - The files that are opened are those that the verdict opens, each once and in its order: all of them, or those up to the
 //!   one at which reading failed, or, out of memory, a prefix. So none is opened after one that is refused.
 //! - Where a number makes what is read, the shelf isn't touched.

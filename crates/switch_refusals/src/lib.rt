@@ -31,6 +31,5 @@ pub use limits::{MOST_CHANGES, MOST_EDITS_BYTES, MOST_FRAMES, MOST_STEPS_BYTES, 
 pub use refusal::{InputFault, InputRefusal};
 pub use say::{say_input_refusal, say_out_of_memory, say_write_fault};
 pub use status::{
-    DONE, LIMIT, NOT_BUILT, OUT_OF_MEMORY, READ_FAULT, TEXT, TRACE, USAGE, WRITE_FAULT,
-    input_status,
+    DONE, LIMIT, OUT_OF_MEMORY, READ_FAULT, TEXT, TRACE, USAGE, WRITE_FAULT, input_status,
 };

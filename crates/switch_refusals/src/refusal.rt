@@ -12,8 +12,6 @@ use std::alloc::{AllocError, AllocFailed};
 pub enum InputFault<'a> {
     /// The words are none that the program takes.
     Usage,
-    /// The words ask for something, by this name, that isn't built.
-    NotBuilt { what: &'a str },
     /// The file of edits has a line that is wrong.
     Text { name: &'a str, fault: ScriptFault },
     /// The steps file has a line that is wrong.

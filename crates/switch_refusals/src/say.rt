@@ -192,7 +192,6 @@ fn say_fault<K: Sink>(say: &mut K, fault: &InputFault<'_>)
 {
     match fault {
         InputFault::Usage => say_usage(say),
-        InputFault::NotBuilt { what } => say_pieces(say, &["not built: ", what, "\n"]),
         InputFault::Text { name, fault } => say_script(say, name, *fault),
         InputFault::Steps { name, fault } => say_steps(say, name, *fault),
         InputFault::Trace { name, fault } => say_trace(say, name, *fault),

@@ -28,16 +28,12 @@ pub const LIMIT: u8 = 7;
 /// Memory ran out.
 pub const OUT_OF_MEMORY: u8 = 8;
 
-/// Something that the words ask for isn't built.
-pub const NOT_BUILT: u8 = 9;
-
 /// The exit status where the words and the files were not read.
 pub fn input_status(refusal: &InputRefusal<'_>) -> u8
     ensures { result ≡ input_status refusal.now }
 {
     match refusal {
         InputRefusal::Input(InputFault::Usage) => USAGE,
-        InputRefusal::Input(InputFault::NotBuilt { .. }) => NOT_BUILT,
         InputRefusal::Input(InputFault::Text { .. } | InputFault::Steps { .. }) => TEXT,
         InputRefusal::Input(InputFault::Trace { .. }) => TRACE,
         InputRefusal::Input(InputFault::Limit(_)) => LIMIT,

@@ -16,7 +16,7 @@ struct Refused {
     text: &'static str,
 }
 
-static REFUSED: [Refused; 12] = [
+static REFUSED: [Refused; 10] = [
     Refused {
         shows: "no words",
         words: &[],
@@ -76,18 +76,6 @@ static REFUSED: [Refused; 12] = [
         words: &["--generate", "07"],
         status: 2,
         text: USAGE,
-    },
-    Refused {
-        shows: "a worker",
-        words: &["--workers", "1", "edits", "out", "1="],
-        status: 9,
-        text: "not built: workers",
-    },
-    Refused {
-        shows: "a worker for what a number makes",
-        words: &["--generate", "7", "--workers=1"],
-        status: 9,
-        text: "not built: workers",
     },
 ];
 

@@ -1,6 +1,6 @@
 //! A run, carried out several times.
 ghost use Rattle.std.specs.Prelude.{◌≡◌};
-ghost use Rattle.switch_input.specs.InputViews.{run_view, IsBuilt};
+ghost use Rattle.switch_input.specs.InputViews.{run_view, IsWithinLimits};
 
 use crate::counts::Counts;
 use crate::words::Command;
@@ -19,7 +19,7 @@ fn counts_in_rounds<C: Case>(
     rounds: u32,
 ) -> Result<Counts, AllocError>
     requires run { C.run ≡ record (run_view inputs) { flow_limit = flow_limit } }
-    requires built { IsBuilt inputs }
+    requires within { IsWithinLimits inputs }
 {
     let Inputs {
         ports,
@@ -42,7 +42,7 @@ fn counts_in_rounds<C: Case>(
 
 /// What becomes of the frames of a command, in all of its rounds together.
 pub fn counts_of(alloc: Global, command: Command<'_>) -> Result<Counts, AllocError>
-    requires { IsBuilt command.inputs }
+    requires { IsWithinLimits command.inputs }
 {
     counts_in_rounds::<Brand>(alloc, command.inputs, command.flow_limit, command.rounds)
 }

@@ -1,6 +1,6 @@
 //! The words of the command line, and the files that they name.
 ghost use Rattle.std.specs.Prelude.{IfOk};
-ghost use Rattle.switch_input.specs.InputViews.{IsBuilt};
+ghost use Rattle.switch_input.specs.InputViews.{IsWithinLimits};
 
 use anyhow::{Result, anyhow};
 use edge_real::RealShelf;
@@ -19,7 +19,7 @@ pub struct Command<'a> {
 
 /// What the words of the switch and their files have.
 fn inputs_of<'a>(rt: &HostRuntime, words: &'a [String]) -> Result<Inputs<'a>>
-    ensures { IfOk result IsBuilt }
+    ensures { IfOk result IsWithinLimits }
 {
     match read_inputs(rt.alloc(), words, &mut RealShelf::new(rt)) {
         Ok(inputs) => Ok(inputs),
@@ -29,7 +29,7 @@ fn inputs_of<'a>(rt: &HostRuntime, words: &'a [String]) -> Result<Inputs<'a>>
 
 /// Reads the words of the command line and the files that they name, as the switch does.
 pub fn read_command<'a>(rt: &HostRuntime, words: &'a [String]) -> Result<Command<'a>>
-    ensures { IfOk result (λ command. IsBuilt command.inputs) }
+    ensures { IfOk result (λ command. IsWithinLimits command.inputs) }
 {
     let (words, rounds) = split_rounds(words)?;
     let inputs = inputs_of(rt, words)?;

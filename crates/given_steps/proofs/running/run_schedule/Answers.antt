@@ -4,6 +4,7 @@ use Rattle.spec_case.specs.Run.{Run}
 use Rattle.spec_board.specs.Schedules as schedules
 use Rattle.pmd_board.specs.BoardView.{BoardView}
 use Rattle.step_runner.specs.Scheduled.{schedule_of}
+use Rattle.run_laws.proofs.Alike.{all_by_last}
 use Rattle.given_steps.proofs.WholeRuns.{as_scheduled, unmet_is, left_new}
 use Rattle.given_steps.proofs.running.run_schedule.Goals as goal
 
@@ -22,6 +23,7 @@ returns-clause-journals g c =
       are_whole = c.boards.ensures.whole;
       as_scheduled = λ alone. done.scheduled ∙ as_scheduled run steps old new boards left begins c.requires.steps after.newest after.boards;
       by_last_version = λ alone none. done.by_last_version (left_new run steps old new boards left begins c.requires.steps none after.boards c.as_slice.ensures.are);
+      apart = λ apart. all_by_last run c.in_ok-done.done apart c.boards.ensures.whole;
     }
 
 pub returns-clause-unmet : goal.returns-clause-unmet

@@ -4,8 +4,8 @@ use Rattle.switch_app.proofs.run.run_switch.Goals as goal
 
 pub returns-clause-refusal : goal.returns-clause-refusal
 returns-clause-refusal g c = λ t.
-    refused_ends g.S.Shelf g.K.Sink (texts c.args.words.now) c.args.shelf.now c.run_alone.new.shelf c.args.say.now c.run_alone.new.say c.run_alone.result t c.run_alone.ensures
+    refused_ends g.S.Shelf g.K.Sink (texts c.args.words.now) c.args.shelf.now c.end.new.shelf c.args.say.now c.end.new.say c.end.result t c.end.ensures
 
 pub returns-clause-accepted : goal.returns-clause-accepted
 returns-clause-accepted g c = λ t.
-    accepted_ends g.S.Shelf g.K.Sink (texts c.args.words.now) c.args.shelf.now c.run_alone.new.shelf c.args.say.now c.run_alone.new.say c.run_alone.result t c.run_alone.ensures
+    accepted_ends g.S.Shelf g.K.Sink (texts c.args.words.now) c.args.shelf.now c.end.new.shelf c.args.say.now c.end.new.say c.end.result t c.end.ensures

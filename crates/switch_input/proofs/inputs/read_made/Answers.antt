@@ -4,7 +4,7 @@ use Rattle.switch_input.proofs.Untouched.{never_failed}
 use Rattle.switch_input.proofs.inputs.read_made.Goals as goal
 
 pub read_sources-requires-clause-ports : goal.read_sources-requires-clause-ports
-read_sources-requires-clause-ports c = rw c.requires tt
+read_sources-requires-clause-ports c = rw c.requires.made tt
 
 pub returns-clause-ok : goal.returns-clause-ok
 returns-clause-ok c = rw (ap (λ (t : Told). t.holds) c.in_ok-shelf.ensures.told) at c.read_sources.ensures.ok refl

@@ -86,9 +86,10 @@ returns-clause-ok g c = λ t.
     c.in_ok-steps.steps.items (rw (c.as_slice.ensures.list, c.in_ok-ports.ensures, same) at c.in_ok-steps.ensures.ok t)
     _ c.sources_of-sources.ensures.sources c.in_ok-traces.traces.items (rw (later, same) at c.in_ok-traces.ensures.ok t)
 
-pub returns-clause-built : goal.returns-clause-built
-returns-clause-built g c =
+pub returns-clause-within : goal.returns-clause-within
+returns-clause-within g c =
     let script = c.in_ok-edits.ensures in record {
+      workers = c.requires.workers;
       ports = c.in_ok-ports.ensures ∙ ap (λ (s : Sources). ports_said s.ports) c.sources_of-sources.ensures.sources;
       trace_each = c.in_ok-traces.ensures.one_each ∙ sym (ap length c.in_ok-ports.ensures ∙ count_said c.sources_of-sources.result.ports.now);
       few_frames = c.in_ok-traces.ensures.few_frames;

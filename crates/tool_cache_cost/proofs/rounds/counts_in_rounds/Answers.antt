@@ -7,7 +7,7 @@ use Rattle.tool_cache_cost.proofs.rounds.counts_in_rounds.Goals as goal
 
 pub run_schedule-requires-clause-sound : goal.run_schedule-requires-clause-sound
 run_schedule-requires-clause-sound g c =
-    subst (λ (run : Run). IsTrue (list_all has_sound_actions run.edits)) (sym c.requires.run) c.requires.built.sound
+    subst (λ (run : Run). IsTrue (list_all has_sound_actions run.edits)) (sym c.requires.run) c.requires.within.sound
 
 pub run_schedule-requires-clause-limit : goal.run_schedule-requires-clause-limit
 run_schedule-requires-clause-limit g c = sym (ap (λ (run : Run). run.flow_limit) c.requires.run)

@@ -1,6 +1,6 @@
 use Rattle.command_words.specs.CommandViews.{texts}
 use Rattle.switch_app.proofs.Ending.{ended}
-use Rattle.switch_app.proofs.run.run_alone.Goals as goal
+use Rattle.switch_app.proofs.run.end.Goals as goal
 
 pub returns-in-Err : goal.returns-in-Err
 returns-in-Err g c =

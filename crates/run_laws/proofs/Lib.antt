@@ -1,0 +1,4 @@
+mod ListLaws
+pub mod LastVersions
+pub mod Alike
+mod Rows
