@@ -4,6 +4,7 @@
     python3 compare.py PROGRAM ROUNDS
 
 Status, text and files of each run have to be the same, byte by byte: the summary, the dumps and the journal among them.
+Where there are workers, the simulation takes the steps that the program's journal tells; workers.py has more of such runs.
 Round n is the same at each call. It prints the first run that differs and keeps its folder, and ends with 1; else it
 prints nothing.
 """
@@ -14,13 +15,14 @@ import tempfile
 
 sys.dont_write_bytecode = True
 from made_runs import made_run
-from whole_run import ran_in, simulated
+from whole_run import journal_of, ran_in, simulated
 
 
 def compare(program, number, folder):
     """Tries one run in an empty folder, and tells what is wrong."""
     words, given = made_run(number)
-    got, wanted = ran_in(folder, program, words, given), simulated(words, given)
+    got = ran_in(folder, program, words, given)
+    wanted = simulated(words, given, journal_of(got))
     if (got.status, got.text) != (wanted.status, wanted.text):
         return f"{words}: status {got.status} and {got.text!r}, not {wanted.status} and {wanted.text!r}"
     names = got.files.keys() | wanted.files.keys()

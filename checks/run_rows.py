@@ -350,7 +350,6 @@ REFUSALS = {
     "files beside what a number makes": ("--generate 7 edits", "", "", 2, USAGE),
     "a number above 32 bits": ("--generate 4294967296", "", "", 2, USAGE),
     "a number with a leading zero": ("--generate 07", "", "", 2, USAGE),
-    "workers for what a number makes": ("--generate 7 --workers 1", "", "", 9, "not built: workers"),
     "a flow limit of none for what a number makes": ("--generate 7 --flow-limit 0", "", "", 2, USAGE),
 }
 

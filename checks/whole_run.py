@@ -10,12 +10,19 @@ from simulation.switch import simulate
 Ended = namedtuple("Ended", "status text files")
 
 
-def ran_in(folder, program, words, given):
-    """How the program ends in an empty folder with the given files, which are left there."""
+def journal_of(ended):
+    """The text of the journal that a run has made, or None where it has made none."""
+    return next((data.decode() for name, data in ended.files.items() if name.endswith(".journal")), None)
+
+
+def ran_in(folder, program, words, given, patience=None):
+    """How the program ends in an empty folder with the given files, which are left there. It may have so many seconds."""
     for name, data in given.items():
         with open(os.path.join(folder, name), "wb") as file:
             file.write(data)
-    ran = subprocess.run([program, *words], cwd=folder, stdin=subprocess.DEVNULL, stdout=subprocess.PIPE)
+    ran = subprocess.run(
+        [program, *words], cwd=folder, stdin=subprocess.DEVNULL, stdout=subprocess.PIPE, timeout=patience
+    )
     files = {}
     for name in set(os.listdir(folder)) - set(given):
         with open(os.path.join(folder, name), "rb") as file:
@@ -28,15 +35,15 @@ def ran(program, words, given):
         return ran_in(room, program, words, given)
 
 
-def simulated(words, given):
-    """How the simulation ends a run of these files."""
+def simulated(words, given, journal=None):
+    """How the simulation ends a run of these files, and of this journal where workers chose it."""
 
     def contents(name):
         if name not in given:
             raise FileNotFoundError(name)
         return given[name]
 
-    status, text, files = simulate(words, contents)
+    status, text, files = simulate(words, contents, journal)
     return Ended(status, text, dict(files))
 
 

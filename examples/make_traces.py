@@ -529,13 +529,13 @@ def scan():
     return trace((MORNING + after, frame) for after, frame in frames)
 
 
-# ---- stale-settle and replaced-entry
+# ---- stale-settle, replaced-entry and four-workers
 
 
-def some_pings(desk, count):
-    """What comes from a desk, which pings the file server each second."""
+def some_pings(desk, count, gap=1000000):
+    """What comes from a desk, which pings the file server so often: each second, if no other gap is given in microseconds."""
     return trace(
-        (MORNING + number * 1000000, ping(desk, FILE_SERVER, 0x1000 + number, number)) for number in range(1, count + 1)
+        (MORNING + number * gap, ping(desk, FILE_SERVER, 0x1000 + number, number)) for number in range(1, count + 1)
     )
 
 
@@ -547,6 +547,8 @@ TRACES = {
     "flood-bridge/access-point.pcap": access_point,
     "flood-bridge/room-a.pcap": room_a,
     "flow-limit/desks.pcap": scan,
+    "four-workers/desk.pcap": lambda: some_pings(DESK, 40, 200000),
+    "four-workers/other-desk.pcap": lambda: some_pings(OTHER_DESK, 40, 200000),
     "replaced-entry/desk.pcap": lambda: some_pings(DESK, 5),
     "router/lan.pcap": from_the_lan,
     "router/servers.pcap": from_the_servers,

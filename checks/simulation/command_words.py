@@ -4,7 +4,7 @@ from collections import namedtuple
 
 from .caches import FLOW_LIMIT
 from .flow_text import LAST_PORT
-from .refusals import check_built, check_words
+from .refusals import check_words
 
 OPTIONS = ["workers", "steps", "flow-limit", "generate"]
 MOST_WORKERS = 16
@@ -16,9 +16,9 @@ MOST_PORTS = 32
 NUMBER = re.compile(r"0|[1-9][0-9]*")
 PORT_WORD = re.compile(r"([1-9][0-9]{0,4})=(.*)", re.DOTALL)
 
-# The name of the edits, the start of the names of outputs, the name of each port's trace, the most entries of a port, and
-# the name of the steps file or None. Or the number that makes the input; there are no names then.
-Command = namedtuple("Command", "edits out traces flow_limit steps number")
+# How many workers there are and the most entries of a port. Then the name of the edits, the start of the names of outputs,
+# the name of each port's trace, and the name of the steps file or None; or the number that makes the input.
+Command = namedtuple("Command", "workers flow_limit edits out traces steps number", defaults=[None] * 5)
 
 
 def is_text(word):
@@ -72,22 +72,20 @@ def read_words(words):
     flow_limit = read_number(options.get("flow-limit", str(FLOW_LIMIT)), MOST_FLOWS)
     check_words(flow_limit > 0)
     if "generate" in options:
-        command = read_made_words(options, plain, flow_limit)
-    else:
-        command = read_file_words(options, plain, flow_limit, workers)
-    check_built(not workers, "workers")
-    return command
+        return read_made_words(options, plain, Command(workers, flow_limit))
+    return read_file_words(options, plain, Command(workers, flow_limit))
 
 
-def read_made_words(options, plain, flow_limit):
+def read_made_words(options, plain, command):
     """What a number makes takes the place of all files."""
     number = read_number(options["generate"], MOST_MADE)
     check_words(not plain and "steps" not in options)
-    return Command(None, None, None, flow_limit, None, number)
+    return command._replace(number=number)
 
 
-def read_file_words(options, plain, flow_limit, workers):
+def read_file_words(options, plain, command):
     """Steps aren't given to workers."""
     check_words(len(plain) >= 2 and plain[0] and plain[1])
-    check_words("steps" not in options or (options["steps"] and not workers))
-    return Command(plain[0], plain[1], read_ports(plain[2:]), flow_limit, options.get("steps"), None)
+    check_words("steps" not in options or (options["steps"] and not command.workers))
+    traces = read_ports(plain[2:])
+    return command._replace(edits=plain[0], out=plain[1], traces=traces, steps=options.get("steps"))

@@ -1,6 +1,6 @@
 """Why a run ends as it does: the statuses, and what is refused by which text."""
 
-DONE, USAGE, BAD_TEXT, BAD_TRACE, READ_FAULT, WRITE_FAULT, LIMIT, NOT_BUILT = 0, 2, 3, 4, 5, 6, 7, 9
+DONE, USAGE, BAD_TEXT, BAD_TRACE, READ_FAULT, WRITE_FAULT, LIMIT = 0, 2, 3, 4, 5, 6, 7
 
 USAGE_TEXT = "usage: megaswitch [--workers N] [--steps FILE] [--flow-limit N] EDITS OUT PORT=FILE..."
 
@@ -12,11 +12,6 @@ class Refused(Exception):
 def check_words(holds):
     if not holds:
         raise Refused(USAGE, USAGE_TEXT)
-
-
-def check_built(holds, name):
-    if not holds:
-        raise Refused(NOT_BUILT, f"not built: {name}")
 
 
 def check_trace(holds, name, reason):

@@ -9,6 +9,7 @@ from .flow_rules import last_version
 from .flow_text import OverLimit, TextFault, read_script
 from .generator import EDITS, PORTS, generate, trace_name
 from .refusals import BAD_TEXT, DONE, LIMIT, READ_FAULT, Refused
+from .replay import replayed
 from .rewriting import sent
 from .schedule import Schedule
 from .steps import read_steps
@@ -90,8 +91,9 @@ def files_of(out, given, boards, leaving):
     return ports + [(f"{out}.{name}", text.encode()) for name, text in dumps.items()]
 
 
-def simulate(words, contents):
-    """How a run ends, where contents gives the bytes of the file of a name or raises an OSError."""
+def simulate(words, contents, journal=None):
+    """How a run ends, where contents gives the bytes of the file of a name or raises an OSError. With workers there are many
+    ways, and a journal says which; without one it is taken as if there were none."""
 
     def read(name):
         try:
@@ -104,7 +106,10 @@ def simulate(words, contents):
         given = read_input(command, read) if command.number is None else made_input(command.number)
     except Refused as refused:
         return Result(refused.args[0], refused.args[1] + "\n", [])
-    boards, steps = run(given, command.flow_limit)
+    if command.workers and journal is not None:
+        boards, steps = replayed(given.script, given.frames, command.flow_limit, journal), None
+    else:
+        boards, steps = run(given, command.flow_limit)
     leaving = sent_frames(boards)
     summary = summary_text(given.script, boards, sum(map(len, leaving.values())), steps)
     files = [] if command.out is None else files_of(command.out, given, boards, leaving)
