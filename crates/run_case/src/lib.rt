@@ -36,13 +36,11 @@
 
 mod case;
 mod keyed;
-mod ran;
 mod run_data;
 mod threads;
 
 pub use case::Case;
 pub use keyed::Keyed;
-pub use ran::Ran;
 pub use run_blocks::Ports;
 pub use run_data::RunData;
 
