@@ -35,8 +35,8 @@ impl Model for Edit {
 }
 
 impl Edit {
-    /// The same edit again.
-    pub(crate) fn copy(&self, alloc: Global) -> Result<Edit, AllocError>
+    /// The same edit again. Out of memory is the only error.
+    pub fn copy(&self, alloc: Global) -> Result<Edit, AllocError>
         ensures { IfOk result (λ e. e ≡ self.now) }
     {
         let actions = Vec::from_slice(alloc, self.actions.as_slice())?;

@@ -2,7 +2,7 @@ ghost use Rattle.std.specs.Prelude.{◌≡◌, ◌<◌, ◌≤◌, ◌+◌, IfOk
 ghost use Rattle.spec_case.specs.Run.{last_version};
 
 use left_right::Absorb;
-use rule_tables::{Actions, Edit};
+use rule_tables::Edit;
 use run_case::Case;
 use run_edits::RunEdits;
 use run_tables::Tables;
@@ -41,25 +41,10 @@ impl<C: Case> NextEdit<C> {
         let number = version + 1;
         Ok(NextEdit {
             number,
-            edit: copy(alloc, edits.edit(number))?,
+            edit: edits.edit(number).copy(alloc)?,
             of: PhantomData,
         })
     }
-}
-
-// The same edit again.
-fn copy(alloc: Global, edit: &Edit) -> Result<Edit, AllocError>
-    ensures { IfOk result (λ e. e ≡ edit.now) }
-{
-    let actions = Vec::from_slice(alloc, edit.actions.as_slice())?;
-    Ok(Edit {
-        word: edit.word,
-        table: edit.table,
-        priority: edit.priority,
-        cookie: edit.cookie,
-        matching: edit.matching,
-        actions: Actions::new(actions),
-    })
 }
 
 impl<C: Case> Absorb<NextEdit<C>> for Tables<C> {
