@@ -7,12 +7,6 @@ use Rattle.spec_actions.specs.declared.action.DpAction.TheVariants.{Output, PopV
 use Rattle.spec_frames.specs.Ethernet.{tag_size}
 use Rattle.spec_exec.specs.Sent.{Piece}
 
-abbrev pub is_output : DpAction → Bool
-is_output (Output port) = true
-is_output PopVlan = false
-is_output (PushVlan tci) = false
-is_output (Set field value mask) = false
-
 abbrev pub is_push : DpAction → Bool
 is_push (PushVlan tci) = true
 is_push PopVlan = false

@@ -3,8 +3,8 @@ ghost use Rattle.std.specs.Prelude.{◌≡◌, ◌+◌, ◌*◌, ◌≤◌, ◌�
 ghost use Rattle.std.specs.List.{FoldsTo};
 ghost use Rattle.std.specs.Vec.{vec_len, vec_capacity};
 ghost use Rattle.spec_frames.specs.Ethernet.{tag_size};
-ghost use Rattle.spec_exec.specs.Sent.{sent};
-ghost use Rattle.action_exec.specs.Visits.{is_push, is_output, IsVisitedAt};
+ghost use Rattle.spec_exec.specs.Sent.{is_output, sent};
+ghost use Rattle.action_exec.specs.Visits.{is_push, IsVisitedAt};
 
 use crate::buffer::run_action;
 use crate::tag::TAG_SIZE;
@@ -17,7 +17,8 @@ fn is_push(action: &DpAction) -> bool
     matches!(action, DpAction::PushVlan { .. })
 }
 
-fn is_output(action: &DpAction) -> bool
+/// Whether an action sends.
+pub fn is_output(action: &DpAction) -> bool
     ensures { result ≡ is_output action.now }
 {
     matches!(action, DpAction::Output(_))

@@ -50,4 +50,4 @@ mod sum;
 mod tag;
 
 pub use buffer::FrameBuffer;
-pub use execution::execute;
+pub use execution::{execute, is_output};

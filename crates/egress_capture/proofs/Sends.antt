@@ -8,8 +8,8 @@ use Rattle.std.proofs.lemmas.List.Sums.{sum_by-cons, take_while-cons}
 use Rattle.spec_pcap.specs.Pcap.{Frame}
 use Rattle.spec_actions.specs.declared.action.DpAction.{DpAction}
 use Rattle.spec_actions.specs.declared.action.DpAction.TheVariants.{Output, PopVlan, PushVlan, Set}
-use Rattle.spec_exec.specs.Sent.{sent}
-use Rattle.egress_capture.specs.Sending.{is_output, sends_to, frame_of, frames_to, next, rewritten}
+use Rattle.spec_exec.specs.Sent.{is_output, sent}
+use Rattle.egress_capture.specs.Sending.{sends_to, frame_of, frames_to, next, rewritten}
 
 -- the frame after one more action
 rewritten_append : (xs : List DpAction) (a : DpAction) (bytes : List ℕ) → rewritten (xs ++ a ∷ []) bytes ≡ next a (rewritten xs bytes)

@@ -6,7 +6,8 @@ use Rattle.std.proofs.lemmas.List.{append-nil}
 use Rattle.std.proofs.lemmas.Grind.{flat_map-append}
 use Rattle.spec_pcap.specs.Pcap.{Frame}
 use Rattle.spec_actions.specs.declared.action.DpAction.{DpAction}
-use Rattle.egress_capture.specs.Sending.{is_output, sends_to, frame_of, frames_to, next, rewritten}
+use Rattle.spec_exec.specs.Sent.{is_output}
+use Rattle.egress_capture.specs.Sending.{sends_to, frame_of, frames_to, next, rewritten}
 use Rattle.egress_capture.proofs.Sends.{out_within, out_take_more, out_cut, out_none}
 
 module _ (bytes_of : Frame → List ℕ) (port time : ℕ) where

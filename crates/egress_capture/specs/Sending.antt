@@ -6,12 +6,6 @@ use Rattle.spec_actions.specs.declared.action.DpAction.TheVariants.{Output, PopV
 use Rattle.spec_exec.specs.Sent.{Piece, sent}
 use Rattle.spec_exec.specs.Rewriting.{after_action}
 
-abbrev pub is_output : DpAction → Bool
-is_output (Output n) = true
-is_output PopVlan = false
-is_output (PushVlan tci) = false
-is_output (Set f value mask) = false
-
 abbrev pub sends_to : ℕ → DpAction → Bool
 sends_to port (Output n) = n == port
 sends_to port PopVlan = false

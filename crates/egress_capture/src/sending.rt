@@ -4,20 +4,15 @@ ghost use Rattle.std.specs.List.{flat_map, take_while};
 ghost use Rattle.spec_pcap.specs.Pcap.{record_of, second, snap_length};
 ghost use Rattle.spec_frames.specs.Ethernet.{tag_size};
 ghost use Rattle.spec_xlate.specs.Translation.{action_limit};
+ghost use Rattle.spec_exec.specs.Sent.{is_output};
 ghost use Rattle.edge_io.specs.declared.outside.InUse.TheVariants.{Created};
 ghost use Rattle.edge_io.specs.Written.{WritesAll};
-ghost use Rattle.egress_capture.specs.Sending.{is_output, sends_to, frame_of, frames_to, next};
+ghost use Rattle.egress_capture.specs.Sending.{sends_to, frame_of, frames_to, next};
 
-use action_exec::FrameBuffer;
+use action_exec::{FrameBuffer, is_output};
 use edge_io::{Failed, Shelf};
 use pcap_writer::PcapWriter;
 use spec_actions::DpAction;
-
-fn is_output(action: &DpAction) -> bool
-    ensures { result ≡ is_output action.now }
-{
-    matches!(action, DpAction::Output(_))
-}
 
 fn is_output_to(action: &DpAction, port: u16) -> bool
     ensures { result ≡ sends_to port action.now }

@@ -4,8 +4,8 @@ use Rattle.std.proofs.lemmas.List.Elements.{All-head, All-tail}
 use Rattle.spec_actions.specs.declared.action.DpAction.{DpAction}
 use Rattle.spec_actions.specs.declared.action.DpAction.TheVariants.{Output, PopVlan, PushVlan, Set}
 use Rattle.spec_exec.specs.Rewriting.{after_action}
-use Rattle.spec_exec.specs.Sent.{Piece, sent}
-use Rattle.exec_laws.specs.Sends.{is_output, after_actions}
+use Rattle.spec_exec.specs.Sent.{Piece, sent, is_output}
+use Rattle.exec_laws.specs.Sends.{after_actions}
 
 -- no action of a list sends
 abbrev pub AreSilent : List DpAction → Type 0

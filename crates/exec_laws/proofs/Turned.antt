@@ -19,10 +19,10 @@ use Rattle.spec_xlate.specs.Commit.{fields_before_tags, fields_after_tags, commi
 use Rattle.translation_laws.specs.Applied.{applied, is_frame_field, is_proper}
 use Rattle.translation_laws.proofs.CommitLaws.{commit-Turns}
 use Rattle.spec_exec.specs.Places.{in_network}
-use Rattle.spec_exec.specs.Sent.{Piece, sent}
+use Rattle.spec_exec.specs.Sent.{Piece, is_output, sent}
 use Rattle.key_laws.proofs.KeyLaws.{key_of-IsClean}
 use Rattle.exec_laws.specs.ReadBack.{shows}
-use Rattle.exec_laws.specs.Sends.{is_output, after_actions}
+use Rattle.exec_laws.specs.Sends.{after_actions}
 use Rattle.exec_laws.specs.Become.{turned, CanTurn, is_register, without_registers, CanBecome}
 use Rattle.exec_laws.proofs.Sending.{AreSilent, sent-before}
 use Rattle.exec_laws.proofs.CommitSteps.{no-change, map-at, base-is, base-tci, commit-leads}
@@ -33,7 +33,7 @@ use Rattle.exec_laws.proofs.Tags.{shown-proper}
 all-fields : (key : List ℕ) → length key ≡ field_count → key ≡ map (value_of key) fields
 all-fields key len = fill_by_all (number_at key) key field_count 0 len (λ k l. refl)
 
-map-same : (g h : FieldId → ℕ) → ((f : FieldId) → g f ≡ h f) → (fs : List FieldId) → map g fs ≡ map h fs
+pub map-same : (g h : FieldId → ℕ) → ((f : FieldId) → g f ≡ h f) → (fs : List FieldId) → map g fs ≡ map h fs
 map-same g h e [] = refl
 map-same g h e (f ∷ fs) = ap₂ (λ (x : ℕ) (xs : List ℕ). x ∷ xs) (e f) (map-same g h e fs)
 

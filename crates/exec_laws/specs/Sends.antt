@@ -1,12 +1,7 @@
 -- Lists of actions.
-use Rattle.std.specs.Prelude.{ℕ, Bool, true, false, List, fold}
+use Rattle.std.specs.Prelude.{ℕ, List, fold}
 use Rattle.spec_actions.specs.declared.action.DpAction.{DpAction}
-use Rattle.spec_actions.specs.declared.action.DpAction.TheVariants.{Output}
 use Rattle.spec_exec.specs.Rewriting.{after_action}
-
-abbrev pub is_output : DpAction → Bool
-is_output (Output port) = true
-is_output action = false
 
 -- a frame after these actions
 abbrev pub after_actions : List DpAction → List ℕ → List ℕ

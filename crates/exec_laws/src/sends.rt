@@ -1,8 +1,8 @@
 ghost use Rattle.std.specs.Prelude.{◌≡◌, ℕ, false, List, [], ◌∷◌, ◌++◌, map, All};
 ghost use Rattle.spec_actions.specs.declared.action.DpAction.{DpAction};
 ghost use Rattle.spec_actions.specs.declared.action.DpAction.TheVariants.{Output};
-ghost use Rattle.spec_exec.specs.Sent.{Piece, sent};
-ghost use Rattle.exec_laws.specs.Sends.{is_output, after_actions};
+ghost use Rattle.spec_exec.specs.Sent.{Piece, is_output, sent};
+ghost use Rattle.exec_laws.specs.Sends.{after_actions};
 
 /// What is sent is what outputs send. Actions without an output send nothing, and what they make of the frame is what
 /// the actions after them begin with. Outputs alone send the frame itself at each of their ports, in order.

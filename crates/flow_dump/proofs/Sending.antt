@@ -6,8 +6,7 @@ use Rattle.std.proofs.Common.{cond}
 use Rattle.spec_actions.specs.declared.action.DpAction.{DpAction}
 use Rattle.spec_actions.specs.declared.action.DpAction.TheVariants.{Output, PopVlan, PushVlan, Set}
 use Rattle.spec_exec.specs.Rewriting.{after_action}
-use Rattle.spec_exec.specs.Sent.{sent}
-use Rattle.flow_dump.specs.FrameCounts.{is_output}
+use Rattle.spec_exec.specs.Sent.{is_output, sent}
 
 -- as many as it has outputs, whatever the frame is
 pub length-sent : (actions : List DpAction) (bytes : List ℕ) → length (sent actions bytes) ≡ count_by is_output actions

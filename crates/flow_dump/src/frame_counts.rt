@@ -6,8 +6,8 @@ ghost use Rattle.spec_run.specs.Journals.{IsWhole};
 ghost use Rattle.spec_dumps.specs.Summary.{pieces_of, sent_by, dropped_by, sent_count, dropped_count};
 ghost use Rattle.run_blocks.specs.Places.{HasPlace};
 ghost use Rattle.pmd_board.specs.BoardView.{journal_view};
-ghost use Rattle.flow_dump.specs.FrameCounts as frames;
 
+use action_exec::is_output;
 use pmd_board::Board;
 use run_case::{Case, RunData};
 use spec_actions::DpAction;
@@ -18,13 +18,6 @@ use step_runner::Finished;
 pub(crate) struct FrameCounts {
     pub(crate) sent: u128,
     pub(crate) dropped: u128,
-}
-
-// Whether an action sends.
-fn is_output(action: &DpAction) -> bool
-    ensures { result ≡ frames.is_output action.now }
-{
-    matches!(action, DpAction::Output(_))
 }
 
 // How many pieces a list of actions sends: as many as it has outputs, whatever the frame is.

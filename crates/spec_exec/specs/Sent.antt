@@ -1,8 +1,13 @@
 -- What a list of datapath actions sends (ovs-actions(7)).
-use Rattle.std.specs.Prelude.{ℕ, List, [], ◌∷◌}
+use Rattle.std.specs.Prelude.{ℕ, Bool, true, false, List, [], ◌∷◌}
 use Rattle.spec_actions.specs.declared.action.DpAction.{DpAction}
 use Rattle.spec_actions.specs.declared.action.DpAction.TheVariants.{Output}
 use Rattle.spec_exec.specs.Rewriting.{after_action}
+
+-- whether an action sends
+abbrev pub is_output : DpAction → Bool
+is_output (Output port) = true
+is_output action = false
 
 -- bytes that go out at a port
 pub record Piece : Type 0 where

@@ -2,7 +2,7 @@ use Rattle.std.proofs.Common.{◌∷◌, rules, of_calls, ap, ◌∙◌}
 use Rattle.std.specs.Prelude.{IsTrue}
 use Rattle.std.proofs.lemmas.List.Elements.{All-tail}
 use Rattle.spec_actions.specs.declared.action.DpAction.{DpAction}
-use Rattle.action_exec.specs.Visits.{is_output}
+use Rattle.spec_exec.specs.Sent.{is_output}
 use Rattle.action_exec.proofs.Visits.{no-visits, visits-output}
 use Rattle.action_exec.proofs.execution.visit_outputs.Goals as goal
 

@@ -1,8 +1,8 @@
 use Rattle.std.proofs.Common.{length}
 use Rattle.std.specs.Prelude.{All, IsTrue}
 use Rattle.std.specs.List.{FoldsTo}
-use Rattle.spec_exec.specs.Sent.{sent}
-use Rattle.action_exec.specs.Visits.{is_output, IsVisitedAt}
+use Rattle.spec_exec.specs.Sent.{is_output, sent}
+use Rattle.action_exec.specs.Visits.{IsVisitedAt}
 use Rattle.action_exec.proofs.execution.visit_outputs.Given as goal
 
 abbrev pub invariant-actions : goal.invariant-actions

@@ -1,6 +1,6 @@
 use Rattle.std.proofs.Common.{◌≡◌, sym, ◌∙◌, rules}
 use Rattle.std.specs.Prelude.{count_by}
-use Rattle.flow_dump.specs.FrameCounts.{is_output}
+use Rattle.spec_exec.specs.Sent.{is_output}
 use Rattle.flow_dump.proofs.Sending.{length-sent}
 use Rattle.flow_dump.proofs.frame_counts.outputs.Goals as goal
 
