@@ -50,11 +50,11 @@ with_top stack c = reverse-append stack (c ∷ [])
 
 -- ---- bytes of an item
 
-inside : (bs : List ℕ) (c : ℕ) (cs : List ℕ) → ends_item bs c ≡ false → up_to_end bs (c ∷ cs) ≡ c ∷ up_to_end (open_after bs c) cs
+pub inside : (bs : List ℕ) (c : ℕ) (cs : List ℕ) → ends_item bs c ≡ false → up_to_end bs (c ∷ cs) ≡ c ∷ up_to_end (open_after bs c) cs
 unfolding up_to_end
 inside bs c cs e = rw e refl
 
-outside : (bs : List ℕ) (c : ℕ) (cs : List ℕ) → ends_item bs c ≡ true → up_to_end bs (c ∷ cs) ≡ []
+pub outside : (bs : List ℕ) (c : ℕ) (cs : List ℕ) → ends_item bs c ≡ true → up_to_end bs (c ∷ cs) ≡ []
 unfolding up_to_end
 outside bs c cs e = rw e refl
 

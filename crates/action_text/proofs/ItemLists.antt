@@ -5,6 +5,7 @@ use Rattle.std.proofs.lemmas.List.{get_or-drop, length-take-le}
 use Rattle.std.proofs.lemmas.List.Sums.{prefix_len_stops}
 use Rattle.spec_flow_text.specs.Items.{Word, is_separator}
 use Rattle.spec_flow_text.specs.Actions.{open_after, ends_item, up_to_end, items}
+use Rattle.action_text.proofs.ItemBytes.{inside, outside}
 
 none_left : (bs : List ℕ) (fresh : Bool) (at : ℕ) → items bs fresh at [] ≡ []
 unfolding items
@@ -26,14 +27,6 @@ at_item bs at c cs e = rw e refl
 no_bytes : (bs : List ℕ) → up_to_end bs [] ≡ []
 unfolding up_to_end
 no_bytes bs = refl
-
-inside : (bs : List ℕ) (c : ℕ) (cs : List ℕ) → ends_item bs c ≡ false → up_to_end bs (c ∷ cs) ≡ c ∷ up_to_end (open_after bs c) cs
-unfolding up_to_end
-inside bs c cs e = rw e refl
-
-outside : (bs : List ℕ) (c : ℕ) (cs : List ℕ) → ends_item bs c ≡ true → up_to_end bs (c ∷ cs) ≡ []
-unfolding up_to_end
-outside bs c cs e = rw e refl
 
 -- items from so many bytes further on
 abbrev after : ℕ → ℕ → List ℕ → List Word

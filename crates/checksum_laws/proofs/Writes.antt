@@ -17,6 +17,7 @@ use Rattle.spec_exec.specs.Rewriting.{sent_as, after_word, after_words, followed
 use Rattle.exec_laws.specs.Elsewhere.{IsOutside, IsNoPlace, IsNoSum}
 use Rattle.exec_laws.proofs.Replacing.{number-same, with_number-length, with_number-reads}
 use Rattle.exec_laws.proofs.Bytes.{EachByte, word-lt, with_number-bytes}
+use Rattle.exec_laws.proofs.BytesKept.{corrected-bytes}
 use Rattle.exec_laws.proofs.Within.{PlaceFits, place-fits, SumsFit, sums-fit, fit-moved, corrected-length, act-whole}
 use Rattle.exec_laws.proofs.Untouched.{with_number-outside, corrected-outside, set-untouched}
 use Rattle.checksum_laws.proofs.Sums.{words-congruent}
@@ -82,14 +83,6 @@ corrected-split : (first last : List Sum) (t : Sum) (p : Place) (before now : Li
 unfolding corrected
 corrected-split [] last t p before now = refl
 corrected-split (s ∷ first) last t p before now = corrected-split first last t p before _
-
-corrected-bytes : (sums : List Sum) (p : Place) (before now : List ℕ) → SumsFit now sums → EachByte now → EachByte (corrected sums p before now)
-unfolding corrected
-corrected-bytes [] p before now fit bytes = bytes
-corrected-bytes (s ∷ sums) p before now fit bytes =
-    let v = followed s.zero_says p.words p.word_at before now (big_endian_at 2 before s.at) in
-    corrected-bytes sums p before (with_number 2 now s.at v) (fit-moved now (with_number 2 now s.at v) (with_number-length 2 now s.at v fit.0) sums fit.1)
-    (with_number-bytes 2 now s.at v fit.0 bytes)
 
 -- ---- whether there is a checksum
 

@@ -18,7 +18,8 @@ use Rattle.exec_laws.proofs.Replacing.{with_number-length}
 use Rattle.exec_laws.proofs.Bytes.{EachByte, byte, are-bytes, byte-of-number, with_number-bytes}
 use Rattle.exec_laws.proofs.Within.{PlaceFits, place-fits, SumsFit, sums-fit, fit-moved}
 
-corrected-bytes : (sums : List Sum) (p : Place) (before now : List ℕ) → SumsFit now sums → EachByte now → EachByte (corrected sums p before now)
+-- checksums that follow leave a frame of bytes one
+pub corrected-bytes : (sums : List Sum) (p : Place) (before now : List ℕ) → SumsFit now sums → EachByte now → EachByte (corrected sums p before now)
 unfolding corrected
 corrected-bytes [] p before now fit bytes = bytes
 corrected-bytes (s ∷ sums) p before now fit bytes =

@@ -1,6 +1,6 @@
 -- What one more visit makes of the totals.
-use Rattle.std.proofs.Common.{◌≡◌, ℕ, ◌+◌, ◌-◌, ◌*◌, ◌<◌, ◌≤◌, Bool, true, false, cond, ◌==◌, List, [], ◌∷◌, length, inl, inr, refl, sym, ap, ap₂, subst, ◌∙◌, get_or-set_same, get_or-set_other, arith}
-use Rattle.std.specs.Prelude.{count_by, slice_set, slice_index_or, replicate}
+use Rattle.std.proofs.Common.{◌≡◌, ℕ, ◌+◌, ◌-◌, ◌*◌, ◌<◌, ◌≤◌, Bool, true, false, cond, ◌==◌, List, [], ◌∷◌, length, drop, drop-cons, add-one, inl, inr, refl, sym, ap, ap₂, subst, ◌∙◌, get_or-set_same, get_or-set_other, arith}
+use Rattle.std.specs.Prelude.{count_by, slice_set, slice_index, slice_index_or, replicate}
 use Rattle.std.proofs.lemmas.Bool.{cases_eq, cases_lt, cond-true, cond-false, eq-eqb, ne_eqb, eqb-true, eqb-false}
 use Rattle.std.proofs.lemmas.List.{get_or-replicate, get_or_past, length-replicate, map-set}
 use Rattle.std.proofs.Math.ListN.{get_or-map}
@@ -18,7 +18,7 @@ with_more packets bytes t = record { packets = t.packets + packets; bytes = t.by
 pub total_of-rule : (totals : List Total) (rule : ℕ) → 1 ≤ rule → total_of totals rule ≡ slice_index_or totals (rule - 1) nothing
 total_of-rule totals rule first = cond-false (rule == 0) nothing (slice_index_or totals (rule - 1) nothing) (ne_eqb rule 0 (λ is. omega arith))
 
-total_of-set : (totals : List Total) (v : ℕ) (t : Total) (rule : ℕ) → IsRule totals v
+pub total_of-set : (totals : List Total) (v : ℕ) (t : Total) (rule : ℕ) → IsRule totals v
     → total_of (slice_set totals (v - 1) t) rule ≡ cond (v == rule) t (total_of totals rule)
 total_of-set totals v t rule is_rule =
     elim (cases_eq v rule) [
@@ -39,7 +39,7 @@ total_of-set totals v t rule is_rule =
         get_or-set_other totals (v - 1) (rule - 1) t nothing (λ same. other (omega (arith, some, is_rule.first)))
 
 -- totals are the same where both their numbers are
-same_total : (a b : Total) → a.packets ≡ b.packets → a.bytes ≡ b.bytes → a ≡ b
+pub same_total : (a b : Total) → a.packets ≡ b.packets → a.bytes ≡ b.bytes → a ≡ b
 same_total a b packets bytes =
     let of : ℕ → ℕ → Total = λ p n. record { packets = p; bytes = n } in
     ap₂ of packets bytes
@@ -66,6 +66,10 @@ credited-set totals v visits packets bytes rule is_rule =
         ap (λ (t : Total). with_more (n * packets) (n * bytes) (with_more packets bytes t)) (same refl)
         ∙ once_more packets bytes n (total_of totals rule)
     at false same n = same_total _ _ (omega arith) (omega arith)
+
+-- the visits from a place on
+pub drop-visits : (visits : List ℕ) (i : ℕ) → i < length visits → drop i visits ≡ slice_index visits i ∷ drop (i + 1) visits
+drop-visits visits i within = drop-cons visits i 0 within ∙ ap (λ (k : ℕ). slice_index visits i ∷ drop k visits) (sym (add-one i))
 
 pub credited-none : (totals : List Total) (packets bytes rule : ℕ) → credited [] packets bytes (total_of totals) rule ≡ total_of totals rule
 credited-none totals packets bytes rule = same_total _ _ (omega arith) (omega arith)

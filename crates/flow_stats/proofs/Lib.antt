@@ -1,2 +1,2 @@
-mod Credits
+pub mod Credits
 pub mod SameTotals

@@ -26,7 +26,8 @@ use Rattle.match_text_laws.proofs.WordsBack.{IsWhole, first_word}
 use Rattle.match_text_laws.proofs.LinesBack.{front_passes}
 use Rattle.round_trip_laws.proofs.PartsRead.{ReadRanges, IsStatable}
 use Rattle.round_trip_laws.proofs.LinesRead.{ok_chained, AreStatable, IsRead, items_read}
-use Rattle.round_trip_laws.proofs.Gathered.{AllOf, follow_apart}
+use Rattle.round_trip_laws.proofs.Gathered.{follow_apart}
+use Rattle.round_trip_laws.proofs.ReadSpelled.{all_of}
 use Rattle.item_order_laws.proofs.SwappedParts.{kept_swapped}
 use Rattle.item_order_laws.proofs.SwappedItems.{AreAlike, ItemsAlike, pair_alike, front_alike}
 
@@ -122,10 +123,6 @@ text_alike word at front s one t other u back x es et eu i j h =
     let first = two_words at front s one t other u back es et eu i j in
     let second = two_words at front s other t one u back es et eu j i ∙ ap (λ n. words is_separator true at front ++ (item_at n1 other ∷ item_at (place_after n1 other) one ∷ words is_separator true n back)) end in
     subst (λ vs. ItemsAlike (read_items word vs nothing_stated) x) (sym second) (front_alike word (words is_separator true at front) (item_at n1 one ∷ item_at (place_after n1 one) other ∷ ws) (item_at n1 other ∷ item_at (place_after n1 other) one ∷ ws) nothing_stated x (λ v y g. pair_alike word one other n1 (place_after n1 one) n1 (place_after n1 other) ws v y i.no_list j.no_list g) (subst (λ vs. read_items word vs nothing_stated ≡ Ok x) first h))
-
-all_of : (ps : List Part) → AreStatable ps → AllOf IsStatable ps
-all_of [] h = tt
-all_of (p ∷ ps) h = (h.0, all_of ps h.1)
 
 same_text : (s t : Sofar) (rest : Option ℕ) → IsRead s → IsRead t → AreAlike s t → match_text s rest ≡ match_text t rest
 same_text s t rest r q a =

@@ -5,5 +5,6 @@ pub mod Looking
 mod Moving
 mod Others
 mod RunEvents
+pub mod Rising
 pub mod Versions
 pub mod Winners

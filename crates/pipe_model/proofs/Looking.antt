@@ -66,7 +66,7 @@ module _ (sw : Switch) (sub : ℕ → State → State) (actions : List OfAction)
 -- ---- lookups
 
 -- a number that is not 0 is one more than the number before
-before : (n : ℕ) → 0 < n → n ≡ suc (n - 1)
+pub before : (n : ℕ) → 0 < n → n ≡ suc (n - 1)
 before n above = omega arith
 
 pub look-none : (sw : Switch) (depths table : ℕ) (s : State) → (depths ≡ 0) ⊎ (s.lookups_left ≡ 0) → look sw depths table s ≡ stopped s

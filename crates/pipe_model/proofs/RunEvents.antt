@@ -10,6 +10,7 @@ use Rattle.spec_xlate.specs.Translation.Mode.{Going, ListEnded, Stopped}
 use Rattle.pipe_model.specs.Events.{Event, act_events, in_mode_events, run_events, while_going_events, follow_events, enter_events, look_events}
 use Rattle.pipe_model.specs.Events.Event.{Looked, Acted}
 use Rattle.pipe_model.specs.States.{visiting}
+use Rattle.pipe_model.proofs.Looking.{before}
 
 -- an action that leads to no lookup is one event
 pub acted-one : (sub : ℕ → State → List Event) (a : OfAction) (s : State)
@@ -67,10 +68,6 @@ module _ {N : Type 0} (after : N → Event → N) (sw : Switch) (sub : ℕ → S
       ∙ sym (run_events-step d n s within)
 
 -- ---- lookups
-
--- a number that is not 0 is one more than the number before
-before : (n : ℕ) → 0 < n → n ≡ suc (n - 1)
-before n above = omega arith
 
 module _ {N : Type 0} (after : N → Event → N) (sw : Switch) (depths table : ℕ) where
   pub look_events-none : (n : N) (s : State) → (depths ≡ 0) ⊎ (s.lookups_left ≡ 0) → n ≡ fold after n (look_events sw depths table s)

@@ -10,7 +10,7 @@ use Rattle.pipe_model.specs.Runnable.{IsAmong, AreRunnable, is_sound_rule}
 
 -- ---- the winner is among the rules
 
-in_filter : (p : Rule → Bool) (r : Rule) (rules : List Rule) → IsAmong r (filter p rules) → IsAmong r rules
+pub in_filter : (p : Rule → Bool) (r : Rule) (rules : List Rule) → IsAmong r (filter p rules) → IsAmong r rules
 in_filter p r [] h = h
 in_filter p r (x ∷ rules) h = by_test (p x) (in_filter p r rules) h
   where

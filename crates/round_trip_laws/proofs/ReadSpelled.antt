@@ -86,7 +86,7 @@ spelled_together t p ps all apart type protocol =
         ∙ ap (λ c. is_stated n c && has_needed (match_of ps) n c) (same_bits f)
         ∙ and_from (is_stated n b) (has_needed (match_of ps) n b) stated needed
 
-all_of : (ps : List Part) → AreStatable ps → AllOf IsStatable ps
+pub all_of : (ps : List Part) → AreStatable ps → AllOf IsStatable ps
 all_of [] h = tt
 all_of (p ∷ ps) h = (h.0, all_of ps h.1)
 

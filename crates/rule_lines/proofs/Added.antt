@@ -16,6 +16,7 @@ use Rattle.rule_tables.specs.History.{History, newest, rules_of, added_as, histo
 use Rattle.rule_tables.proofs.Histories.{newest-history, rules_of-history}
 use Rattle.pipe_model.specs.Runnable.{IsAmong, is_sound_rule}
 use Rattle.pipe_model.proofs.Versions.{runnable-version}
+use Rattle.pipe_model.proofs.Winners.{in_filter}
 use Rattle.rule_tables.specs.declared.rule.Rule as stored
 use Rattle.rule_tables.specs.Added.{IsAdded}
 use Rattle.rule_tables.specs.Views.{rule_view}
@@ -60,15 +61,6 @@ was_added edits a b same added = record {
 }
 
 -- ---- rules are among others
-
-in_filter : (p : Rule → Bool) (r : Rule) (rules : List Rule) → IsAmong r (filter p rules) → IsAmong r rules
-in_filter p r [] h = h
-in_filter p r (x ∷ rules) h = by_test (p x) (in_filter p r rules) h
-  where
-    by_test : (t : Bool) → (IsAmong r (filter p rules) → IsAmong r rules) → IsAmong r (if t then x ∷ filter p rules else filter p rules) → (x ≡ r) ⊎ IsAmong r rules
-    by_test true others (inl e) = inl e
-    by_test true others (inr i) = inr (others i)
-    by_test false others i = inr (others i)
 
 -- what comes of a modification was a rule before
 pub record WasBefore (r : Rule) (rules : List Rule) : Type 0 where

@@ -13,11 +13,12 @@ use Rattle.spec_dumps.specs.Rules.{comes_before, put_in_order, in_order}
 use Rattle.rule_tables.specs.History.{History, newest, rules_of, history_of}
 use Rattle.rule_tables.proofs.Histories.{newest-history, rules_of-history}
 use Rattle.pipe_model.specs.Runnable.{IsAmong}
+use Rattle.pipe_model.proofs.Rising.{Rise, rise_version}
 use Rattle.pipe_model.proofs.Versions.{runnable-version}
 use Rattle.rule_lines.specs.declared.places.RulePlace.{RulePlace}
 use Rattle.rule_lines.specs.Live.{IsOfEdits, IsLiveIn, live_in}
 use Rattle.rule_lines.specs.Places.{place_of}
-use Rattle.rule_lines.proofs.Rising.{Rise, rise_version, none_numbered, first_numbered, later_numbered, is_live-rule_numbered}
+use Rattle.rule_lines.proofs.Rising.{none_numbered, first_numbered, later_numbered, is_live-rule_numbered}
 
 -- ---- number by number
 

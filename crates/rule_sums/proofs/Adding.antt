@@ -9,64 +9,8 @@ use Rattle.spec_board.specs.State.{Total}
 use Rattle.spec_board.specs.Effects.{credited}
 use Rattle.spec_dumps.specs.declared.rule_counts.RuleCounts.{RuleCounts}
 use Rattle.flow_stats.specs.Sums.{nothing, total_of, IsRule}
+use Rattle.flow_stats.proofs.Credits.{same_total, with_more, total_of-rule, total_of-set, credited-set}
 use Rattle.rule_sums.specs.Sums.{Fits, sum_view, sums_view, with_total}
-
--- totals are the same where both their numbers are
-pub same_total : (a b : Total) → a.packets ≡ b.packets → a.bytes ≡ b.bytes → a ≡ b
-same_total a b packets bytes =
-    let of : ℕ → ℕ → Total = λ p n. record { packets = p; bytes = n } in
-    ap₂ of packets bytes
-
--- a total with so many more packets and bytes
-abbrev pub with_more : ℕ → ℕ → Total → Total
-with_more packets bytes t = record { packets = t.packets + packets; bytes = t.bytes + bytes }
-
--- a rule's total is at its place
-pub total_of-rule : (totals : List Total) (rule : ℕ) → 1 ≤ rule → total_of totals rule ≡ slice_index_or totals (rule - 1) nothing
-total_of-rule totals rule first = cond-false (rule == 0) nothing (slice_index_or totals (rule - 1) nothing) (ne_eqb rule 0 (λ is. omega arith))
-
-total_of-set : (totals : List Total) (v : ℕ) (t : Total) (rule : ℕ) → IsRule totals v
-    → total_of (slice_set totals (v - 1) t) rule ≡ cond (v == rule) t (total_of totals rule)
-total_of-set totals v t rule is_rule =
-    elim (cases_eq v rule) [
-      | inl is ↦
-          let within : v - 1 < length totals = omega (arith, is_rule.first, is_rule.last) in
-          total_of-rule (slice_set totals (v - 1) t) rule (omega (arith, is, is_rule.first))
-          ∙ ap (λ (n : ℕ). slice_index_or (slice_set totals (v - 1) t) (n - 1) nothing) (sym is)
-          ∙ get_or-set_same totals (v - 1) t nothing within
-          ∙ sym (cond-true (v == rule) t (total_of totals rule) (eq-eqb v rule is))
-      | inr other ↦ at (rule == 0) refl other ∙ sym (cond-false (v == rule) t (total_of totals rule) (ne_eqb v rule other))
-    ]
-  where
-    at : (b : Bool) → (rule == 0) ≡ b → (v ≡ rule → ⊥)
-        → cond b nothing (slice_index_or (slice_set totals (v - 1) t) (rule - 1) nothing) ≡ cond b nothing (slice_index_or totals (rule - 1) nothing)
-    at true is other = refl
-    at false is other =
-        let some = eqb-false rule 0 is in
-        get_or-set_other totals (v - 1) (rule - 1) t nothing (λ same. other (omega (arith, some, is_rule.first)))
-
--- once more, and so many times
-once_more : (packets bytes n : ℕ) (t : Total)
-    → with_more (n * packets) (n * bytes) (with_more packets bytes t) ≡ with_more ((1 + n) * packets) ((1 + n) * bytes) t
-once_more packets bytes n t = same_total _ _ (omega arith) (omega arith)
-
--- one visit is credited before the others
-credited-set : (totals : List Total) (v : ℕ) (visits : List ℕ) (packets bytes rule : ℕ) → IsRule totals v
-    → credited visits packets bytes (total_of (slice_set totals (v - 1) (with_more packets bytes (total_of totals v)))) rule
-    ≡ credited (v ∷ visits) packets bytes (total_of totals) rule
-credited-set totals v visits packets bytes rule is_rule =
-    let times = count_by (λ (r : ℕ). r == rule) visits in
-    ap (with_more (times * packets) (times * bytes)) (total_of-set totals v (with_more packets bytes (total_of totals v)) rule is_rule)
-    ∙ at (v == rule) (λ is. ap (total_of totals) (eqb-true v rule is)) times
-    ∙ ap (λ (n : ℕ). with_more (n * packets) (n * bytes) (total_of totals rule)) (sym (sum_by-cons (λ (r : ℕ). cond (r == rule) 1 0) v visits))
-  where
-    at : (b : Bool) → (b ≡ true → total_of totals v ≡ total_of totals rule) → (n : ℕ)
-        → with_more (n * packets) (n * bytes) (cond b (with_more packets bytes (total_of totals v)) (total_of totals rule))
-        ≡ with_more ((cond b 1 0 + n) * packets) ((cond b 1 0 + n) * bytes) (total_of totals rule)
-    at true same n =
-        ap (λ (t : Total). with_more (n * packets) (n * bytes) (with_more packets bytes t)) (same refl)
-        ∙ once_more packets bytes n (total_of totals rule)
-    at false same n = same_total _ _ (omega arith) (omega arith)
 
 -- what a visit's rule comes to by this visit is at most what all lead to
 pub fits_once : (totals : List Total) (v : ℕ) (visits : List ℕ) (packets bytes : ℕ)

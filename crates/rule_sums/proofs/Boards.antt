@@ -21,7 +21,7 @@ use Rattle.spec_dumps.specs.Rules.{counts_of}
 use Rattle.flow_stats.specs.Sums.{nothing, total_of, IsRule}
 use Rattle.rule_sums.specs.Sums.{Fits, sum_view, sums_view, with_total, with_owed, owed_packets, owed_bytes}
 use Rattle.rule_sums.specs.Counted.{AreCounts, IsBoundedAt, HasRoom, counts_at}
-use Rattle.rule_sums.proofs.Adding.{same_total, total_of-rule}
+use Rattle.flow_stats.proofs.Credits.{same_total, total_of-rule}
 
 sum_by-of_map : {X Y : Type 0} (f : Y → ℕ) (g : X → Y) (xs : List X) → sum_by f (map g xs) ≡ sum_by (λ x. f (g x)) xs
 sum_by-of_map f g [] = refl

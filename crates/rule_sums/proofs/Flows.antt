@@ -13,7 +13,7 @@ use Rattle.std.proofs.lemmas.List.{get_or-map, length-map}
 use Rattle.spec_dumps.specs.declared.rule_counts.RuleCounts.{RuleCounts}
 use Rattle.flow_stats.specs.Sums.{IsRule}
 use Rattle.rule_sums.specs.Sums.{Fits, sum_view, sums_view, with_owed, owed_packets, owed_bytes}
-use Rattle.rule_sums.proofs.Adding.{same_total}
+use Rattle.flow_stats.proofs.Credits.{same_total}
 
 -- entries whose numbers rise are found by them
 found_at : (es : List Entry) (i : ℕ) (e : Entry) → AreRising es → slice_get es i ≡ Some e → entry_of e.number es ≡ Some e

@@ -28,7 +28,7 @@ use Rattle.exec_laws.proofs.EachField.{short-stays}
 use Rattle.exec_laws.proofs.Sending.{sent-before}
 use Rattle.exec_laws.proofs.OnTheWay.{OnTheWay}
 use Rattle.exec_laws.proofs.CommitSteps.{map-at}
-use Rattle.exec_laws.proofs.Turned.{key-turned, key-becomes, commit-same, commit-silent}
+use Rattle.exec_laws.proofs.Turned.{map-same, key-turned, key-becomes, commit-same, commit-silent}
 use Rattle.exec_laws.proofs.Outputs.{outputs-ports}
 use Rattle.sending_laws.specs.Outputs.{translation_outputs}
 use Rattle.sending_laws.specs.Made.{can_change, IsMadeOf}
@@ -46,10 +46,6 @@ sent-ports sw port frame =
     ∙ outputs-ports key frame (translation_outputs sw key)
 
 -- ---- a frame with a whole Ethernet header
-
-map-same : (g h : FieldId → ℕ) → ((f : FieldId) → g f ≡ h f) → (fs : List FieldId) → map g fs ≡ map h fs
-map-same g h e [] = refl
-map-same g h e (f ∷ fs) = ap₂ (λ (x : ℕ) (xs : List ℕ). x ∷ xs) (e f) (map-same g h e fs)
 
 module _ (port : ℕ) (frame : List ℕ) (came : IsReceived port frame) where
   abbrev packet : List ℕ

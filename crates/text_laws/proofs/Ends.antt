@@ -161,7 +161,7 @@ closed_at_end : (brackets : List ℕ) → fold open_after brackets (up_to_end br
 unfolding up_to_end
 closed_at_end brackets h = h
 
-up_to_end-cons : (brackets : List ℕ) (c : ℕ) (cs : List ℕ) → ends_item brackets c ≡ false → up_to_end brackets (c ∷ cs) ≡ c ∷ up_to_end (open_after brackets c) cs
+pub up_to_end-cons : (brackets : List ℕ) (c : ℕ) (cs : List ℕ) → ends_item brackets c ≡ false → up_to_end brackets (c ∷ cs) ≡ c ∷ up_to_end (open_after brackets c) cs
 unfolding up_to_end
 up_to_end-cons brackets c cs e = rw e refl
 

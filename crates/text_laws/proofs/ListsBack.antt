@@ -25,7 +25,7 @@ use Rattle.text_laws.proofs.CommentLaws.{actions_of_text, read_actions-text}
 use Rattle.text_laws.proofs.SeparatorLaws.{list_of}
 use Rattle.text_laws.proofs.PlainValues.{IsPlain}
 use Rattle.text_laws.proofs.PlainPrinted.{actions_plain}
-use Rattle.text_laws.proofs.Ends.{items-cons, items-none, none_open_after, item_closed}
+use Rattle.text_laws.proofs.Ends.{up_to_end-cons, items-cons, items-none, none_open_after, item_closed}
 use Rattle.text_laws.proofs.ValuesBack.{ReadValues}
 use Rattle.text_laws.proofs.ItemTexts.{IsQuiet, AreClosing, is_quiet_character, quiet_after, decimal_quiet, name_quiet, item_at, slice_and_more}
 use Rattle.text_laws.proofs.ActionsBack.{action_back, value_quiet, set_spelled}
@@ -34,10 +34,6 @@ use Rattle.text_laws.proofs.ActionsBack.{action_back, value_quiet, set_spelled}
 abbrev stays : List ℕ → List ℕ → Bool
 stays brackets [] = true
 stays brackets (c ∷ cs) = not (ends_item brackets c) && stays (open_after brackets c) cs
-
-up_to_end-cons : (brackets : List ℕ) (c : ℕ) (cs : List ℕ) → ends_item brackets c ≡ false → up_to_end brackets (c ∷ cs) ≡ c ∷ up_to_end (open_after brackets c) cs
-unfolding up_to_end
-up_to_end-cons brackets c cs e = rw e refl
 
 up_to_end-none : (brackets : List ℕ) → up_to_end brackets [] ≡ []
 unfolding up_to_end

@@ -5,12 +5,8 @@ use Rattle.spec_board.specs.State.{Total}
 use Rattle.spec_board.specs.Effects.{credited}
 use Rattle.flow_stats.specs.declared.counts.Counts.{Counts}
 use Rattle.flow_stats.specs.Sums.{total_of, total_view, totals_view, IsRule, IsCountable}
-use Rattle.flow_stats.proofs.Credits.{with_more, countable_once, total_of-counts, credited-counts}
+use Rattle.flow_stats.proofs.Credits.{drop-visits, with_more, countable_once, total_of-counts, credited-counts}
 use Rattle.flow_stats.proofs.totals.credit_each.Goals as goal
-
--- the visits from a place on
-drop-visits : (visits : List ℕ) (i : ℕ) → i < length visits → drop i visits ≡ slice_index visits i ∷ drop (i + 1) visits
-drop-visits visits i within = drop-cons visits i 0 within ∙ ap (λ (k : ℕ). slice_index visits i ∷ drop k visits) (sym (add-one i))
 
 -- What holds before each visit: its number is that of a rule, and what it comes to can be counted.
 module _ (old counts : List Counts) (visits : List ℕ) (i packets bytes : ℕ) (within : i < length visits) (long : length counts ≡ length old)

@@ -6,12 +6,9 @@ use Rattle.spec_board.specs.Effects.{credited}
 use Rattle.spec_dumps.specs.declared.rule_counts.RuleCounts.{RuleCounts}
 use Rattle.flow_stats.specs.Sums.{total_of, IsRule}
 use Rattle.rule_sums.specs.Sums.{Fits, sum_view, sums_view}
-use Rattle.rule_sums.proofs.Adding.{with_more, fits_once, total_of-counts, credited-counts}
+use Rattle.flow_stats.proofs.Credits.{drop-visits, with_more}
+use Rattle.rule_sums.proofs.Adding.{fits_once, total_of-counts, credited-counts}
 use Rattle.rule_sums.proofs.sums.add_visits.Goals as goal
-
--- the visits from a place on
-drop-visits : (visits : List ℕ) (i : ℕ) → i < length visits → drop i visits ≡ slice_index visits i ∷ drop (i + 1) visits
-drop-visits visits i within = drop-cons visits i 0 within ∙ ap (λ (k : ℕ). slice_index visits i ∷ drop k visits) (sym (add-one i))
 
 -- What holds before each visit: its number is that of a rule, and what it comes to can be counted.
 module _ (old counts : List RuleCounts) (visits : List ℕ) (i packets bytes : ℕ) (within : i < length visits) (long : length counts ≡ length old)
