@@ -12,7 +12,6 @@ use Rattle.std.proofs.lemmas.List.Sums.{take_while-cons}
 use Rattle.spec_tables.specs.declared.edit_word.EditWord.{EditWord}
 use Rattle.spec_numbers.specs.Characters.{comma, number_sign}
 use Rattle.spec_numbers.specs.Numbers.{strip_prefix}
-use Rattle.spec_flow_text.specs.declared.part.Part.{Part}
 use Rattle.spec_flow_text.specs.declared.fault.TextFault.{TextFault}
 use Rattle.spec_flow_text.specs.declared.fault.TextFault.TheVariants as fault
 use Rattle.spec_flow_text.specs.Items.{Word, is_separator, words, up_to_separator, Sofar, nothing_stated, list_start, Stated, read_items, deletes}
@@ -24,8 +23,8 @@ use Rattle.text_laws.proofs.ItemTexts.{item_at}
 use Rattle.item_order_laws.specs.PlainItems.{begins_list, is_item}
 use Rattle.match_text_laws.proofs.WordsBack.{IsWhole, first_word}
 use Rattle.match_text_laws.proofs.LinesBack.{front_passes}
-use Rattle.round_trip_laws.proofs.PartsRead.{ReadRanges, IsStatable}
-use Rattle.round_trip_laws.proofs.LinesRead.{ok_chained, AreStatable, IsRead, items_read}
+use Rattle.round_trip_laws.proofs.PartsRead.{ReadRanges}
+use Rattle.round_trip_laws.proofs.LinesRead.{ok_chained, IsRead, items_read}
 use Rattle.round_trip_laws.proofs.Gathered.{follow_apart}
 use Rattle.round_trip_laws.proofs.ReadSpelled.{all_of}
 use Rattle.item_order_laws.proofs.SwappedParts.{kept_swapped}
