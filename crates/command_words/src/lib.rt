@@ -3,7 +3,7 @@
 //! # What?
 //!
 //! `read_command` says what the words after the program's name ask for: how many workers, how many megaflows a port may
-//! have, and what is run.
+//! have, and what is run. `read_port_number` reads the number of a port by itself, for whoever has ports in other words.
 //!
 //! # What is promised
 //!
@@ -24,5 +24,5 @@ mod parsing;
 mod ports;
 mod reading;
 
-pub use ports::PortWord;
+pub use ports::{PortWord, read_port_number};
 pub use reading::{Command, Input, read_command};

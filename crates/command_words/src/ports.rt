@@ -17,8 +17,9 @@ pub struct PortWord<'a> {
     pub file: &'a str,
 }
 
+/// The number of a port: decimal digits without leading zeros, from 1 to 65,279.
 #[tactic(auto, unfolding(spec_words::specs::Words::port_number))]
-fn read_port_number(text: &[u8]) -> Option<u16>
+pub fn read_port_number(text: &[u8]) -> Option<u16>
     ensures { result ≡ port_number text.now }
 {
     let number = read_decimal(text, u128::from(LAST_PORT))?;

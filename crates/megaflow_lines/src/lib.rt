@@ -4,7 +4,8 @@
 //!
 //! A dump of megaflows has a line for each: its port and number, the version of the tables that its actions are of, what it
 //! decided and what of that its rules are still due, when it was last used, the rules that its translation visited, its
-//! match and its actions. `push_megaflow` adds such a line, with a line feed, to a string.
+//! match and its actions. `push_megaflow` adds such a line, with a line feed, to a string, and `print_megaflow_match` the match
+//! alone.
 //!
 //! # What is promised
 //!
@@ -31,3 +32,4 @@ mod times;
 mod visits;
 
 pub use lines::push_megaflow;
+pub use matches::print_megaflow_match;

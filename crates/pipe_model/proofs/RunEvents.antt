@@ -5,7 +5,7 @@ use Rattle.std.proofs.lemmas.List.Sums.{fold-append}
 use Rattle.spec_actions.specs.declared.action.OfAction.{OfAction}
 use Rattle.spec_actions.specs.declared.action.OfAction.TheVariants.{Output, OutputField, InPort, All, Flood, Resubmit, Goto, Set, Move, DecTtl, PushVlan, PopVlan, SetVid, SetPcp}
 use Rattle.spec_tables.specs.Rules.{Rule, winner}
-use Rattle.spec_xlate.specs.Translation.{Switch, State, Mode, act, look, with_lookups_left}
+use Rattle.spec_xlate.specs.Translation.{Switch, State, Mode, deepest, act, look, with_lookups_left}
 use Rattle.spec_xlate.specs.Translation.Mode.{Going, ListEnded, Stopped}
 use Rattle.pipe_model.specs.Events.{Event, act_events, in_mode_events, run_events, while_going_events, follow_events, enter_events, look_events}
 use Rattle.pipe_model.specs.Events.Event.{Looked, Acted}
@@ -77,26 +77,26 @@ module _ {N : Type 0} (after : N → Event → N) (sw : Switch) (depths table : 
       by_depths : (d : ℕ) → (d ≡ 0) ⊎ (s.lookups_left ≡ 0) → n ≡ fold after n (look_events sw d table s)
       by_depths zero h = refl
       by_depths (suc d) (inl e) = absurd (omega arith)
-      by_depths (suc d) (inr e) = sym (ap (λ (l : ℕ). fold after n (enter_events sw (look sw d) (look_events sw d) table l s)) e)
+      by_depths (suc d) (inr e) = sym (ap (λ (l : ℕ). fold after n (enter_events sw (look sw d) (look_events sw d) (deepest - d) table l s)) e)
 
   look_events-one : (n : N) (s : State) (won : Option Rule) → 0 < depths → 0 < s.lookups_left → winner (sw.tables table) s.current ≡ won
       → fold after n (look_events sw depths table s)
-      ≡ fold after (after n (Looked table (sw.tables table) s.current)) (follow_events sw (look sw (depths - 1)) (look_events sw (depths - 1)) won (with_lookups_left (s.lookups_left - 1) s))
+      ≡ fold after (after n (Looked (deepest - (depths - 1)) table (sw.tables table) s.current)) (follow_events sw (look sw (depths - 1)) (look_events sw (depths - 1)) won (with_lookups_left (s.lookups_left - 1) s))
   unfolding look_events
   look_events-one n s won deep left wins =
       ap (λ (d : ℕ). fold after n (look_events sw d table s)) (before depths deep)
-      ∙ ap (λ (l : ℕ). fold after n (enter_events sw (look sw (depths - 1)) (look_events sw (depths - 1)) table l s)) (before s.lookups_left left)
-      ∙ ap (λ (w : Option Rule). fold after (after n (Looked table (sw.tables table) s.current)) (follow_events sw (look sw (depths - 1)) (look_events sw (depths - 1)) w (with_lookups_left (s.lookups_left - 1) s))) wins
+      ∙ ap (λ (l : ℕ). fold after n (enter_events sw (look sw (depths - 1)) (look_events sw (depths - 1)) (deepest - (depths - 1)) table l s)) (before s.lookups_left left)
+      ∙ ap (λ (w : Option Rule). fold after (after n (Looked (deepest - (depths - 1)) table (sw.tables table) s.current)) (follow_events sw (look sw (depths - 1)) (look_events sw (depths - 1)) w (with_lookups_left (s.lookups_left - 1) s))) wins
 
   -- no rule was found
   pub look_events-nothing : (n n' : N) (s : State) → 0 < depths → 0 < s.lookups_left → winner (sw.tables table) s.current ≡ None
-      → n' ≡ after n (Looked table (sw.tables table) s.current) → n' ≡ fold after n (look_events sw depths table s)
+      → n' ≡ after n (Looked (deepest - (depths - 1)) table (sw.tables table) s.current) → n' ≡ fold after n (look_events sw depths table s)
   look_events-nothing n n' s deep left wins noted = noted ∙ sym (look_events-one n s None deep left wins)
 
   -- a rule was found and visited, and its actions were run
   pub look_events-found : (n n' n'' : N) (s : State) (r : Rule) (number : ℕ) (actions : List OfAction) (u : State) → 0 < depths → 0 < s.lookups_left
       → winner (sw.tables table) s.current ≡ Some r → r.number ≡ number → r.actions ≡ actions → u ≡ visiting number (with_lookups_left (s.lookups_left - 1) s)
-      → n' ≡ after n (Looked table (sw.tables table) s.current) → n'' ≡ fold after n' (run_events sw (look sw (depths - 1)) (look_events sw (depths - 1)) actions u)
+      → n' ≡ after n (Looked (deepest - (depths - 1)) table (sw.tables table) s.current) → n'' ≡ fold after n' (run_events sw (look sw (depths - 1)) (look_events sw (depths - 1)) actions u)
       → n'' ≡ fold after n (look_events sw depths table s)
   look_events-found n n' n'' s r number actions u deep left wins its_number its_actions seen noted ran =
       ran

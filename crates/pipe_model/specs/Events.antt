@@ -1,14 +1,15 @@
 -- What a translation does step by step, in the order of its states: what whoever watches it is told.
-use Rattle.std.specs.Prelude.{ℕ, zero, suc, ◌+◌, List, [], ◌∷◌, ◌++◌, Option, Some, None}
+use Rattle.std.specs.Prelude.{ℕ, zero, suc, ◌+◌, ◌-◌, List, [], ◌∷◌, ◌++◌, Option, Some, None}
 use Rattle.spec_actions.specs.declared.action.OfAction.{OfAction}
 use Rattle.spec_actions.specs.declared.action.OfAction.TheVariants.{Output, OutputField, InPort, All, Flood, Resubmit, Goto, Set, Move, DecTtl, PushVlan, PopVlan, SetVid, SetPcp}
 use Rattle.spec_tables.specs.Rules.{Rule, winner}
 use Rattle.spec_xlate.specs.Translation.{Switch, State, Mode, deepest, act, visited, with_lookups_left, look, start}
 use Rattle.spec_xlate.specs.Translation.Mode.{Going, ListEnded, Stopped}
 
--- a lookup for a key among the rules of a table, or an action on a packet of a key that leads to no lookup
+-- a lookup at a depth, that of the first being 0, for a key among the rules of a table, or an action on a packet of a key
+-- that leads to no lookup
 pub data Event : Type 0 where
-  Looked : (table : ℕ) → (rules : List Rule) → (key : List ℕ) → Event
+  Looked : (depth table : ℕ) → (rules : List Rule) → (key : List ℕ) → Event
   Acted : (action : OfAction) → (key : List ℕ) → Event
 
 -- what happens in one action; sub is what happens in a lookup in a table, one deeper than the action
@@ -46,15 +47,15 @@ abbrev pub follow_events : Switch → (ℕ → State → State) → (ℕ → Sta
 follow_events sw sub events None s = []
 follow_events sw sub events (Some r) s = run_events sw sub events r.actions (visited r s)
 
-abbrev pub enter_events : Switch → (ℕ → State → State) → (ℕ → State → List Event) → ℕ → ℕ → State → List Event
-enter_events sw sub events table zero s = []
-enter_events sw sub events table (suc n) s =
-    Looked table (sw.tables table) s.current ∷ follow_events sw sub events (winner (sw.tables table) s.current) (with_lookups_left n s)
+abbrev pub enter_events : Switch → (ℕ → State → State) → (ℕ → State → List Event) → ℕ → ℕ → ℕ → State → List Event
+enter_events sw sub events depth table zero s = []
+enter_events sw sub events depth table (suc n) s =
+    Looked depth table (sw.tables table) s.current ∷ follow_events sw sub events (winner (sw.tables table) s.current) (with_lookups_left n s)
 
 -- what happens in a lookup at a depth below which so many are left, and in all that it leads to
 unfoldable pub look_events : Switch → ℕ → ℕ → State → List Event
 look_events sw zero table s = []
-look_events sw (suc depths) table s = enter_events sw (look sw depths) (look_events sw depths) table s.lookups_left s
+look_events sw (suc depths) table s = enter_events sw (look sw depths) (look_events sw depths) (deepest - depths) table s.lookups_left s
 
 -- what happens in the translation of a packet of this key
 unfoldable pub events_of : Switch → List ℕ → List Event

@@ -1,7 +1,7 @@
 //! The run of a packet through the tables: lookups and the actions that they lead to, which may lead to further lookups.
-ghost use Rattle.std.specs.Prelude.{◌≡◌, fold, IfOk, OnOk, IsTrue};
+ghost use Rattle.std.specs.Prelude.{◌≡◌, ◌-◌, fold, IfOk, OnOk, IsTrue};
 ghost use Rattle.spec_actions.specs.Sound.{is_sound, AreSound};
-ghost use Rattle.spec_xlate.specs.Translation.{act, run, look, pipe};
+ghost use Rattle.spec_xlate.specs.Translation.{deepest, act, run, look, last_state, pipe};
 ghost use Rattle.ovs_fields.specs.Packed.{numbers};
 ghost use Rattle.pipe_model.specs.Events.{act_events, run_events, look_events, events_of};
 ghost use Rattle.pipe_model.specs.Plains.{translation_in};
@@ -61,6 +61,13 @@ fn run<L: Lookups>(
     Ok(())
 }
 
+/// The depth of a lookup below which so many are left; that of the first is 0.
+fn depth_above(depths: u32) -> u32
+    ensures { result ≡ deepest - depths }
+{
+    DEEPEST.saturating_sub(depths)
+}
+
 /// A lookup in a table, and all that it leads to. So many depths are left, its own among them.
 #[cycle(look)]
 fn look<L: Lookups>(
@@ -79,7 +86,7 @@ fn look<L: Lookups>(
         return Ok(());
     }
     state.take_lookup();
-    if let Some(found) = sw.find(table, state.current(), notes) {
+    if let Some(found) = sw.find(depth_above(depths - 1), table, state.current(), notes) {
         state.visit(found.number)?;
         run(state, notes, sw, found.actions, depths - 1)?;
         state.resume();
@@ -87,13 +94,41 @@ fn look<L: Lookups>(
     Ok(())
 }
 
-/// What a switch makes of a packet of this key. Each step of the way is noted.
+/// What comes of a translation, and the packet's key as it is then.
+#[derive(Debug, Drop)]
+pub struct Ended {
+    pub made: Plain,
+    pub key: Key,
+}
+
+/// Runs a packet of this key through a switch. Each step of the way is noted.
 ///
 /// A translation that passes a limit has no datapath actions: a lookup more than 64 deep, a 513th lookup, a 129th datapath
 /// action. Its visits and its notes stay.
 ///
 /// What `lists` hold is dropped, and their memory is used again: none is taken where what is made fits in what they have
 /// room for. A translation that passes a limit may need more. The only error is out of memory.
+pub fn run_through<L: Lookups>(
+    sw: &L,
+    lists: SpareLists,
+    key: &Key,
+    notes: &mut L::Notes,
+) -> Result<Ended, AllocError>
+    requires { L.can_run sw.now }
+    ensures translation { IfOk result (λ e. translation_in e.made ≡ pipe (L.switch sw.now) (numbers key.now)) }
+    ensures last { IfOk result (λ e. numbers e.key ≡ (last_state (L.switch sw.now) (numbers key.now)).current) }
+    ensures noted { OnOk result (L.noted notes.new ≡ fold L.after (L.noted notes.old) (events_of (L.switch sw.now) (numbers key.now))) }
+{
+    let mut state = Translating::start(lists, key);
+    look(&mut state, notes, sw, 0, DEEPEST + 1)?;
+    let last = *state.current();
+    Ok(Ended {
+        made: state.finish(),
+        key: last,
+    })
+}
+
+/// What a switch makes of a packet of this key: `run_through`, without the key at the end.
 pub fn translate_by<L: Lookups>(
     sw: &L,
     lists: SpareLists,
@@ -104,7 +139,6 @@ pub fn translate_by<L: Lookups>(
     ensures translation { IfOk result (λ p. translation_in p ≡ pipe (L.switch sw.now) (numbers key.now)) }
     ensures noted { OnOk result (L.noted notes.new ≡ fold L.after (L.noted notes.old) (events_of (L.switch sw.now) (numbers key.now))) }
 {
-    let mut state = Translating::start(lists, key);
-    look(&mut state, notes, sw, 0, DEEPEST + 1)?;
-    Ok(state.finish())
+    let ended = run_through(sw, lists, key, notes)?;
+    Ok(ended.made)
 }

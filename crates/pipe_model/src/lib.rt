@@ -20,7 +20,8 @@
 //!
 //! `translate_by` is the same run for every kind of lookup (`Lookups`): whoever finds the winning rule otherwise than by a
 //! scan, or wants to know what a translation looked at, gives that alone. It gives both lists of `pipe` too, and tells each
-//! lookup and each action to notes, in the order in which they happen (`specs/Events`). `plain` takes no notes.
+//! lookup with its depth and each action to notes, in the order in which they happen (`specs/Events`). `run_through` gives
+//! the packet's key at the end beside them. `plain` takes no notes.
 //!
 //! `Translated` is what comes of a translation whose notes are the bits that it consulted. It stands for every packet
 //! whose key agrees on these bits (`IsWildcardSound`, specs/Xlates.antt): that is for whoever makes one to show.
@@ -52,7 +53,7 @@ mod scanning;
 mod translated;
 mod translating;
 
-pub use interpreter::translate_by;
+pub use interpreter::{Ended, run_through, translate_by};
 pub use lists::{Plain, SpareLists, Visits};
 pub use lookups::{Found, Lookups};
 pub use scanning::plain;

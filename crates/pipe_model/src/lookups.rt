@@ -42,12 +42,18 @@ pub trait Lookups {
     fn ports(&self) -> &[u16]
         ensures { result.now ≡ (switch self.now).ports };
 
-    /// The rule that wins for a key in a table. The lookup is noted.
-    fn find<'a>(&'a self, table: u8, key: &Key, notes: &mut Self::Notes) -> Option<Found<'a>>
+    /// The rule that wins for a key in a table. The lookup is noted, with its depth; that of the first is 0.
+    fn find<'a>(
+        &'a self,
+        depth: u32,
+        table: u8,
+        key: &Key,
+        notes: &mut Self::Notes,
+    ) -> Option<Found<'a>>
         requires { can_run self.now }
         ensures winner { MatchOption result (winner ((switch self.now).tables table) (numbers key.now) ≡ None)
             (λ found. IsWinner ((switch self.now).tables table) (numbers key.now) found.number found.actions.now) }
-        ensures noted { noted notes.new ≡ after (noted notes.old) (Looked table ((switch self.now).tables table) (numbers key.now)) };
+        ensures noted { noted notes.new ≡ after (noted notes.old) (Looked depth table ((switch self.now).tables table) (numbers key.now)) };
 
     /// Notes an action on a packet of a key, before it is done.
     fn note(&self, action: OfAction, key: &Key, notes: &mut Self::Notes)

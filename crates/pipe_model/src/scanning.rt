@@ -39,7 +39,7 @@ impl Lookups for Scan<'_> {
         self.ports
     }
 
-    fn find<'a>(&'a self, table: u8, key: &Key, _notes: &mut ()) -> Option<Found<'a>> {
+    fn find<'a>(&'a self, _depth: u32, table: u8, key: &Key, _notes: &mut ()) -> Option<Found<'a>> {
         match self.rules.scan(self.version, table, key) {
             None => None,
             Some(number) => Some(Found {

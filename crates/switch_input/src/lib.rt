@@ -4,7 +4,7 @@
 //!
 //! The words of the command line name a file of edits, perhaps a steps file, and a trace for each port, or none; or they
 //! have a number that makes edits and traces. `read_inputs` reads the words, then the edits, the steps and the traces, from
-//! a shelf of files, up to the first that is refused.
+//! a shelf of files, up to the first that is refused. `read_edits` reads the edits alone, for whoever needs nothing else.
 //!
 //! # What is promised
 //!
@@ -55,5 +55,6 @@ mod sources;
 mod steps;
 
 pub use command_words::{Command, Input, PortWord};
+pub use edits::{EditsFile, read_edits};
 pub use inputs::{Inputs, read_inputs};
 pub use switch_refusals::{InputFault, InputRefusal};

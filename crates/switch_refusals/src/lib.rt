@@ -14,7 +14,7 @@
 //! # How
 //!
 //! A refusal lends the names that it tells from the words. Texts are printed piece by piece, up to the first at which
-//! the sink fails, so that why a run was refused can be told without memory. Digits are those of `itoa`.
+//! the sink fails (`say_pieces`), so that why a run was refused can be told without memory. Digits are those of `itoa`.
 //!
 //! # What is left to others
 //!
@@ -29,7 +29,7 @@ mod status;
 
 pub use limits::{MOST_CHANGES, MOST_EDITS_BYTES, MOST_FRAMES, MOST_STEPS_BYTES, MOST_TRACE_BYTES};
 pub use refusal::{InputFault, InputRefusal};
-pub use say::{say_input_refusal, say_out_of_memory, say_write_fault};
+pub use say::{say_input_refusal, say_out_of_memory, say_pieces, say_write_fault};
 pub use status::{
     DONE, LIMIT, OUT_OF_MEMORY, READ_FAULT, TEXT, TRACE, USAGE, WRITE_FAULT, input_status,
 };

@@ -16,8 +16,8 @@ use spec_run::Quantity;
 use spec_script::ScriptFault;
 use spec_steps::StepsFault;
 
-// Prints texts, one after the other, up to the first at which the sink fails.
-fn say_pieces<K: Sink>(say: &mut K, pieces: &[&str])
+/// Prints texts, one after the other, up to the first at which the sink fails. It takes no memory.
+pub fn say_pieces<K: Sink>(say: &mut K, pieces: &[&str])
     ensures { IsTrue K.tells → Prints K.needs_memory (K.faults say.old) (K.faults say.new) (K.written say.old)
         (K.written say.new) (joined pieces.now) }
 {

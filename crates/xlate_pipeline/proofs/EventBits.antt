@@ -1,10 +1,10 @@
 -- What all steps of a translation consult: the bits of the definition.
-use Rattle.std.proofs.Common.{◌≡◌, ℕ, zero, suc, List, [], ◌∷◌, fold, Option, Some, None, refl, sym, ap, ◌∙◌}
+use Rattle.std.proofs.Common.{◌≡◌, ℕ, zero, suc, ◌-◌, List, [], ◌∷◌, fold, Option, Some, None, refl, sym, ap, ◌∙◌}
 use Rattle.std.proofs.lemmas.List.Sums.{fold-append}
 use Rattle.spec_actions.specs.declared.action.OfAction.{OfAction}
 use Rattle.spec_actions.specs.declared.action.OfAction.TheVariants.{Output, OutputField, InPort, All, Flood, Resubmit, Goto, Set, Move, DecTtl, PushVlan, PopVlan, SetVid, SetPcp}
 use Rattle.spec_tables.specs.Rules.{Rule, winner}
-use Rattle.spec_xlate.specs.Translation.{Switch, State, Mode, act, visited, with_lookups_left, look}
+use Rattle.spec_xlate.specs.Translation.{Switch, State, Mode, deepest, act, visited, with_lookups_left, look}
 use Rattle.spec_xlate.specs.Translation.Mode.{Going, ListEnded, Stopped}
 use Rattle.spec_xlate.specs.Lookup.{added, consults}
 use Rattle.spec_xlate.specs.Consulted.{act_bits, in_mode_bits, while_going_bits, run_bits, follow_bits, enter_bits, look_bits}
@@ -55,9 +55,9 @@ module _ (sw : Switch) (sub : ℕ → State → State) (events : ℕ → State �
   follow-consults None m s = refl
   follow-consults (Some r) m s = run-consults r.actions m (visited r s)
 
-  enter-consults : (table left : ℕ) → Consult (enter_events sw sub events table left) (enter_bits sw sub bits table left)
-  enter-consults table zero m s = refl
-  enter-consults table (suc left) m s =
+  enter-consults : (depth table left : ℕ) → Consult (enter_events sw sub events depth table left) (enter_bits sw sub bits table left)
+  enter-consults depth table zero m s = refl
+  enter-consults depth table (suc left) m s =
       let looked = consults (sw.tables table) s.current in
       let won = winner (sw.tables table) s.current in
       follow-consults won (added m looked) (with_lookups_left left s)
@@ -67,4 +67,4 @@ module _ (sw : Switch) (sub : ℕ → State → State) (events : ℕ → State �
 pub look-consults : (sw : Switch) (depths table : ℕ) → Consult (look_events sw depths table) (look_bits sw depths table)
 unfolding look_events look_bits
 look-consults sw zero table m s = refl
-look-consults sw (suc depths) table m s = enter-consults sw (look sw depths) (look_events sw depths) (look_bits sw depths) (look-consults sw depths) table s.lookups_left m s
+look-consults sw (suc depths) table m s = enter-consults sw (look sw depths) (look_events sw depths) (look_bits sw depths) (look-consults sw depths) (deepest - depths) table s.lookups_left m s

@@ -16,7 +16,7 @@ abbrev pub step_bits : OfAction → List ℕ → List (List ℕ)
 step_bits action key = act_bits no_lookup action (start key)
 
 abbrev pub event_bits : Event → List (List ℕ)
-event_bits (Looked table rules key) = consults rules key
+event_bits (Looked depth table rules key) = consults rules key
 event_bits (Acted action key) = step_bits action key
 
 -- a mask with what an event consults added

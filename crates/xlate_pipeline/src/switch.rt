@@ -33,7 +33,7 @@ impl Lookups for Switch<'_> {
         self.ports
     }
 
-    fn find<'a>(&'a self, table: u8, key: &Key, mask: &mut Mask) -> Option<Found<'a>> {
+    fn find<'a>(&'a self, _depth: u32, table: u8, key: &Key, mask: &mut Mask) -> Option<Found<'a>> {
         match self.tables.look(table, key, mask) {
             None => None,
             Some(number) => Some(Found {

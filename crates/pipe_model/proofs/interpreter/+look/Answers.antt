@@ -1,4 +1,4 @@
-use Rattle.std.proofs.Common.{◌≡◌, ◌<◌, ℕ, List, fold, None, sym, ap, ◌∙◌, subst, arith, inl, inr}
+use Rattle.std.proofs.Common.{◌≡◌, ◌<◌, ℕ, List, fold, None, sym, ap, ap₂, ◌∙◌, subst, arith, inl, inr}
 use Rattle.std.proofs.lemmas.Bool.{false≢true}
 use Rattle.std.proofs.lemmas.Result.{on_ok_weaker}
 use Rattle.spec_tables.specs.Rules.{winner}
@@ -119,7 +119,7 @@ look-returns-in_default-clause-noted g t c =
     let same = c.current.ensures ∙ ap (λ (s : State). s.current) c.take_lookup.ensures in
     look_events-nothing g.L.Lookups.after sw c.args.depths c.args.table n (g.L.Lookups.noted c.find.new.notes) (state_of c.args.state.now) deep left
     (subst (λ (key : List ℕ). winner (sw.tables c.args.table) key ≡ None) same c.in_default.ensures.winner)
-    (c.in_default.ensures.noted ∙ ap (λ (key : List ℕ). g.L.Lookups.after n (Looked c.args.table (sw.tables c.args.table) key)) same)
+    (c.in_default.ensures.noted ∙ ap₂ (λ (depth : ℕ) (key : List ℕ). g.L.Lookups.after n (Looked depth c.args.table (sw.tables c.args.table) key)) c.depth_above.ensures same)
 
 pub look-returns-in_ok-run-clause-state : goal.look-returns-in_ok-run-clause-state
 look-returns-in_ok-run-clause-state g t c =
@@ -144,4 +144,4 @@ look-returns-in_ok-run-clause-noted g t c =
     let won = subst (λ (key : List ℕ). IsWinner (sw.tables c.args.table) key found.number found.actions.now) same c.in-Some.ensures.winner in
     look_events-found g.L.Lookups.after sw c.args.depths c.args.table n (g.L.Lookups.noted c.find.new.notes) (g.L.Lookups.noted c.run.new.notes) (state_of c.args.state.now) won.rule found.number found.actions.now
     (state_of c.visit.new.self) deep left won.wins won.its_number won.its_actions (c.in_ok-visit.ensures ∙ ap (visiting found.number) c.take_lookup.ensures)
-    (c.in-Some.ensures.noted ∙ ap (λ (key : List ℕ). g.L.Lookups.after n (Looked c.args.table (sw.tables c.args.table) key)) same) c.in_ok-run.ensures.noted
+    (c.in-Some.ensures.noted ∙ ap₂ (λ (depth : ℕ) (key : List ℕ). g.L.Lookups.after n (Looked depth c.args.table (sw.tables c.args.table) key)) c.depth_above.ensures same) c.in_ok-run.ensures.noted
