@@ -1,8 +1,11 @@
 pub mod EntryLaws
 pub mod FindLaws
+pub mod HitLaws
 pub mod LiveLaws
 pub mod OverlapLaws
+pub mod OrderLaws
 pub mod OverlappingLaws
+pub mod RankLaws
 pub mod RisingLaws
 pub mod SoundLaws
 pub mod StepLaws

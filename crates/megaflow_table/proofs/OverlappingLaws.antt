@@ -203,8 +203,8 @@ module _ (look : ℕ → Option Entry) (key mask : List ℕ) where
             )
 
     -- what stands at a place is an entry's
-    held : HasDistinctKeys t.1 → (j : ℕ) (k : Key) (n : ℕ) → slice_get t.1.entries j ≡ Some (k, n) → (e : Entry) × (look n ≡ Some e) × (bits e.mask ≡ bits t.0) × (numbers k ≡ masked_key e)
-    held keys j k n at = filled.named (numbers k) n (lookup_from_place (same_equivalence (λ (k : Key). numbers k)) t.1.entries j k n keys at)
+    held : HasDistinctKeys t.1 → (j : ℕ) (k : Key) (n : ℕ) → slice_get t.1.numbers.entries j ≡ Some (k, n) → (e : Entry) × (look n ≡ Some e) × (bits e.mask ≡ bits t.0) × (numbers k ≡ masked_key e)
+    held keys j k n at = filled.named (numbers k) n (lookup_from_place (same_equivalence (λ (k : Key). numbers k)) t.1.numbers.entries j k n keys at)
 
     -- the test by the masked key of an entry is that by the entry
     tested : (k : Key) (e : Entry) → bits e.mask ≡ bits t.0 → numbers k ≡ masked_key e → agree key (numbers k) (common_bits mask (bits t.0)) ≡ overlaps key mask e
@@ -212,16 +212,16 @@ module _ (look : ℕ → Option Entry) (key mask : List ℕ) where
         ap₂ (λ (a m : List ℕ). agree key a (common_bits mask m)) is (sym of)
         ∙ ap (same (masked key (common_bits mask (bits e.mask)))) (masked_common (numbers e.key) mask (bits e.mask))
 
-    scanned : HasDistinctKeys t.1 → AreOf (λ m. m ≡ bits t.0) (agreeing key (common_bits mask (bits t.0)) t.1.entries)
+    scanned : HasDistinctKeys t.1 → AreOf (λ m. m ≡ bits t.0) (agreeing key (common_bits mask (bits t.0)) t.1.numbers.entries)
     scanned keys = record {
       sound = λ n is_in.
-          let place = passing_place passes n t.1.entries is_in in
+          let place = passing_place passes n t.1.numbers.entries is_in in
           let there = held keys place.0 place.1 n place.2 in
           (there.0, there.1, there.2, sym (tested place.1 there.0 there.2 there.3) ∙ place.3);
       whole = λ n e is of holds.
-          let place = place_from_lookup (λ (k : Key). same (masked_key e) (numbers k)) t.1.entries n (filled.indexed n e is of) in
-          passing_at passes n t.1.entries place.0 place.1 place.2 (tested place.1 e of (sym (equal_from_same (masked_key e) (numbers place.1) place.3)) ∙ holds);
-      distinct = distinct_passing look passes t.1.entries keys (λ j k n at. let there = held keys j k n at in (there.0, there.1, there.3));
+          let place = place_from_lookup (λ (k : Key). same (masked_key e) (numbers k)) t.1.numbers.entries n (filled.indexed n e is of) in
+          passing_at passes n t.1.numbers.entries place.0 place.1 place.2 (tested place.1 e of (sym (equal_from_same (masked_key e) (numbers place.1) place.3)) ∙ holds);
+      distinct = distinct_passing look passes t.1.numbers.entries keys (λ j k n at. let there = held keys j k n at in (there.0, there.1, there.3));
     }
       where
         passes : Key → Bool
@@ -232,7 +232,7 @@ module _ (look : ℕ → Option Entry) (key mask : List ℕ) where
     one_of is_scanned = at (covers mask (bits t.0)) refl
       where
         at : (b : Bool) → covers mask (bits t.0) ≡ b
-            → AreOf (λ m. m ≡ bits t.0) (cond b (option_to_list (number_in t.1 (masked key (bits t.0)))) (agreeing key (common_bits mask (bits t.0)) t.1.entries))
+            → AreOf (λ m. m ≡ bits t.0) (cond b (option_to_list (number_in t.1 (masked key (bits t.0)))) (agreeing key (common_bits mask (bits t.0)) t.1.numbers.entries))
         at true covered = probed covered (number_in t.1 (masked key (bits t.0))) refl
         at false other = scanned (is_scanned other)
 

@@ -1,5 +1,5 @@
 -- What each call that changes the table leaves.
-use Rattle.std.proofs.Common.{◌≡◌, ℕ, ◌<◌, ◌≤◌, cond, ◌==◌, List, [], ◌∷◌, ◌++◌, false, nat_eq, Option, Some, None, sym, ap, subst, ◌∙◌, arith}
+use Rattle.std.proofs.Common.{◌≡◌, ℕ, ◌<◌, ◌≤◌, cond, ◌==◌, List, [], ◌∷◌, ◌++◌, false, nat_eq, Option, Some, None, refl, sym, ap, subst, ◌∙◌, arith}
 use Rattle.std.specs.Prelude.{is_some, All, IsSome, filter, not, vec_len, vec_capacity}
 use Rattle.std.specs.Option.{option_map}
 use Rattle.std.specs.Map.{lookup}
@@ -10,10 +10,12 @@ use Rattle.ovs_fields.specs.Packed.{numbers, bits}
 use Rattle.megaflow_table.specs.declared.entry.Entry.{Entry}
 use Rattle.megaflow_table.specs.declared.megaflows.Megaflows.TheInside.{Inside}
 use Rattle.megaflow_table.specs.Entries.{Flows, overlaps, without}
-use Rattle.megaflow_table.specs.Subtables.{HasRoomUnder, IsFresh, KeepsRoom, KeepsNumbers, ChangesOnly, subtable_of, number_under}
+use Rattle.megaflow_table.specs.Order.{AddsMask}
+use Rattle.megaflow_table.specs.Subtables.{Subtables, HasRoomUnder, HasNumbers, IsFresh, IsRanked, KeepsRoom, KeepsNumbers, ChangesOnly, subtable_of, number_under, order_of}
 use Rattle.megaflow_table.specs.Live.{IsIn}
 use Rattle.megaflow_table.specs.Parts.{IsConsistent, IsTable, masked_key, entries_by, look_in, flows_in}
 use Rattle.megaflow_table.proofs.EntryLaws.{all_by}
+use Rattle.megaflow_table.proofs.OrderLaws.{kept_used, added_used, same_ranked}
 use Rattle.megaflow_table.proofs.SoundLaws.{removed_sound, removed_entries, added_sound, added_entries}
 
 moved_sound : (live live' : List ℕ) (look look' : ℕ → Option Entry) (under under' : List ℕ → List ℕ → Option ℕ) → live' ≡ live → ((n : ℕ) → look' n ≡ look n) → ((m k : List ℕ) → under' m k ≡ under m k)
@@ -32,6 +34,7 @@ pub record IsGrown (a b : Inside) : Type 0 where
   pub entries : b.entries.entries ≡ a.entries.entries
   pub entries_room : spare a.entries ≤ spare b.entries
   pub subtables : KeepsNumbers a.subtables b.subtables
+  pub order : order_of b.subtables ≡ order_of a.subtables
   pub has_fresh : IsSome a.fresh → IsSome b.fresh
   pub fresh : IsFresh b.fresh
 
@@ -52,6 +55,8 @@ module _ (a b : Inside) (table : IsTable a) (grown : IsGrown a b) where
       fresh = grown.has_fresh before.fresh;
     };
     fresh = grown.fresh;
+    used = kept_used a.subtables b.subtables grown.subtables table.used;
+    ranked = same_ranked a.subtables b.subtables grown.order table.ranked;
   }
 
   pub ready_table : (mask : Mask) → b.room ≡ Some mask → 0 < spare b.entries → vec_len b.live < vec_capacity b.live → 0 < spare b.subtables
@@ -66,7 +71,27 @@ module _ (a b : Inside) (table : IsTable a) (grown : IsGrown a b) where
       fresh = fresh;
     };
     fresh = grown.fresh;
+    used = kept_used a.subtables b.subtables grown.subtables table.used;
+    ranked = same_ranked a.subtables b.subtables grown.order table.ranked;
   }
+
+-- ---- one more hit
+
+pub counted_table : (a : Inside) (subtables : Subtables) → IsTable a → KeepsNumbers a.subtables subtables → IsRanked subtables → IsTable (record a { subtables = subtables })
+counted_table a subtables table keeps ranked = record {
+  consistent =
+      moved_sound a.live.items a.live.items (look_in a) (look_in a) (number_under a.subtables) (number_under subtables) refl (λ n. refl) keeps.numbers table.consistent;
+  room = λ mask is. let before = table.room mask is in record {
+    entries = before.entries;
+    live = before.live;
+    subtables = omega (arith, before.subtables, keeps.room.subtables);
+    subtable = λ subtable at. let was = keeps.room.within mask subtable at in let roomy = before.subtable was.0 was.1 in omega (arith, roomy, was.2);
+    fresh = before.fresh;
+  };
+  fresh = table.fresh;
+  used = kept_used a.subtables subtables keeps table.used;
+  ranked = ranked;
+}
 
 -- ---- one less
 
@@ -79,6 +104,8 @@ pub record IsLess (a b : Inside) (number : ℕ) (e : Entry) : Type 0 where
   pub entries_room : spare a.entries ≤ spare b.entries
   pub changes : ChangesOnly a.subtables b.subtables (bits e.mask) (masked_key e) None
   pub subtables_room : KeepsRoom a.subtables b.subtables
+  pub used : HasNumbers b.subtables
+  pub ranked : IsRanked b.subtables
   pub fresh : b.fresh ≡ a.fresh
   pub room : b.room ≡ a.room
   pub limit : b.limit ≡ a.limit
@@ -96,12 +123,14 @@ module _ (a b : Inside) (number : ℕ) (e : Entry) (table : IsTable a) (less : I
       fresh = ap is_some less.fresh ∙ before.fresh;
     };
     fresh = λ subtable is. table.fresh subtable (sym less.fresh ∙ is);
+    used = less.used;
+    ranked = less.ranked;
   }
 
-  pub less_flows : (flows : Flows) → flows_in a ≡ flows → flows_in b ≡ record flows { entries = without number flows.entries }
+  pub less_flows : (flows : Flows) → flows_in a ≡ flows → flows_in b ≡ record flows { entries = without number flows.entries; order = order_of b.subtables }
   less_flows flows view =
-      (λ i. record { limit = less.limit i; entries = listed i; room = option_map (λ m. bits m) (less.room i) })
-      ∙ ap (λ (f : Flows). record f { entries = without number f.entries }) view
+      (λ i. record { limit = less.limit i; entries = listed i; room = option_map (λ m. bits m) (less.room i); order = order_of b.subtables })
+      ∙ ap (λ (f : Flows). record f { entries = without number f.entries; order = order_of b.subtables }) view
     where
       listed : entries_by (look_in b) b.live.items ≡ without number (entries_by (look_in a) a.live.items)
       listed = ap (entries_by (look_in b)) less.items ∙ removed_entries (look_in a) (look_in b) number less.entries a.live.items table.consistent.found
@@ -113,6 +142,8 @@ pub record IsMore (a b : Inside) (e : Entry) : Type 0 where
   pub entries : (n : ℕ) → look_in b n ≡ cond (e.number == n) (Some e) (look_in a n)
   pub changes : ChangesOnly a.subtables b.subtables (bits e.mask) (masked_key e) (Some e.number)
   pub fresh : IsFresh b.fresh
+  pub order : AddsMask (bits e.mask) (order_of a.subtables) (order_of b.subtables)
+  pub ranked : IsRanked b.subtables
   pub room : b.room ≡ None
   pub limit : b.limit ≡ a.limit
 
@@ -124,12 +155,14 @@ module _ (a b : Inside) (e : Entry) (table : IsTable a) (more : IsMore a b e) (a
         (added_sound a.live.items (look_in a) (number_under a.subtables) table.consistent e above free (look_in b) more.entries (number_under b.subtables) more.changes);
     room = λ mask is. absurd (none-some mask (ap (option_map (λ m. bits m)) (sym more.room) ∙ is));
     fresh = more.fresh;
+    used = added_used a.subtables b.subtables (bits e.mask) (masked_key e) e.number more.changes more.order table.used;
+    ranked = more.ranked;
   }
 
-  pub more_flows : (flows : Flows) → flows_in a ≡ flows → flows_in b ≡ record flows { entries = flows.entries ++ e ∷ []; room = None }
+  pub more_flows : (flows : Flows) → flows_in a ≡ flows → flows_in b ≡ record flows { entries = flows.entries ++ e ∷ []; room = None; order = order_of b.subtables }
   more_flows flows view =
-      (λ i. record { limit = more.limit i; entries = listed i; room = option_map (λ m. bits m) (more.room i) })
-      ∙ ap (λ (f : Flows). record f { entries = f.entries ++ e ∷ []; room = None }) view
+      (λ i. record { limit = more.limit i; entries = listed i; room = option_map (λ m. bits m) (more.room i); order = order_of b.subtables })
+      ∙ ap (λ (f : Flows). record f { entries = f.entries ++ e ∷ []; room = None; order = order_of b.subtables }) view
     where
       listed : entries_by (look_in b) b.live.items ≡ entries_by (look_in a) a.live.items ++ e ∷ []
       listed = ap (entries_by (look_in b)) more.items ∙ added_entries a.live.items (look_in a) (number_under a.subtables) table.consistent e above free (look_in b) more.entries (number_under b.subtables) more.changes

@@ -49,15 +49,15 @@ module _ (old new : Subtables) (mask : List ℕ) (before after : Subtable) (at :
             ∙ sym (ap (λ (b : Bool). cond (b && same k key) number (number_under old m k)) fails)
       ]
 
-  pub put_room : spare old ≤ spare new → spare before ≤ spare after → KeepsRoom old new
+  pub put_room : spare old ≤ spare new → spare before.numbers ≤ spare after.numbers → KeepsRoom old new
   put_room subtables le = record { subtables = subtables; within = within }
     where
-      within : (m : List ℕ) (subtable : Subtable) → subtable_of new m ≡ Some subtable → (was : Subtable) × (subtable_of old m ≡ Some was) × (spare was ≤ spare subtable)
+      within : (m : List ℕ) (subtable : Subtable) → subtable_of new m ≡ Some subtable → (was : Subtable) × (subtable_of old m ≡ Some was) × (spare was.numbers ≤ spare subtable.numbers)
       within m subtable is =
           elim (cases_Bool (same m mask)) [
             | inl holds ↦
                 let equal : after ≡ subtable = same_Some after subtable (sym (cond-true (same m mask) (Some after) (subtable_of old m) holds) ∙ sym (put m) ∙ is) in
-                (before, ap (subtable_of old) (equal_from_same m mask holds) ∙ at, subst (λ (i : Subtable). spare before ≤ spare i) equal le)
+                (before, ap (subtable_of old) (equal_from_same m mask holds) ∙ at, subst (λ (i : Subtable). spare before.numbers ≤ spare i.numbers) equal le)
             | inr fails ↦ (subtable, sym (cond-false (same m mask) (Some after) (subtable_of old m) fails) ∙ sym (put m) ∙ is, omega arith)
           ]
 
@@ -95,8 +95,8 @@ nothing_to_remove old new mask key equal none m k =
 pub same_room : (old new : Subtables) → new ≡ old → KeepsRoom old new
 same_room old new equal = subst (λ (t : Subtables). KeepsRoom old t) (sym equal) (record { subtables = omega arith; within = λ m subtable is. (subtable, is, omega arith) })
 
--- an subtable with no numbers is taken out
-pub emptied_goes : (old new : Subtables) (mask : List ℕ) (subtable : Subtable) → subtable_of old mask ≡ Some subtable → subtable.entries ≡ [] → ((m : List ℕ) → subtable_of new m ≡ cond (same m mask) None (subtable_of old m))
+-- a subtable with no numbers is taken out
+pub emptied_goes : (old new : Subtables) (mask : List ℕ) (subtable : Subtable) → subtable_of old mask ≡ Some subtable → subtable.numbers.entries ≡ [] → ((m : List ℕ) → subtable_of new m ≡ cond (same m mask) None (subtable_of old m))
     → (m k : List ℕ) → number_under new m k ≡ number_under old m k
 emptied_goes old new mask subtable at empty gone m k =
     ap (option_and_then (λ (i : Subtable). number_in i k)) (gone m)
@@ -111,7 +111,7 @@ emptied_goes old new mask subtable at empty gone m k =
 pub gone_room : (old new : Subtables) (mask : List ℕ) → ((m : List ℕ) → subtable_of new m ≡ cond (same m mask) None (subtable_of old m)) → spare old ≤ spare new → KeepsRoom old new
 gone_room old new mask gone le = record { subtables = le; within = within }
   where
-    within : (m : List ℕ) (subtable : Subtable) → subtable_of new m ≡ Some subtable → (was : Subtable) × (subtable_of old m ≡ Some was) × (spare was ≤ spare subtable)
+    within : (m : List ℕ) (subtable : Subtable) → subtable_of new m ≡ Some subtable → (was : Subtable) × (subtable_of old m ≡ Some was) × (spare was.numbers ≤ spare subtable.numbers)
     within m subtable is =
         elim (cases_Bool (same m mask)) [
           | inl holds ↦ absurd (none-some subtable (sym (cond-true (same m mask) None (subtable_of old m) holds) ∙ sym (gone m) ∙ is))
@@ -127,8 +127,8 @@ joined_rooms a b c first second = record {
       (sooner.0, sooner.1, omega (arith, later.2, sooner.2));
 }
 
--- a new mask with an subtable of one number
-pub new_mask : (old new : Subtables) (mask key : List ℕ) (subtable : Subtable) (number : ℕ) → subtable_of old mask ≡ None → (fresh : Subtable) → fresh.entries ≡ [] → SubtableChangesOnly fresh subtable key (Some number)
+-- a new mask with a subtable of one number
+pub new_mask : (old new : Subtables) (mask key : List ℕ) (subtable : Subtable) (number : ℕ) → subtable_of old mask ≡ None → (fresh : Subtable) → fresh.numbers.entries ≡ [] → SubtableChangesOnly fresh subtable key (Some number)
     → ((m : List ℕ) → subtable_of new m ≡ cond (same m mask) (Some subtable) (subtable_of old m)) → ChangesOnly old new mask key (Some number)
 new_mask old new mask key subtable number none fresh empty changes put m k =
     ap (option_and_then (λ (i : Subtable). number_in i k)) (put m)
@@ -149,15 +149,12 @@ pub written_here : (old new : Subtables) (mask : Mask) (before after : Subtable)
 written_here old new mask before after at writes =
     written_at old new mask before after at writes (bits mask) ∙ cond-true (same (bits mask) (bits mask)) (Some after) (subtable_of old (bits mask)) (same_from_equal (bits mask) (bits mask) refl)
 
-pub no_entries : (subtable : Subtable) → length subtable.entries ≡ 0 → subtable.entries ≡ []
-no_entries subtable none = by subtable.entries none
-  where
-    by : (es : List (Key × ℕ)) → length es ≡ 0 → es ≡ []
-    by [] zero_long = refl
-    by (e ∷ es) more = absurd (omega arith)
+pub no_entries : (es : List (Key × ℕ)) → length es ≡ 0 → es ≡ []
+no_entries [] none = refl
+no_entries (e ∷ es) none = absurd (omega arith)
 
 pub kept_subtables : (old new : Subtables) (mask : Mask) (before after : Subtable) → subtable_of old (bits mask) ≡ Some before
-    → WritesThrough (λ (a b : Mask). same (bits a) (bits b)) (λ (r : Mask). same (bits mask) (bits r)) old after new → after.entries ≡ before.entries → spare before ≤ spare after → KeepsNumbers old new
+    → WritesThrough (λ (a b : Mask). same (bits a) (bits b)) (λ (r : Mask). same (bits mask) (bits r)) old after new → after.numbers.entries ≡ before.numbers.entries → spare before.numbers ≤ spare after.numbers → KeepsNumbers old new
 kept_subtables old new mask before after at writes entries le = record {
   room = put_room old new (bits mask) before after at (written_at old new mask before after at writes) (let spares = writes.6 in omega (arith, spares)) le;
   numbers = put_same old new (bits mask) before after at (written_at old new mask before after at writes) (λ k. ap (λ (es : List (Key × ℕ)). lookup (λ (q : Key). same k (numbers q)) es) entries);
@@ -166,14 +163,14 @@ kept_subtables old new mask before after at writes entries le = record {
 pub same_subtables : (old new : Subtables) → new ≡ old → KeepsNumbers old new
 same_subtables old new equal = record { room = same_room old new equal; numbers = λ m k. ap (λ (t : Subtables). number_under t m k) equal }
 
-pub kept_whole : (old new : Subtables) → new.entries ≡ old.entries → spare old ≤ spare new → KeepsNumbers old new
-kept_whole old new entries le = record {
+pub kept_found : (old new : Subtables) → ((m : List ℕ) → subtable_of new m ≡ subtable_of old m) → spare old ≤ spare new → KeepsNumbers old new
+kept_found old new found le = record {
   room = record { subtables = le; within = λ m subtable is. (subtable, sym (found m) ∙ is, omega arith) };
   numbers = λ m k. ap (option_and_then (λ (subtable : Subtable). number_in subtable k)) (found m);
 }
-  where
-    found : (m : List ℕ) → subtable_of new m ≡ subtable_of old m
-    found m = ap (λ (es : List (Mask × Subtable)). lookup (λ (q : Mask). same m (bits q)) es) entries
+
+pub kept_whole : (old new : Subtables) → new.entries ≡ old.entries → spare old ≤ spare new → KeepsNumbers old new
+kept_whole old new entries le = kept_found old new (λ m. ap (λ (es : List (Mask × Subtable)). lookup (λ (q : Mask). same m (bits q)) es) entries) le
 
 pub joined_subtables : (a b c : Subtables) → KeepsNumbers a b → KeepsNumbers b c → KeepsNumbers a c
 joined_subtables a b c first second = record { room = joined_rooms a b c first.room second.room; numbers = λ m k. second.numbers m k ∙ first.numbers m k }

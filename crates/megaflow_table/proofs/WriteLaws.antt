@@ -37,6 +37,8 @@ module _ (a : Inside) (number : ℕ) (e f : Entry) (entries : Entries) (table : 
       fresh = before.fresh;
     };
     fresh = table.fresh;
+    used = table.used;
+    ranked = table.ranked;
   }
 
   pub written_flows : (change : Entry → Entry) → f ≡ change e → (flows : Flows) → flows_in a ≡ flows

@@ -1,15 +1,17 @@
 -- What the megaflows of a port are seen as: entries in rising order of their numbers (NSDI 2015, section 4.2).
 use Rattle.std.specs.Prelude.{◌≡◌, ℕ, ◌+◌, ◌<◌, ◌^◌, ◌==◌, Bool, false, not, if◌then◌else◌, List, map, filter, Option, Some, slice_get}
-use Rattle.std.specs.List.{find}
-use Rattle.spec_keys.specs.Keys.{agree, overlap}
+use Rattle.std.specs.List.{find, list_any}
+use Rattle.spec_keys.specs.Keys.{agree, overlap, same}
 use Rattle.ovs_fields.specs.Packed.{numbers, bits}
 use Rattle.megaflow_table.specs.declared.entry.Entry.{Entry}
 
--- The flow limit, the entries and the mask for which there is room.
+-- The flow limit, the entries, the mask for which there is room, and the masks of the entries with their numbers of hits,
+-- in the order in which lookups probe them.
 pub record Flows : Type 0 where
   pub limit : ℕ
   pub entries : List Entry
   pub room : Option (List ℕ)
+  pub order : List (List ℕ × ℕ)
 
 -- whether an entry decides packets of this key
 abbrev pub covers : List ℕ → Entry → Bool
@@ -26,6 +28,10 @@ entry_of number entries = find (λ (e : Entry). e.number == number) entries
 -- the first entry that covers a key, which is the only one where none overlap
 abbrev pub covering : List ℕ → List Entry → Option Entry
 covering key entries = find (covers key) entries
+
+-- whether an entry has this mask
+abbrev pub has_mask : List ℕ → List Entry → Bool
+has_mask mask entries = list_any (λ (e : Entry). same mask (bits e.mask)) entries
 
 abbrev pub numbers_of : List Entry → List ℕ
 numbers_of entries = map (λ (e : Entry). e.number) entries

@@ -18,14 +18,14 @@ agreeing key mask es = values_of (filter (λ (e : Key × ℕ). agree key (number
 abbrev pub overlapping_in : List ℕ → List ℕ → Mask × Subtable → List ℕ
 overlapping_in key mask t =
     if covers mask (bits t.0) then option_to_list (number_in t.1 (masked key (bits t.0)))
-    else agreeing key (common_bits mask (bits t.0)) t.1.entries
+    else agreeing key (common_bits mask (bits t.0)) t.1.numbers.entries
 
 -- no two masks of the subtables are the same, and no two masked keys of one subtable
 abbrev pub HasDistinctMasks : Subtables → Type 0
 HasDistinctMasks subtables = IsUnique (λ (a b : Mask). same (bits a) (bits b)) subtables
 
 abbrev pub HasDistinctKeys : Subtable → Type 0
-HasDistinctKeys subtable = IsUnique (λ (a b : Key). same (numbers a) (numbers b)) subtable
+HasDistinctKeys subtable = IsUnique (λ (a b : Key). same (numbers a) (numbers b)) subtable.numbers
 
 -- a subtable that a probe doesn't decide has distinct keys
 abbrev pub IsScanned : List ℕ → Mask × Subtable → Type 0

@@ -9,7 +9,7 @@ use Rattle.megaflow_table.specs.declared.entry.Entry.{Entry}
 use Rattle.megaflow_table.specs.declared.megaflows.Megaflows.TheInside.{Inside}
 use Rattle.megaflow_table.specs.Entries.{Flows, overlaps}
 use Rattle.megaflow_table.specs.Live.{IsIn, IsRising}
-use Rattle.megaflow_table.specs.Subtables.{HasRoomUnder, IsFresh, number_under}
+use Rattle.megaflow_table.specs.Subtables.{HasRoomUnder, HasNumbers, IsFresh, IsRanked, number_under, order_of}
 
 -- the key of an entry under its mask
 abbrev pub masked_key : Entry → List ℕ
@@ -33,7 +33,7 @@ abbrev pub look_in : Inside → ℕ → Option Entry
 look_in a n = get nat_eq a.entries n
 
 abbrev pub flows_in : Inside → Flows
-flows_in a = record { limit = a.limit; entries = entries_by (look_in a) a.live.items; room = option_map (λ m. bits m) a.room }
+flows_in a = record { limit = a.limit; entries = entries_by (look_in a) a.live.items; room = option_map (λ m. bits m) a.room; order = order_of a.subtables }
 
 -- An entry of this mask can be installed without memory.
 pub record HasRoom (a : Inside) (mask : List ℕ) : Type 0 where
@@ -43,8 +43,11 @@ pub record HasRoom (a : Inside) (mask : List ℕ) : Type 0 where
   pub subtable : HasRoomUnder a.subtables mask
   pub fresh : IsSome a.fresh
 
--- The parts are consistent, and there is the room that the table says there is.
+-- The parts are consistent, no subtable is empty, they stand by their hits, and there is the room that the table says
+-- there is.
 pub record IsTable (a : Inside) : Type 0 where
   pub consistent : IsConsistent a.live.items (look_in a) (number_under a.subtables)
   pub room : (mask : List ℕ) → option_map (λ m. bits m) a.room ≡ Some mask → HasRoom a mask
   pub fresh : IsFresh a.fresh
+  pub used : HasNumbers a.subtables
+  pub ranked : IsRanked a.subtables

@@ -1,6 +1,7 @@
 -- Subtables: for each mask its entries' keys under it, and the number of the entry at each (NSDI 2015, section 4.2:
 -- a hash table for each mask).
-use Rattle.std.specs.Prelude.{◌≡◌, ℕ, ◌<◌, ◌≤◌, ◌&&◌, if◌then◌else◌, List, [], Option, Some}
+use Rattle.std.specs.Prelude.{◌≡◌, ℕ, ◌<◌, ◌≤◌, ◌&&◌, if◌then◌else◌, List, [], map, Option, Some, IsSome}
+use Rattle.std.specs.Map.{values_of}
 use Rattle.std.specs.Option.{option_and_then}
 use Rattle.std.specs.declared.hash.FoldHasher.{FoldHasher}
 use Rattle.std.specs.declared.hash.BuildHasherDefault.{BuildHasherDefault}
@@ -9,16 +10,15 @@ use Rattle.spec_keys.specs.Keys.{same}
 use Rattle.ovs_fields.specs.declared.key.Key.{Key}
 use Rattle.ovs_fields.specs.declared.mask.Mask.{Mask}
 use Rattle.ovs_fields.specs.Packed.{numbers, bits}
-
-abbrev pub Subtable : Type 0
-Subtable = IndexMap Key ℕ (BuildHasherDefault FoldHasher)
+pub use Rattle.megaflow_table.specs.declared.subtables.Subtable.{Subtable}
+use Rattle.megaflow_table.specs.Order.{Order, AreFalling}
 
 abbrev pub Subtables : Type 0
 Subtables = IndexMap Mask Subtable (BuildHasherDefault FoldHasher)
 
 -- the number that a subtable has for a masked key
 abbrev pub number_in : Subtable → List ℕ → Option ℕ
-number_in subtable key = get_by (λ (k : Key). same key (numbers k)) subtable
+number_in subtable key = get_by (λ (k : Key). same key (numbers k)) subtable.numbers
 
 -- the subtable of a mask
 abbrev pub subtable_of : Subtables → List ℕ → Option Subtable
@@ -27,6 +27,24 @@ subtable_of subtables mask = get_by (λ (m : Mask). same mask (bits m)) subtable
 -- the number for a masked key under its mask
 abbrev pub number_under : Subtables → List ℕ → List ℕ → Option ℕ
 number_under subtables mask key = option_and_then (λ (subtable : Subtable). number_in subtable key) (subtable_of subtables mask)
+
+-- the masks with their numbers of hits, in the order of the subtables
+abbrev pub ranks : List (Mask × Subtable) → Order
+ranks es = map (λ (t : Mask × Subtable). (bits t.0, t.1.hits)) es
+
+abbrev pub order_of : Subtables → Order
+order_of subtables = ranks subtables.entries
+
+-- no subtable has more hits than one before it
+abbrev pub IsRanked : Subtables → Type 0
+IsRanked subtables = AreFalling (values_of (order_of subtables))
+
+-- there is a number under this mask, and one under the mask of each subtable
+abbrev pub HasNumberUnder : Subtables → List ℕ → Type 0
+HasNumberUnder subtables mask = IsSome (subtable_of subtables mask) → (key : List ℕ) × (n : ℕ) × (number_under subtables mask key ≡ Some n)
+
+abbrev pub HasNumbers : Subtables → Type 0
+HasNumbers subtables = (mask : List ℕ) → HasNumberUnder subtables mask
 
 -- the numbers are the same but for that of one masked key, in one subtable and in all
 abbrev pub SubtableChangesOnly : Subtable → Subtable → List ℕ → Option ℕ → Type 0
@@ -38,22 +56,28 @@ ChangesOnly old new mask key number =
 
 -- one more number fits into the subtable of a mask, if there is one
 abbrev pub HasRoomUnder : Subtables → List ℕ → Type 0
-HasRoomUnder subtables mask = (subtable : Subtable) → subtable_of subtables mask ≡ Some subtable → 0 < spare subtable
+HasRoomUnder subtables mask = (subtable : Subtable) → subtable_of subtables mask ≡ Some subtable → 0 < spare subtable.numbers
 
 -- As many more masks fit as before, and as many more numbers into each subtable that is still there.
 pub record KeepsRoom (old new : Subtables) : Type 0 where
   pub subtables : spare old ≤ spare new
-  pub within : (m : List ℕ) (subtable : Subtable) → subtable_of new m ≡ Some subtable → (before : Subtable) × (subtable_of old m ≡ Some before) × (spare before ≤ spare subtable)
+  pub within : (m : List ℕ) (subtable : Subtable) → subtable_of new m ≡ Some subtable → (before : Subtable) × (subtable_of old m ≡ Some before) × (spare before.numbers ≤ spare subtable.numbers)
 
 -- The numbers stay as well.
 pub record KeepsNumbers (old new : Subtables) : Type 0 where
   pub room : KeepsRoom old new
   pub numbers : (m k : List ℕ) → number_under new m k ≡ number_under old m k
 
--- the fresh subtable, if there is one, is empty and has room for one number
+-- A subtable with no numbers and no hits, which has room for one number.
+pub record IsEmptyWithRoom (subtable : Subtable) : Type 0 where
+  pub numbers : subtable.numbers.entries ≡ []
+  pub room : 0 < spare subtable.numbers
+  pub hits : subtable.hits ≡ 0
+
+-- the fresh subtable, if there is one, is such a one
 abbrev pub IsFresh : Option Subtable → Type 0
-IsFresh fresh = (subtable : Subtable) → fresh ≡ Some subtable → (subtable.entries ≡ []) × (0 < spare subtable)
+IsFresh fresh = (subtable : Subtable) → fresh ≡ Some subtable → IsEmptyWithRoom subtable
 
 -- the subtable of a mask is there and has no numbers
 abbrev pub IsEmptied : Subtables → List ℕ → Type 0
-IsEmptied subtables mask = (subtable : Subtable) × (subtable_of subtables mask ≡ Some subtable) × (subtable.entries ≡ [])
+IsEmptied subtables mask = (subtable : Subtable) × (subtable_of subtables mask ≡ Some subtable) × (subtable.numbers.entries ≡ [])

@@ -9,12 +9,13 @@
 //!
 //! Megaflows have no priorities. Two of them *overlap* where some key is covered by both, and here none do: so the
 //! first one that covers a key is the only one, and a lookup can end there. The order in which masks are probed plays no
-//! part in the answer.
+//! part in the answer, so those come first under which most packets were decided.
 //!
 //! # What is promised
 //!
 //! Contracts and definitions call a megaflow an *entry* of the table. They see the table as a list of entries in rising
-//! order of their numbers, with the flow limit and the mask for which there is room (`specs/Entries`).
+//! order of their numbers, with the flow limit, the mask for which there is room, and the order of the masks
+//! (`specs/Entries`).
 //!
 //! - `find` answers the number of the entry that covers a key, as a scan of the list finds it.
 //! - `get`, `numbers`, `after` and `overlaps` answer by the list too, and `len` says what holds of any list that can
@@ -22,6 +23,10 @@
 //! - `install` appends an entry, which must overlap none and have a greater number than all.
 //! - `hit`, `change` and `pay` change one entry as their names say, and `remove` takes one out. Everything else stays.
 //!   `change` answers the visits that the entry had, whose memory can be used again.
+//! - `rank` answers the masks in the order in which `find` probes them, with the number of *hits* of each: those of the
+//!   entries, each once, and the numbers never rise. `hit` counts one for the mask of its entry, up to the greatest number
+//!   that there is; a mask that comes anew has none, and one leaves with its last entry. No other call changes the hits of
+//!   a mask that stays (`specs/Order`).
 //! - Only `reserve` and `overlaps` take memory, and where that is lacking nothing changed. What `reserve` made room for
 //!   is kept until the next `install`, whatever is removed or changed in between.
 //!
@@ -30,6 +35,10 @@
 //! The entries of one mask stand in one *subtable*, which has the number of each at its key under that mask, hashed. A
 //! lookup masks the key by one mask after the other and probes its subtable: one hash and one probe for each mask,
 //! however many entries have it. A subtable goes with its last entry, so that no lookup probes an empty one.
+//!
+//! The subtables stand by falling number of hits. A hit mostly only counts: a subtable has to move where the one before it
+//! has as many hits as it had. It then changes places with the first of those, which a binary search finds. A new mask
+//! comes last, and one that goes leaves the others in their order.
 //!
 //! `overlaps` goes by subtables too. Where the new mask covers that of a subtable, at most one entry there overlaps, and
 //! a probe finds it. Else each entry of the subtable is tested. So a new mask that covers all others costs one probe for
@@ -46,15 +55,14 @@
 //! - Which entries are right: that the actions and the mask of an entry are those of a translation is for the board to
 //!   know. Its actions are a place among lists that the board keeps.
 //! - The flow limit is only kept and told. The board compares it with `len`.
-//! - Counts only grow by `hit`, which asks that they fit.
-//! - Masks aren't ranked by their hits. They are probed in the order in which they came, and the last one takes the place
-//!   of one that goes.
+//! - Counts of entries only grow by `hit`, which asks that they fit.
 #![tactic(auto)]
 
 mod entry;
 mod live;
 mod megaflows;
 mod overlaps;
+mod ranks;
 mod subtables;
 mod visits;
 

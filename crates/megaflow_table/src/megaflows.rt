@@ -1,12 +1,15 @@
-ghost use Rattle.std.specs.Prelude.{◌≡◌, ◌<◌, [], ◌∷◌, ◌++◌, Some, None, length, false, nat_lt, filter, All, IsSome, IfOk, OnOk, OnErr};
+ghost use Rattle.std.specs.Prelude.{◌≡◌, ◌<◌, [], ◌∷◌, ◌++◌, Some, None, length, false, nat_lt, filter, slice_get, All, IsSome, IfSome, IfOk, OnOk, OnErr};
 ghost use Rattle.std.specs.List.{find};
+ghost use Rattle.std.specs.Map.{values_of};
 ghost use Rattle.std.specs.Option.{option_copied, option_map};
 ghost use Rattle.ovs_fields.specs.Packed.{numbers, bits};
 ghost use Rattle.megaflow_table.specs.Entries.{entry_of, covering, numbers_of, overlaps, changed, without, hit_at, changed_to, paid, CanHit, ForEntry, AreDisjoint, AreRising};
+ghost use Rattle.megaflow_table.specs.Order.{HasMasksOf, HasEachOnce, AreFalling, CountsHit, AddsMask, KeepsMasksOf};
 
 use crate::entry::Entry;
 use crate::live::{first_above, remove_live};
 use crate::overlaps::overlapping;
+use crate::ranks::{count_hit, rank_at};
 use crate::subtables::{
     Subtable, Subtables, insert_under, number_in, remove_under, reserve_fresh, reserve_under,
 };
@@ -49,6 +52,7 @@ impl Megaflows {
         ensures limit { result.limit ≡ limit }
         ensures entries { result.entries ≡ [] }
         ensures room { result.room ≡ None }
+        ensures order { result.order ≡ [] }
     {
         Megaflows {
             alloc,
@@ -91,7 +95,8 @@ impl Megaflows {
         self.entries.get(&number)
     }
 
-    /// The number of the entry that covers a key. It takes no memory, and one probe for each mask.
+    /// The number of the entry that covers a key. It takes no memory, and one probe for each mask until it is found, those
+    /// with the most hits first.
     pub fn find(&self, key: &Key) -> Option<u32>
         ensures { result
             ≡ option_map (λ e. e.number) (covering (numbers key.now) self.now.entries) }
@@ -106,6 +111,16 @@ impl Megaflows {
             }
         }
         None
+    }
+
+    /// The mask at a place of the order in which `find` probes them, from 0, and its number of hits. It takes no memory.
+    pub fn rank(&self, at: u32) -> Option<(Mask, u64)>
+        ensures place { option_map (λ r. (bits r.0, r.1)) result ≡ slice_get self.now.order at }
+        ensures masks { HasMasksOf self.now.entries self.now.order }
+        ensures once { HasEachOnce self.now.order }
+        ensures falling { AreFalling (values_of self.now.order) }
+    {
+        rank_at(&self.subtables, at as usize)
     }
 
     /// The least live number that is above a number.
@@ -129,10 +144,13 @@ impl Megaflows {
         Ok(found)
     }
 
-    /// An entry decided one more packet, of this many bytes, at this time in nanoseconds. It takes no memory.
+    /// An entry decided one more packet, of this many bytes, at this time in nanoseconds, which is a hit of its mask. It
+    /// takes no memory.
     pub fn hit(&mut self, number: u32, length: u32, time: u64)
         requires { ForEntry number self.old.entries (CanHit length) }
         ensures entries { self.new.entries ≡ changed number (hit_at length time) self.old.entries }
+        ensures hits { IfSome (entry_of number self.old.entries)
+            (λ e. CountsHit (bits e.mask) self.old.order self.new.order) }
         ensures room { self.new.room ≡ self.old.room }
         ensures limit { self.new.limit ≡ self.old.limit }
     {
@@ -140,6 +158,7 @@ impl Megaflows {
             unreachable!()
         };
         entry.hit(length, time);
+        count_hit(&mut self.subtables, &entry.mask);
     }
 
     /// Gives an entry the actions and visits of a version, and answers the visits that it had. Its counts stay. It takes
@@ -150,6 +169,7 @@ impl Megaflows {
             ≡ Some result }
         ensures entries { self.new.entries
             ≡ changed number (changed_to version actions visits) self.old.entries }
+        ensures order { self.new.order ≡ self.old.order }
         ensures room { self.new.room ≡ self.old.room }
         ensures limit { self.new.limit ≡ self.old.limit }
     {
@@ -163,6 +183,7 @@ impl Megaflows {
     pub fn pay(&mut self, number: u32)
         requires { IsSome (entry_of number self.old.entries) }
         ensures entries { self.new.entries ≡ changed number paid self.old.entries }
+        ensures order { self.new.order ≡ self.old.order }
         ensures room { self.new.room ≡ self.old.room }
         ensures limit { self.new.limit ≡ self.old.limit }
     {
@@ -176,6 +197,7 @@ impl Megaflows {
     pub fn remove(&mut self, number: u32)
         requires { IsSome (entry_of number self.old.entries) }
         ensures entries { self.new.entries ≡ without number self.old.entries }
+        ensures hits { KeepsMasksOf self.new.entries self.old.order self.new.order }
         ensures room { self.new.room ≡ self.old.room }
         ensures limit { self.new.limit ≡ self.old.limit }
     {
@@ -213,6 +235,7 @@ impl Megaflows {
         requires free { All
             (λ e. overlaps (numbers entry.key) (bits entry.mask) e ≡ false) self.old.entries }
         ensures entries { self.new.entries ≡ self.old.entries ++ entry ∷ [] }
+        ensures hits { AddsMask (bits entry.mask) self.old.order self.new.order }
         ensures room { self.new.room ≡ None }
         ensures limit { self.new.limit ≡ self.old.limit }
     {

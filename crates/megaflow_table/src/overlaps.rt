@@ -67,10 +67,10 @@ fn add_agreeing(
 ) -> Result<(), AllocError>
     ensures found { OnOk result
         (found.new.items
-        ≡ found.old.items ++ agreeing (numbers key.now) (bits mask.now) subtable.now.entries) }
+        ≡ found.old.items ++ agreeing (numbers key.now) (bits mask.now) subtable.now.numbers.entries) }
     ensures keys { HasDistinctKeys subtable.now }
 {
-    'entries: for (masked_key, number) in subtable.iter() {
+    'entries: for (masked_key, number) in subtable.numbers.iter() {
         if agree(key, masked_key, mask) {
             found.push(*number)?;
         }

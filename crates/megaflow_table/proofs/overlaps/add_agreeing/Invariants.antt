@@ -7,4 +7,4 @@ use Rattle.megaflow_table.proofs.overlaps.add_agreeing.Given as goal
 abbrev pub invariant-entries : goal.invariant-entries
 invariant-entries l =
     l.found.items ++ agreeing (numbers l.key) (bits l.mask) l.masked_key-iterator
-    ≡ l.initial.found.items ++ agreeing (numbers l.key) (bits l.mask) l.subtable.entries
+    ≡ l.initial.found.items ++ agreeing (numbers l.key) (bits l.mask) l.subtable.numbers.entries

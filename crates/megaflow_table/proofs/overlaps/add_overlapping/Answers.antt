@@ -17,7 +17,7 @@ returns-then-not-covers-clause-found c =
     IfOk-weaker c.add_agreeing.result _ _
     (λ _ found.
     found
-    ∙ ap (λ (m : List ℕ). c.args.found.now.items ++ agreeing key m subtable.entries) c.and.ensures
+    ∙ ap (λ (m : List ℕ). c.args.found.now.items ++ agreeing key m subtable.numbers.entries) c.and.ensures
     ∙ ap (λ (ns : List ℕ). c.args.found.now.items ++ ns)
-    (sym (cond-false (covers (bits c.args.mask.now) of) (option_to_list (number_in subtable (masked key of))) (agreeing key common subtable.entries) (sym c.covers.ensures ∙ c.if-not-covers.true))))
+    (sym (cond-false (covers (bits c.args.mask.now) of) (option_to_list (number_in subtable (masked key of))) (agreeing key common subtable.numbers.entries) (sym c.covers.ensures ∙ c.if-not-covers.true))))
     c.add_agreeing.ensures.found

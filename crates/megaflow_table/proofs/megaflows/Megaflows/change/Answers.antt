@@ -22,6 +22,7 @@ returns c =
           ap (option_map (λ (e : Entry). e.visits)) (entry_in c.self.inside c.args.number c.args.self.now c.self.view_is c.self.invariant ∙ sym c.in-Some.ensures.value)
           ∙ ap Some (sym c.change.ensures.visits);
       entries = ap (λ (f : Flows). f.entries) flows;
+      order = ap (λ (f : Flows). f.order) flows;
       room = ap (λ (f : Flows). f.room) flows;
       limit = ap (λ (f : Flows). f.limit) flows;
     }

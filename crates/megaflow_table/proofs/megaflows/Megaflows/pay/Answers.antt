@@ -16,4 +16,4 @@ pub returns : goal.returns
 returns c =
     let flows = written_flows c.self.inside c.args.number c.in-Some.entry.now c.pay.new.self (c.get_mut.follows.lender c.pay.new.self) c.self.invariant c.in-Some.ensures.value (c.get_mut.follows.holds c.pay.new.self)
     paid c.pay.ensures c.args.self.now c.self.view_is in
-    record { entries = ap (λ (f : Flows). f.entries) flows; room = ap (λ (f : Flows). f.room) flows; limit = ap (λ (f : Flows). f.limit) flows }
+    record { entries = ap (λ (f : Flows). f.entries) flows; order = ap (λ (f : Flows). f.order) flows; room = ap (λ (f : Flows). f.room) flows; limit = ap (λ (f : Flows). f.limit) flows }

@@ -1,7 +1,9 @@
 use Rattle.std.proofs.Common.{ap, refl, sym, subst, ◌∙◌, None}
 use Rattle.ovs_fields.specs.Packed.{bits}
-use Rattle.megaflow_table.specs.Subtables.{ChangesOnly}
+use Rattle.megaflow_table.specs.Order.{KeepsHits}
+use Rattle.megaflow_table.specs.Subtables.{ChangesOnly, order_of}
 use Rattle.megaflow_table.specs.Entries.{Flows}
+use Rattle.megaflow_table.proofs.OrderLaws.{kept_masks}
 use Rattle.megaflow_table.proofs.WriteLaws.{not_live}
 use Rattle.megaflow_table.proofs.StepLaws.{less_table, less_flows}
 use Rattle.megaflow_table.proofs.megaflows.Megaflows.remove.Goals as goal
@@ -20,6 +22,8 @@ invariant_of-self c =
       entries_room = c.swap_remove.ensures.room.0;
       changes = subst (λ k. ChangesOnly c.self.inside.subtables c.remove_under.new.subtables (bits c.in-Some.entry.mask) k None) c.masked.ensures c.remove_under.ensures.changes;
       subtables_room = c.remove_under.ensures.room;
+      used = c.remove_under.ensures.used;
+      ranked = c.remove_under.ensures.ranked;
       fresh = refl;
       room = refl;
       limit = refl;
@@ -36,11 +40,20 @@ returns c =
       entries_room = c.swap_remove.ensures.room.0;
       changes = subst (λ k. ChangesOnly c.self.inside.subtables c.remove_under.new.subtables (bits c.in-Some.entry.mask) k None) c.masked.ensures c.remove_under.ensures.changes;
       subtables_room = c.remove_under.ensures.room;
+      used = c.remove_under.ensures.used;
+      ranked = c.remove_under.ensures.ranked;
       fresh = refl;
       room = refl;
       limit = refl;
     }) c.args.self.now c.self.view_is in
-    record { entries = ap (λ (f : Flows). f.entries) flows; room = ap (λ (f : Flows). f.room) flows; limit = ap (λ (f : Flows). f.limit) flows }
+    record {
+      entries = ap (λ (f : Flows). f.entries) flows;
+      hits =
+          kept_masks (record c.self.inside { live = c.remove_live.new.live; entries = c.swap_remove.new.self; subtables = c.remove_under.new.subtables }) (invariant_of-self c) c.args.self.now.order
+          (subst (λ (f : Flows). KeepsHits f.order (order_of c.remove_under.new.subtables)) c.self.view_is c.remove_under.ensures.hits);
+      room = ap (λ (f : Flows). f.room) flows;
+      limit = ap (λ (f : Flows). f.limit) flows;
+    }
 
 pub remove_live-requires-clause-is_live : goal.remove_live-requires-clause-is_live
 remove_live-requires-clause-is_live c = c.self.invariant.consistent.within c.args.number c.in-Some.entry (sym c.in-Some.ensures.value)

@@ -1,4 +1,5 @@
-use Rattle.std.proofs.Common.{refl, arith}
+use Rattle.std.proofs.Common.{refl, ap, ◌∙◌, arith}
+use Rattle.megaflow_table.specs.Subtables.{ranks}
 use Rattle.megaflow_table.proofs.SubtableLaws.{same_subtables, kept_whole, joined_subtables}
 use Rattle.megaflow_table.proofs.StepLaws.{grown_table, ready_table}
 use Rattle.megaflow_table.proofs.megaflows.Megaflows.reserve.Goals as goal
@@ -12,6 +13,7 @@ invariant_of-self c =
       entries = refl;
       entries_room = omega arith;
       subtables = same_subtables c.self.inside.subtables c.self.inside.subtables refl;
+      order = refl;
       has_fresh = λ some. some;
       fresh = c.self.invariant.fresh;
     }) refl
@@ -25,6 +27,7 @@ invariant_of-self-in_err-reserve-2 c =
       entries = c.reserve-2.ensures.entries;
       entries_room = c.reserve-2.ensures.room.0;
       subtables = same_subtables c.self.inside.subtables c.self.inside.subtables refl;
+      order = refl;
       has_fresh = λ some. some;
       fresh = c.self.invariant.fresh;
     }) refl
@@ -38,6 +41,7 @@ invariant_of-self-in_err-reserve-3 c =
       entries = c.reserve-2.ensures.entries;
       entries_room = c.reserve-2.ensures.room.0;
       subtables = kept_whole c.self.inside.subtables c.reserve-3.new.self c.reserve-3.ensures.entries c.reserve-3.ensures.room.0;
+      order = ap ranks c.reserve-3.ensures.entries;
       has_fresh = λ some. some;
       fresh = c.self.invariant.fresh;
     }) refl
@@ -51,6 +55,7 @@ invariant_of-self-in_err-reserve_under c =
       entries = c.reserve-2.ensures.entries;
       entries_room = c.reserve-2.ensures.room.0;
       subtables = joined_subtables c.self.inside.subtables c.reserve-3.new.self c.reserve_under.new.subtables (kept_whole c.self.inside.subtables c.reserve-3.new.self c.reserve-3.ensures.entries c.reserve-3.ensures.room.0) c.reserve_under.ensures.keeps;
+      order = c.reserve_under.ensures.order ∙ ap ranks c.reserve-3.ensures.entries;
       has_fresh = λ some. some;
       fresh = c.self.invariant.fresh;
     }) refl
@@ -64,6 +69,7 @@ invariant_of-self-in_err-reserve_fresh c =
       entries = c.reserve-2.ensures.entries;
       entries_room = c.reserve-2.ensures.room.0;
       subtables = joined_subtables c.self.inside.subtables c.reserve-3.new.self c.reserve_under.new.subtables (kept_whole c.self.inside.subtables c.reserve-3.new.self c.reserve-3.ensures.entries c.reserve-3.ensures.room.0) c.reserve_under.ensures.keeps;
+      order = c.reserve_under.ensures.order ∙ ap ranks c.reserve-3.ensures.entries;
       has_fresh = c.reserve_fresh.ensures.stays;
       fresh = c.reserve_fresh.ensures.fresh;
     }) refl
@@ -77,6 +83,7 @@ invariant_of-self-2 c =
       entries = c.reserve-2.ensures.entries;
       entries_room = c.reserve-2.ensures.room.0;
       subtables = joined_subtables c.self.inside.subtables c.reserve-3.new.self c.reserve_under.new.subtables (kept_whole c.self.inside.subtables c.reserve-3.new.self c.reserve-3.ensures.entries c.reserve-3.ensures.room.0) c.reserve_under.ensures.keeps;
+      order = c.reserve_under.ensures.order ∙ ap ranks c.reserve-3.ensures.entries;
       has_fresh = c.reserve_fresh.ensures.stays;
       fresh = c.reserve_fresh.ensures.fresh;
     }) c.args.mask.now refl
