@@ -43,6 +43,10 @@ pub enum Call {
     NoEntry(u32),
     /// The rule was credited with so much.
     Total(u32, Counts),
+    /// The least number of an entry above this one.
+    After(u32, Option<u32>),
+    /// At the place of the order of masks stands that of the entry, with so many hits.
+    Rank(u32, Option<(u32, u64)>),
 }
 
 /// What a settle did, beside deciding a frame.
@@ -184,6 +188,19 @@ fn has_total<C: Case>(board: &Board<C>, rule: u32, counts: Counts) -> bool {
     totals.of(rule) == counts
 }
 
+/// Whether the mask of an entry stands at a place of the order, with so many hits; or none does, where none is given.
+fn has_rank<C: Case>(board: &Board<C>, at: u32, expected: Option<(u32, u64)>) -> bool {
+    let entries = board.entries();
+    match (entries.rank(at), expected) {
+        (Some((mask, hits)), Some((number, count))) => match entries.get(number) {
+            Some(entry) => mask == entry.mask && hits == count,
+            None => false,
+        },
+        (None, None) => true,
+        _ => false,
+    }
+}
+
 /// Whether a call answers as it says.
 fn answers<C: Case>(
     alloc: Global,
@@ -208,6 +225,8 @@ fn answers<C: Case>(
         Call::Entry(number, decided, owed) => Ok(has_entry(board, number, decided, owed)),
         Call::NoEntry(number) => Ok(board.entries().get(number).is_none()),
         Call::Total(rule, counts) => Ok(has_total(board, rule, counts)),
+        Call::After(number, next) => Ok(board.entries().after(number) == next),
+        Call::Rank(at, expected) => Ok(has_rank(board, at, expected)),
     }
 }
 

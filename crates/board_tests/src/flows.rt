@@ -12,7 +12,7 @@ const DEFAULT_PRIORITY: u16 = 32768;
 
 const IN_PORT_BITS: u128 = 0xffff;
 
-const DL_DST_BITS: u128 = 0xffff_ffff_ffff;
+const ADDRESS_BITS: u128 = 0xffff_ffff_ffff;
 
 /// An edit that adds or deletes a rule, and what it states.
 #[derive(Clone, Copy)]
@@ -22,6 +22,8 @@ pub struct Flow {
     pub in_port: Option<u16>,
     /// The Ethernet destination, below 256.
     pub dl_dst: Option<u8>,
+    /// The Ethernet source, below 256.
+    pub dl_src: Option<u8>,
     /// The port to which the rule sends.
     pub output: u16,
 }
@@ -32,6 +34,7 @@ pub const PORT_1: Flow = Flow {
     priority: DEFAULT_PRIORITY,
     in_port: Some(1),
     dl_dst: None,
+    dl_src: None,
     output: 2,
 };
 
@@ -41,6 +44,7 @@ pub const PORT_1_TO_2: Flow = Flow {
     priority: DEFAULT_PRIORITY,
     in_port: Some(1),
     dl_dst: Some(2),
+    dl_src: None,
     output: 2,
 };
 
@@ -50,6 +54,7 @@ pub const EQUAL_PORT_1: Flow = Flow {
     priority: 5,
     in_port: Some(1),
     dl_dst: None,
+    dl_src: None,
     output: 2,
 };
 
@@ -59,6 +64,7 @@ pub const EQUAL_TO_2: Flow = Flow {
     priority: 5,
     in_port: None,
     dl_dst: Some(2),
+    dl_src: None,
     output: 3,
 };
 
@@ -68,6 +74,7 @@ pub const DELETE_EQUAL_PORT_1: Flow = Flow {
     priority: 5,
     in_port: Some(1),
     dl_dst: None,
+    dl_src: None,
     output: 0,
 };
 
@@ -77,6 +84,7 @@ pub const LOW_TO_ANY: Flow = Flow {
     priority: 1,
     in_port: None,
     dl_dst: None,
+    dl_src: None,
     output: 2,
 };
 
@@ -86,6 +94,7 @@ pub const LOW_TO_9: Flow = Flow {
     priority: 1,
     in_port: None,
     dl_dst: Some(9),
+    dl_src: None,
     output: 3,
 };
 
@@ -95,7 +104,18 @@ pub const HIGH_TO_9: Flow = Flow {
     priority: 10,
     in_port: None,
     dl_dst: Some(9),
+    dl_src: None,
     output: 3,
+};
+
+/// `priority=1,dl_src=00:00:00:00:00:01,actions=2`
+pub const LOW_FROM_1: Flow = Flow {
+    word: EditWord::Add,
+    priority: 1,
+    in_port: None,
+    dl_dst: None,
+    dl_src: Some(1),
+    output: 2,
 };
 
 /// `delete_strict priority=10,dl_dst=00:00:00:00:00:09`
@@ -104,11 +124,12 @@ pub const DELETE_HIGH_TO_9: Flow = Flow {
     priority: 10,
     in_port: None,
     dl_dst: Some(9),
+    dl_src: None,
     output: 0,
 };
 
-/// The match of the packets of an ingress port and an Ethernet destination, where these are given.
-fn matching(in_port: Option<u16>, dl_dst: Option<u8>) -> Match {
+/// The match of the packets of an ingress port and Ethernet addresses, where these are given.
+fn matching(in_port: Option<u16>, dl_dst: Option<u8>, dl_src: Option<u8>) -> Match {
     let mut key = Key::zero();
     let mut mask = Mask::none();
     if let Some(port) = in_port {
@@ -117,7 +138,11 @@ fn matching(in_port: Option<u16>, dl_dst: Option<u8>) -> Match {
     }
     if let Some(address) = dl_dst {
         key.set(FieldId::DlDst, u128::from(address));
-        mask.add(FieldId::DlDst, DL_DST_BITS);
+        mask.add(FieldId::DlDst, ADDRESS_BITS);
+    }
+    if let Some(address) = dl_src {
+        key.set(FieldId::DlSrc, u128::from(address));
+        mask.add(FieldId::DlSrc, ADDRESS_BITS);
     }
     Match {
         key: masked(&key, &mask),
@@ -134,7 +159,7 @@ fn edit_of(alloc: Global, flow: &Flow) -> Result<Edit, AllocError>
         table: None,
         priority: flow.priority,
         cookie: None,
-        matching: matching(flow.in_port, flow.dl_dst),
+        matching: matching(flow.in_port, flow.dl_dst, flow.dl_src),
         actions: Actions::new(actions),
     })
 }

@@ -16,6 +16,8 @@ mod flows;
 #[cfg(test)]
 mod limits;
 #[cfg(test)]
+mod ranks;
+#[cfg(test)]
 mod refusals;
 #[cfg(test)]
 mod rows;
