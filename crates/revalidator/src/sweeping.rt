@@ -1,6 +1,7 @@
 //! Sweeps of a board that threads share.
-ghost use Rattle.std.specs.Prelude.{◌≡◌, ◌≤◌, ◌<◌, IfOk, IfSome};
+ghost use Rattle.std.specs.Prelude.{◌≡◌, ◌≤◌, ◌<◌, ◌^◌, IfOk, IfSome};
 ghost use Rattle.newest_xlate.specs.Versions.{EndsBlock};
+ghost use Rattle.revalidator.specs.Puts.{TellsPut};
 ghost use Rattle.revalidator.specs.Sweeps.{HasCause};
 
 use crate::lent::{begin_lent, end_lent, listed_above, put_lent};
@@ -8,7 +9,7 @@ use crate::swept::{Begun, Putting, Swept};
 use edge_io::{Gate, Point};
 use newest_xlate::{SpareLists, translate_newest};
 use ovs_fields::Key;
-use pmd_board::Board;
+use pmd_board::{Board, Xlated};
 use run_case::{Case, RunData};
 use std::alloc::{AllocError, Global};
 use std::sync::{Mutex, Wait};
@@ -25,11 +26,27 @@ fn version_seen<C: Case, R: Wait>(rt: &R, seer: Seer<C>) -> (Seer<C>, u32)
     (guard.leave(), version)
 }
 
-// The entry that a sweep of a board is to put next, after one of this number.
-fn next_listed<C: Case, R: Wait>(rt: &R, board: &Mutex<Board<C>>, after: u32) -> Option<(u32, Key)>
-    ensures { IfSome result (λ r. after < r.0) }
+// The first entry that a sweep of a board is to put.
+fn first_listed<C: Case, R: Wait>(rt: &R, board: &Mutex<Board<C>>) -> Option<(u32, Key)>
+    ensures { IfSome result (λ r. (0 < r.0) × (r.0 < 2 ^ 32)) }
 {
-    listed_above(&*board.lock(rt), after)
+    listed_above(&*board.lock(rt), 0)
+}
+
+// Puts an entry on a board by a translation, and reads under the same lock which one the sweep is to put next.
+fn put_and_read<C: Case, R: Wait>(
+    rt: &R,
+    board: &Mutex<Board<C>>,
+    entry: u32,
+    made: Xlated<C>,
+) -> (Putting, Option<(u32, Key)>)
+    requires { 1 ≤ entry }
+    ensures tells { TellsPut C.run made.version result.0 }
+    ensures next { IfSome result.1 (λ r. (entry < r.0) × (r.0 < 2 ^ 32)) }
+{
+    let mut lent = board.lock(rt);
+    let put = put_lent(&mut *lent, entry, made);
+    (put, listed_above(&*lent, entry))
 }
 
 // Puts each entry that the sweep of a board lists, in rising order. It answers the newest version that the board's block
@@ -50,7 +67,8 @@ fn put_listed<C: Case, G: Gate, R: Wait>(
     let mut seer = seer;
     let mut lists = SpareLists::new(alloc);
     let mut after = 0;
-    'entries: while let Some((entry, key)) = next_listed(rt, board, after) {
+    let mut listed = first_listed(rt, board);
+    'entries: while let Some((entry, key)) = listed {
         let (back, made) = translate_newest(rt, seer, run, &key, lists);
         seer = back;
         let made = match made {
@@ -58,13 +76,14 @@ fn put_listed<C: Case, G: Gate, R: Wait>(
             Err(e) => return (seer, Err(e)),
         };
         gate.pass(Point::Check { port, entry });
-        let put = put_lent(&mut *board.lock(rt), entry, made);
+        let (put, next) = put_and_read(rt, board, entry, made);
         lists = match put {
             Putting::Done { lists } => lists,
             Putting::PassedOver => SpareLists::new(alloc),
             Putting::Ahead { hi } => return (seer, Ok(Some(hi))),
         };
         after = entry;
+        listed = next;
     }
     (seer, Ok(None))
 }

@@ -1,10 +1,11 @@
-//! The handling of one upcall.
-ghost use Rattle.std.specs.Prelude.{◌≡◌, ◌≤◌, IfOk, IfSome, IfNone};
+//! The handling of upcalls.
+ghost use Rattle.std.specs.Prelude.{◌≡◌, ◌≤◌, ◌<◌, IfOk, IfSome, IfNone};
 ghost use Rattle.run_blocks.specs.Places.{HasPort, HasPlace};
 ghost use Rattle.upcall_handler.specs.Settles.{Tells};
 ghost use Rattle.upcall_handler.specs.Upshots.{HasCause};
 
 use crate::settling::settle_lent;
+use crate::translated::Translated;
 use crate::upshot::{Settling, Upshot};
 use edge_io::{Gate, Point};
 use newest_xlate::{SpareLists, translate_newest};
@@ -61,7 +62,7 @@ fn settle_newest<C: Case, G: Gate, R: Wait>(
     (seer, answer)
 }
 
-// Handles the upcall of a frame.
+// Handles the upcall of a frame by its tries from this one on, counted from 0. The gate is told in try 0.
 fn handle_frame<C: Case, G: Gate, R: Wait>(
     rt: &R,
     alloc: Global,
@@ -69,15 +70,17 @@ fn handle_frame<C: Case, G: Gate, R: Wait>(
     run: &RunData<C>,
     board: &Mutex<Board<C>>,
     at: &Keyed<C>,
+    from: u32,
     gate: &G,
 ) -> (Seer<C>, Result<Upshot, AllocError>)
+    requires { from < TRIES }
     ensures publication { result.0.publication ≡ seer.publication }
     ensures newer { seer.version ≤ result.0.version }
     ensures cause { IfOk result.1 (λ r. HasCause C.run result.0.version r) }
 {
     let mut seer = seer;
     let mut floor = 0;
-    'tries: for tried in 0..TRIES {
+    'tries: for tried in from..TRIES {
         let gate = if tried == 0 { Some(gate) } else { None };
         let (back, answer) = settle_newest(rt, alloc, seer, run, board, at, gate);
         seer = back;
@@ -112,7 +115,116 @@ pub fn handle_one<C: Case, G: Gate, R: Wait>(
     ensures cause { IfOk result.1 (λ r. HasCause C.run result.0.version r) }
 {
     match frame_of(run, upcall) {
-        Some(at) => handle_frame(rt, alloc, seer, run, board, &at, gate),
+        Some(at) => handle_frame(rt, alloc, seer, run, board, &at, 0, gate),
         None => (seer, Ok(Upshot::Gone)),
     }
+}
+
+// Translates the frames of upcalls in order, each under the newest version that is published then, and passes those over
+// that the run doesn't have. The gate is told of each one that is translated.
+fn translate_each<C: Case, G: Gate, R: Wait>(
+    rt: &R,
+    alloc: Global,
+    seer: Seer<C>,
+    run: &RunData<C>,
+    upcalls: &[Upcall],
+    gate: &G,
+) -> (Seer<C>, Result<Vec<Translated<C>>, AllocError>)
+    ensures publication { result.0.publication ≡ seer.publication }
+    ensures newer { seer.version ≤ result.0.version }
+{
+    let mut seer = seer;
+    let mut batch = Vec::new(alloc);
+    if batch.reserve(upcalls.len()).is_err() {
+        return (seer, Err(AllocError));
+    }
+    'upcalls: for upcall in upcalls {
+        let Some(at) = frame_of(run, *upcall) else {
+            continue;
+        };
+        let (back, made) = translate_newest(rt, seer, run, &at.key, SpareLists::new(alloc));
+        seer = back;
+        let Ok(made) = made else {
+            return (seer, Err(AllocError));
+        };
+        gate.pass(Point::Upcall {
+            port: at.port,
+            place: at.place,
+        });
+        if batch.push(Translated { at, made }).is_err() {
+            return (seer, Err(AllocError));
+        }
+    }
+    (seer, Ok(batch))
+}
+
+// Settles frames on a board under one lock, in order, each by its translation. Those whose translations are older than a
+// sweep that began are answered.
+fn settle_each<C: Case, R: Wait>(
+    rt: &R,
+    alloc: Global,
+    board: &Mutex<Board<C>>,
+    batch: Vec<Translated<C>>,
+) -> Result<Vec<Keyed<C>>, AllocError> {
+    let mut stale = Vec::new(alloc);
+    let mut lent = board.lock(rt);
+    'frames: for Translated { at, made } in batch {
+        match settle_lent(&mut *lent, &at, made)? {
+            Settling::Done | Settling::Gone | Settling::Ahead { .. } => {}
+            Settling::Stale { .. } => stale.push(at)?,
+        }
+    }
+    Ok(stale)
+}
+
+// Handles the upcalls of frames whose first translations were stale.
+fn handle_stale<C: Case, G: Gate, R: Wait>(
+    rt: &R,
+    alloc: Global,
+    seer: Seer<C>,
+    run: &RunData<C>,
+    board: &Mutex<Board<C>>,
+    stale: Vec<Keyed<C>>,
+    gate: &G,
+) -> (Seer<C>, Result<(), AllocError>)
+    ensures publication { result.0.publication ≡ seer.publication }
+    ensures newer { seer.version ≤ result.0.version }
+{
+    let mut seer = seer;
+    'stale: for at in stale {
+        let (back, upshot) = handle_frame(rt, alloc, seer, run, board, &at, 1, gate);
+        seer = back;
+        if upshot.is_err() {
+            return (seer, Err(AllocError));
+        }
+    }
+    (seer, Ok(()))
+}
+
+/// Handles upcalls of frames of one port: it translates each frame's key under the newest version that is published then,
+/// and settles all of them on their board under one lock. Where a newer sweep has begun there, a frame is translated again,
+/// four times at most in all, and then settled under a lock of its own.
+///
+/// The gate is told once of each frame, between its first translation and the settles. The seer is handed back. The only
+/// error is out of memory, and then frames may be left.
+pub fn handle_all<C: Case, G: Gate, R: Wait>(
+    rt: &R,
+    alloc: Global,
+    seer: Seer<C>,
+    run: &RunData<C>,
+    board: &Mutex<Board<C>>,
+    upcalls: &[Upcall],
+    gate: &G,
+) -> (Seer<C>, Result<(), AllocError>)
+    ensures publication { result.0.publication ≡ seer.publication }
+    ensures newer { seer.version ≤ result.0.version }
+{
+    let (seer, batch) = translate_each(rt, alloc, seer, run, upcalls, gate);
+    let Ok(batch) = batch else {
+        return (seer, Err(AllocError));
+    };
+    let Ok(stale) = settle_each(rt, alloc, board, batch) else {
+        return (seer, Err(AllocError));
+    };
+    handle_stale(rt, alloc, seer, run, board, stale, gate)
 }

@@ -37,9 +37,10 @@
 
 mod handling;
 mod settling;
+mod translated;
 mod upshot;
 
-pub use handling::handle_one;
+pub use handling::{handle_all, handle_one};
 pub use settling::settle_lent;
 pub use upcalls::Upcall;
 pub use upshot::{Settling, Upshot};
