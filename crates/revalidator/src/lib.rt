@@ -27,8 +27,9 @@
 //! # How
 //!
 //! A megaflow is named by its number while the lock is free. Numbers are never used again, but what the board lists under
-//! it is read again before it is put, and passed over where it isn't the key that was translated. A translation is made in
-//! the memory of lists that the put before it gave back.
+//! it is read again before it is put, and passed over where it isn't the key that was translated. The lock is taken once for
+//! a put and for reading which megaflow is next. A translation is made in the memory of lists that the put before it gave
+//! back.
 //!
 //! Each megaflow is asked for by the number of the one before it, and numbers rise, so the sweep comes to an end whatever
 //! others do with the board meanwhile.

@@ -21,8 +21,12 @@
 //! The seer comes back, of the same publication, and has seen no less than before. Where memory is wanting the board is as
 //! it was.
 //!
+//! `handle_all` handles upcalls of one port together: it translates all of their frames first, and takes the lock once for
+//! their settles. A frame whose translation a sweep has made stale by then is translated again as above, in the tries that
+//! are left to it. The seer comes back as above; where memory is wanting, some frames may have been settled.
+//!
 //! What a board had and has behind its lock no contract can say. What one settle does with a board that was lent is a
-//! clause of `settle_lent`.
+//! clause of `settle_lent`, by which each of them is made.
 //!
 //! # How
 //!

@@ -7,7 +7,6 @@ use crate::shared::Shared;
 use run_case::Case;
 use std::marker::PhantomData;
 use std::sync::Wait;
-use std::sync::atomic::Ordering;
 use table_publish::Editor;
 
 /// The editor of the phase's publication.
@@ -63,5 +62,5 @@ pub fn edit<C: Case, P: Phase, R: Wait>(
         let editor = publish_block(rt, shared, editor);
         put_back(rt, slot, PhaseEditor { editor, of });
     }
-    shared.editing.store(0, Ordering::SeqCst);
+    shared.end_editing();
 }

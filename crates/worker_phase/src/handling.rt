@@ -1,18 +1,20 @@
 //! Handlers of upcalls.
-ghost use Rattle.std.specs.Prelude.{◌≡◌};
+ghost use Rattle.std.specs.Prelude.{◌≡◌, ◌≤◌, ◌<◌, length};
 
 use crate::phase::Phase;
-use crate::shared::Shared;
+use crate::shared::{Shared, most_queued};
 use edge_io::Gate;
 use run_case::Case;
 use std::alloc::{AllocError, Global};
 use std::marker::PhantomData;
 use std::sync::Wait;
-use std::thread;
 use table_publish::Seer;
-use upcall_handler::handle_one;
+use upcall_handler::handle_all;
 use upcall_queue::Pass;
 use upcalls::Upcall;
+
+/// How many upcalls a handler takes at a time, at most.
+const MOST_UPCALLS: usize = 32;
 
 /// A handler: its seer, whose mailbox has this number, and the pass by which it takes upcalls.
 #[derive(Drop)]
@@ -25,29 +27,104 @@ pub struct Handler<C: Case, P: Phase> {
     pub ghost queue_is: { pass.queue ≡ P.queue },
 }
 
-// Handles an upcall at the board of its port.
+// Takes upcalls, if there are any: one, and its share of those that are left where it was busy. Another handler is told
+// of the others.
+fn take_share<C: Case, P: Phase, R: Wait>(
+    rt: &R,
+    shared: &Shared<'_, C, P>,
+    pass: &mut Pass<C>,
+    was_idle: bool,
+    taken: &mut Vec<Upcall>,
+) -> Result<(), AllocError>
+    requires { pass.old.queue ≡ P.queue }
+    ensures { pass.new.queue ≡ P.queue }
+{
+    let Some(first) = shared.queue.pop(rt, pass) else {
+        return Ok(());
+    };
+    taken.push(first)?;
+    let queued = most_queued(shared.workers).saturating_sub(shared.queue.room(rt, pass));
+    if queued > 0 {
+        shared.given.notify_one();
+    }
+    let share = if was_idle {
+        0
+    } else {
+        (queued / shared.workers).min(MOST_UPCALLS - 1)
+    };
+    'upcalls: for _ in 0..share {
+        match shared.queue.pop(rt, pass) {
+            Some(upcall) => taken.push(upcall)?,
+            None => break,
+        }
+    }
+    Ok(())
+}
+
+// Handles upcalls of one port at its board.
 fn handle_at<C: Case, P: Phase, R: Wait, G: Gate>(
     rt: &R,
     alloc: Global,
     shared: &Shared<'_, C, P>,
     seer: Seer<C>,
-    upcall: Upcall,
+    upcalls: &[Upcall],
     gate: &G,
 ) -> (Seer<C>, Result<(), AllocError>)
     requires { seer.publication ≡ P.publication }
     ensures { result.0.publication ≡ P.publication }
 {
-    let Some(at) = shared.run.ports().find(upcall.port) else {
+    let Some(first) = upcalls.first() else {
+        return (seer, Ok(()));
+    };
+    let Some(at) = shared.run.ports().find(first.port) else {
         return (seer, Ok(()));
     };
     let Some(lock) = shared.locks.get(at as usize) else {
         return (seer, Ok(()));
     };
-    let (seer, done) = handle_one(rt, alloc, seer, shared.run, lock, upcall, gate);
-    match done {
-        Ok(_) => (seer, Ok(())),
-        Err(e) => (seer, Err(e)),
+    handle_all(rt, alloc, seer, shared.run, lock, upcalls, gate)
+}
+
+// How many of the upcalls, from the first one on, are of its port.
+fn row_length(upcalls: &[Upcall]) -> usize
+    requires { 0 < length upcalls.now }
+    ensures some { 0 < result }
+    ensures within { result ≤ length upcalls.now }
+{
+    let port = upcalls[0].port;
+    'places: for place in 1..upcalls.len() {
+        if upcalls[place].port != port {
+            return place;
+        }
     }
+    upcalls.len()
+}
+
+// Handles upcalls that were taken, those of one port that stand in a row together.
+fn handle_taken<C: Case, P: Phase, R: Wait, G: Gate>(
+    rt: &R,
+    alloc: Global,
+    shared: &Shared<'_, C, P>,
+    seer: Seer<C>,
+    taken: &[Upcall],
+    gate: &G,
+) -> (Seer<C>, Result<(), AllocError>)
+    requires { seer.publication ≡ P.publication }
+    ensures { result.0.publication ≡ P.publication }
+{
+    let mut seer = seer;
+    let mut from = 0;
+    'rows: while from < taken.len() {
+        let left = &taken[from..];
+        let row = row_length(left);
+        let (back, handled) = handle_at(rt, alloc, shared, seer, &left[..row], gate);
+        seer = back;
+        if handled.is_err() {
+            return (seer, handled);
+        }
+        from += row;
+    }
+    (seer, Ok(()))
 }
 
 /// Handles upcalls until none is left and all receive workers have ended, or memory is wanting.
@@ -65,25 +142,32 @@ pub fn handle<C: Case, P: Phase, R: Wait, G: Gate>(
         of,
     } = handler;
     let mut done = Ok(());
+    let mut taken = Vec::new(alloc);
+    let mut idle = 0u32;
     'turns: for _ in rt.forever() {
         // This is asked first: what is put before the last receive worker ends is found after it.
         let ended = shared.all_received();
-        match shared.queue.pop(rt, &mut pass) {
-            Some(upcall) => {
-                let told = shared.told(rt, mailbox, seer);
-                let (back, handled) = handle_at(rt, alloc, shared, told, upcall, gate);
-                seer = back;
-                if handled.is_err() {
-                    done = handled;
-                    break;
-                }
+        let seen = shared.given.notifications();
+        done = take_share(rt, shared, &mut pass, idle > 0, &mut taken);
+        if done.is_err() {
+            break;
+        }
+        if taken.is_empty() {
+            if ended {
+                break;
             }
-            None => {
-                if ended {
-                    break;
-                }
-                thread::yield_now();
-            }
+            shared.wait_for_upcalls(rt, idle, seen);
+            idle = idle.saturating_add(1);
+            continue;
+        }
+        idle = 0;
+        let told = shared.told(rt, mailbox, seer);
+        let (back, handled) = handle_taken(rt, alloc, shared, told, taken.as_slice(), gate);
+        seer = back;
+        taken.clear();
+        done = handled;
+        if done.is_err() {
+            break;
         }
     }
     let handler = Handler {

@@ -27,10 +27,11 @@
 //!
 //! - A **phase** (`pool`, `working`) takes boards and gives boards. The types of what its workers hand on have a name of the
 //!   phase (`phase`), by which they are of its queue and of its tables. Editor and seers stay from phase to phase (`pool`).
-//! - A **receive worker** (`receiving`) polls its ports in turns, until their block is looked up. The port at place q
-//!   belongs to the worker q mod N.
-//! - A **handler** (`handling`) takes upcalls from the queue. No lock is held from a translation to its use: what has grown
-//!   old meanwhile the board refuses. A handler ends where the queue is empty after all receive workers have ended.
+//! - A **receive worker** (`receiving`) polls its ports one after the other, each until its block is looked up, so that the
+//!   caches of one port stay in the processor's. The port at place q belongs to the worker q mod N.
+//! - A **handler** (`handling`) takes its share of the upcalls that wait, and those of one port have one lock for their
+//!   settles. No lock is held from a translation to its use: what has grown old meanwhile the board refuses. A handler ends
+//!   where the queue is empty after all receive workers have ended.
 //! - The **editor** (`editing`) publishes the block's edits in order, and puts news of each version into the mailbox of
 //!   each seer (`mailbox`).
 //! - The **revalidator** (`revalidating`) makes a sweep of each board, and another where a newer version was told meanwhile.
@@ -41,10 +42,13 @@
 //!
 //! A look takes a fraction of the time of a translation. Receive workers that know no brake would look the whole block up in
 //! a moment: each frame of a new flow would miss, the queue would be full, and what it refuses is left to the end of the
-//! block, where one thread settles it. So a receive worker yields while the queue has no room for a batch of each worker;
-//! handlers keep up, and later frames of a flow find what the first one had installed. It yields a bounded number of turns
+//! block, where one thread settles it. So a receive worker waits while the queue has no room for a batch of each worker;
+//! handlers keep up, and later frames of a flow find what the first one had installed. It waits a bounded number of turns
 //! and then goes on, so that nothing depends on a handler. The revalidator waits until the last version of its block is
 //! told, or the editor has ended: then its first sweep is mostly the only one.
+//!
+//! Who waits yields a few times and then sleeps (`shared`), so that processors are left to those that have work. Each sleep
+//! is short and ends by itself. A handler is woken before, where upcalls are given; but nothing depends on that either.
 //!
 //! # What is left to others
 //!

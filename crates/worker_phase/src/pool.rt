@@ -5,6 +5,7 @@ ghost use Rattle.spec_case.specs.Blocks.{last_block};
 ghost use Rattle.spec_tables.specs.Edits.{has_sound_actions};
 ghost use Rattle.spec_words.specs.Words.{most_workers};
 
+use crate::shared::most_queued;
 use crate::working::work_at_block;
 use edge_io::Gate;
 use pmd_board::Board;
@@ -16,9 +17,6 @@ use std::sync::Wait;
 use std::thread::Threads;
 use table_publish::{Editor, Seer, publish};
 use upcall_queue::UpcallQueue;
-
-/// How many upcalls wait at most.
-const QUEUE_CAPACITY: usize = 1024;
 
 /// How many workers of each kind a run has, the editor of its tables, and a seer of them for each handler and for the
 /// revalidator. End it by `end`.
@@ -66,7 +64,7 @@ impl<C: Case + Send + Sync> WorkerPool<C> {
         } = self;
         let (queue, passes) = match UpcallQueue::new(
             alloc,
-            QUEUE_CAPACITY,
+            most_queued(workers as usize),
             2 * workers as usize + 1,
         ) {
             Ok(made) => made,

@@ -9,7 +9,6 @@ use run_case::Case;
 use std::alloc::{AllocError, Global};
 use std::marker::PhantomData;
 use std::sync::Wait;
-use std::thread;
 use table_publish::Seer;
 
 /// The revalidator: its seer, whose mailbox has this number.
@@ -32,12 +31,14 @@ fn told_last<C: Case, P: Phase, R: Wait>(
     ensures { result.publication ≡ P.publication }
 {
     let mut seer = seer;
+    let mut turn = 0u32;
     'turns: for _ in rt.forever() {
         if seer.version() >= shared.last || shared.all_edited() {
             break;
         }
         seer = shared.told(rt, mailbox, seer);
-        thread::yield_now();
+        shared.wait_for_edits(rt, turn);
+        turn = turn.saturating_add(1);
     }
     shared.told(rt, mailbox, seer)
 }

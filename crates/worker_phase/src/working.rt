@@ -13,8 +13,8 @@ use run_case::{Case, RunData};
 use run_edits::RunEdits;
 use std::alloc::{AllocError, Global};
 use std::marker::PhantomData;
-use std::sync::Wait;
 use std::sync::atomic::AtomicU64;
+use std::sync::{Condvar, Wait};
 use std::thread::Threads;
 use table_publish::{Editor, Seer};
 use upcall_queue::{Pass, UpcallQueue};
@@ -54,6 +54,7 @@ fn work_in_threads<
     let boxes = mailboxes::<C, P>(alloc, count + 1)?;
     let receiving = AtomicU64::new(workers as u64);
     let editing = AtomicU64::new(1);
+    let given = Condvar::new();
     let shared = Shared {
         run,
         edits,
@@ -62,6 +63,7 @@ fn work_in_threads<
         mailboxes: boxes.as_slice(),
         receiving: &receiving,
         editing: &editing,
+        given: &given,
         workers: count,
         last: run.hi(block),
         of: PhantomData,
