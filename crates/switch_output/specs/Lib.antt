@@ -1,2 +1,3 @@
 pub mod Refused
 pub mod Put
+pub mod Dumps

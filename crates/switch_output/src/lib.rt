@@ -12,14 +12,15 @@
 //! these files are written after those that were there before, by name and byte, and on a sink that does exactly this
 //! text is printed after them. Where writing fails or memory runs out, the files before are whole, one has a prefix of its
 //! bytes or none, none after it is written, and nothing is printed; the refusal names the file, and the count of faults in
-//! writing rose by one, or memory ran out and it stands. Where printing fails or memory runs out there, all files are
-//! whole, and a prefix of the summary is printed.
+//! writing rose by one, after that file was asked for, or memory ran out and it stands. Where printing fails or memory
+//! runs out there, all files are whole, and a prefix of the summary is printed.
 //!
 //! # How
 //!
-//! Each file has a name and a call of `egress_capture` or `flow_dump`. The filters that tell a port which frames may be for
-//! it are made once, before the first file: 4 bytes for each frame. What was written before is a list of whole files, to
-//! which each call adds one, and the ways to be cut short go along (`proofs/Written`).
+//! Each file has a name and a call of `egress_capture` or `flow_dump`; the three dumps go through one function (`Dump`). The
+//! filters that tell a port which frames may be for it are made once, before the first file: 4 bytes for each frame. What
+//! was written before is a list of whole files, to which each call adds one, and the ways to be cut short go along
+//! (`proofs/Written`).
 //!
 //! # What is left to others
 //!
@@ -27,6 +28,7 @@
 //! summary, and what a refusal is told as.
 #![tactic(auto)]
 
+mod dump;
 mod output;
 mod refusal;
 mod writing;

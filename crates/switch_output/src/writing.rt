@@ -1,14 +1,17 @@
-ghost use Rattle.std.specs.Prelude.{◌≡◌, [], ◌∷◌, ◌++◌, map, IsTrue, IfOk, string_bytes};
+ghost use Rattle.std.specs.Prelude.{◌≡◌, [], ◌∷◌, map, IsTrue, IfOk, string_bytes};
 ghost use Rattle.std.specs.List.{list_all};
 ghost use Rattle.spec_tables.specs.Edits.{has_sound_actions};
 ghost use Rattle.spec_case.specs.Arrivals.{in_order, arrivals as came_in};
-ghost use Rattle.spec_run.specs.Outputs.{port_file_name, port_file, rules_file, megaflows_file, journal_file, files_of, output_of};
+ghost use Rattle.spec_run.specs.Outputs.{port_file_name, port_file, files_of, output_of};
 ghost use Rattle.rule_tables.specs.History.{history_of};
 ghost use Rattle.edge_io.specs.declared.outside.InUse.TheVariants.{Nothing};
+ghost use Rattle.edge_io.specs.Written.{WritesFile};
 ghost use Rattle.egress_capture.specs.Filters.{AreFilters};
+ghost use Rattle.switch_output.specs.Dumps.{dump_text, dump_file};
 ghost use Rattle.switch_output.specs.Refused.{write_refusal, WritesOne, WritesInTurn};
 ghost use Rattle.switch_output.specs.Put.{name_in};
 
+use crate::dump::Dump;
 use crate::refusal::WriteRefusal;
 use edge_io::{Failed, Shelf};
 use egress_capture::{PortFilter, filters_of, write_port};
@@ -69,13 +72,6 @@ fn write_port_files<C: Case, S: Shelf>(
     Ok(())
 }
 
-// The name of a dump: the begin of the names, and its end.
-fn dump_name(alloc: Global, out: &str, end: &str) -> Result<String, AllocError>
-    ensures { IfOk result (λ name. string_bytes name ≡ out.now ++ end.now) }
-{
-    format!(in alloc; "{out}{end}")
-}
-
 // What a refusal in writing the file of this name is.
 fn refused(name: String, failed: Failed) -> WriteRefusal
     ensures { result ≡ write_refusal name failed }
@@ -86,11 +82,35 @@ fn refused(name: String, failed: Failed) -> WriteRefusal
     }
 }
 
-// Writes the dump of rules.
-fn write_rules_file<C: Case, S: Shelf>(
+// Writes a dump to a file of this name.
+fn write_named<C: Case, S: Shelf>(
+    alloc: Global,
+    shelf: &mut S,
+    name: &str,
+    dump: Dump,
+    run: &RunData<C>,
+    rules: &VersionedRules,
+    finished: &Finished<C>,
+) -> Result<(), Failed>
+    requires in_use { S.in_use shelf.old ≡ Nothing }
+    requires edits { rules.now ≡ history_of C.run.edits }
+    requires sound { IsTrue (list_all has_sound_actions C.run.edits) }
+    ensures { let text = dump_text C.run finished.now dump in
+        WritesFile S.Shelf shelf.old shelf.new (name.now, text) result }
+{
+    match dump {
+        Dump::Rules => write_rules(alloc, shelf, name, run, rules, finished),
+        Dump::Megaflows => write_megaflows(alloc, shelf, name, finished),
+        Dump::Journal => write_journals(alloc, shelf, name, finished),
+    }
+}
+
+// Writes the file of a dump.
+fn write_dump<C: Case, S: Shelf>(
     alloc: Global,
     shelf: &mut S,
     out: &str,
+    dump: Dump,
     run: &RunData<C>,
     rules: &VersionedRules,
     finished: &Finished<C>,
@@ -98,47 +118,11 @@ fn write_rules_file<C: Case, S: Shelf>(
     requires in_use { S.in_use shelf.old ≡ Nothing }
     requires edits { rules.now ≡ history_of C.run.edits }
     requires sound { IsTrue (list_all has_sound_actions C.run.edits) }
-    ensures { let files = rules_file out.now C.run finished.now ∷ [] in
+    ensures { let files = dump_file out.now C.run finished.now dump ∷ [] in
         WritesInTurn S.Shelf shelf.old shelf.new files result }
 {
-    let name = dump_name(alloc, out, ".rules")?;
-    match write_rules(alloc, shelf, name.as_str(), run, rules, finished) {
-        Ok(()) => Ok(()),
-        Err(failed) => Err(refused(name, failed)),
-    }
-}
-
-// Writes the dump of megaflows.
-fn write_megaflows_file<C: Case, S: Shelf>(
-    alloc: Global,
-    shelf: &mut S,
-    out: &str,
-    finished: &Finished<C>,
-) -> Result<(), WriteRefusal>
-    requires { S.in_use shelf.old ≡ Nothing }
-    ensures { let files = megaflows_file out.now C.run finished.now ∷ [] in
-        WritesInTurn S.Shelf shelf.old shelf.new files result }
-{
-    let name = dump_name(alloc, out, ".megaflows")?;
-    match write_megaflows(alloc, shelf, name.as_str(), finished) {
-        Ok(()) => Ok(()),
-        Err(failed) => Err(refused(name, failed)),
-    }
-}
-
-// Writes the file of the journals.
-fn write_journal_file<C: Case, S: Shelf>(
-    alloc: Global,
-    shelf: &mut S,
-    out: &str,
-    finished: &Finished<C>,
-) -> Result<(), WriteRefusal>
-    requires { S.in_use shelf.old ≡ Nothing }
-    ensures { let files = journal_file out.now finished.now ∷ [] in
-        WritesInTurn S.Shelf shelf.old shelf.new files result }
-{
-    let name = dump_name(alloc, out, ".journal")?;
-    match write_journals(alloc, shelf, name.as_str(), finished) {
+    let name = dump.file_name(alloc, out)?;
+    match write_named(alloc, shelf, name.as_str(), dump, run, rules, finished) {
         Ok(()) => Ok(()),
         Err(failed) => Err(refused(name, failed)),
     }
@@ -160,9 +144,9 @@ fn write_files<C: Case, S: Shelf>(
         WritesInTurn S.Shelf shelf.old shelf.new files result }
 {
     write_port_files(alloc, shelf, out, run, finished)?;
-    write_rules_file(alloc, shelf, out, run, rules, finished)?;
-    write_megaflows_file(alloc, shelf, out, finished)?;
-    write_journal_file(alloc, shelf, out, finished)
+    write_dump(alloc, shelf, out, Dump::Rules, run, rules, finished)?;
+    write_dump(alloc, shelf, out, Dump::Megaflows, run, rules, finished)?;
+    write_dump(alloc, shelf, out, Dump::Journal, run, rules, finished)
 }
 
 /// Writes what a run writes: where it has a name, the files of its ports and its dumps.
