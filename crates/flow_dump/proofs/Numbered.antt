@@ -5,7 +5,6 @@ use Rattle.std.specs.List.{flat_map}
 use Rattle.std.specs.Option.{option_map, option_map_or}
 use Rattle.std.proofs.lemmas.Option.{none-some}
 use Rattle.std.proofs.lemmas.List.Elements.{All-tail}
-use Rattle.std.proofs.lemmas.List.Folds.{flat_map-map}
 use Rattle.spec_actions.specs.declared.action.DpAction.{DpAction}
 use Rattle.spec_board.specs.State.{Entry}
 use Rattle.spec_case.specs.Run.{Run}
@@ -14,12 +13,11 @@ use Rattle.spec_keys.specs.Keys.{IsKey}
 use Rattle.spec_board.specs.Results.{entry_of, numbers_of, switch_at}
 use Rattle.board_laws.specs.Entries.{IsMade}
 use Rattle.spec_dp_text.specs.Within.{AreWithinFields}
-use Rattle.spec_dumps.specs.Megaflows.{megaflow_line, port_megaflows_text, megaflows_text}
+use Rattle.spec_dumps.specs.Megaflows.{megaflow_line}
 use Rattle.megaflow_table.specs.declared.entry.Entry as flows
 use Rattle.megaflow_table.specs.Entries as table
 use Rattle.port_caches.specs.declared.lists.HeldList.{HeldList}
 use Rattle.port_caches.specs.Views.{entry_view, actions_at}
-use Rattle.pmd_board.specs.BoardView.{BoardView, journal_view, journals_view}
 use Rattle.megaflow_lines.specs.Views.{entry_with}
 use Rattle.flow_dump.specs.Numbered.{line_of_number}
 
@@ -108,11 +106,3 @@ none-is lists number kept entries viewed is live =
     ap (λ (es : List Entry). entry_of number es) viewed ∙ entry_of-kept lists number kept ∙ ap (option_map (entry_view lists)) is in
     let there : IsSome {T = Entry} None = subst IsSome lacks live in
     cc
-
--- ---- of boards
-
-abbrev pub text_of_board : Run → BoardView → List ℕ
-text_of_board run board = port_megaflows_text run (journal_view board)
-
-pub megaflows_text-is : (run : Run) (boards : List BoardView) → megaflows_text run (journals_view boards) ≡ flat_map (text_of_board run) boards
-megaflows_text-is run boards = flat_map-map (port_megaflows_text run) journal_view boards

@@ -1,4 +1,5 @@
 pub mod Lines
+pub mod Boards
 pub mod StepCounts
 pub mod Numbered
 pub mod RuleTexts

@@ -5,27 +5,24 @@ use Rattle.spec_board.specs.Texts.{Journal}
 use Rattle.spec_dumps.specs.Summary.{is_exact, is_mega, is_miss, is_installed, is_present, is_full, count_steps}
 use Rattle.flow_dump.specs.declared.step_counts.StepCounts.{StepCounts}
 
+-- the counts, by how many steps pass a test
+abbrev counts_by : ((Step → Bool) → ℕ) → StepCounts
+counts_by count = record {
+  exact = count is_exact;
+  mega = count is_mega;
+  miss = count is_miss;
+  installed = count is_installed;
+  present = count is_present;
+  full = count is_full;
+}
+
 -- the counts of some steps
 abbrev pub counts_of : List Step → StepCounts
-counts_of steps = record {
-  exact = count_by is_exact steps;
-  mega = count_by is_mega steps;
-  miss = count_by is_miss steps;
-  installed = count_by is_installed steps;
-  present = count_by is_present steps;
-  full = count_by is_full steps;
-}
+counts_of steps = counts_by (λ test. count_by test steps)
 
 -- the counts of the steps of some journals
 abbrev pub counts_of_all : List Journal → StepCounts
-counts_of_all journals = record {
-  exact = count_steps is_exact journals;
-  mega = count_steps is_mega journals;
-  miss = count_steps is_miss journals;
-  installed = count_steps is_installed journals;
-  present = count_steps is_present journals;
-  full = count_steps is_full journals;
-}
+counts_of_all journals = counts_by (λ test. count_steps test journals)
 
 abbrev pub plus : StepCounts → StepCounts → StepCounts
 plus a b = record {

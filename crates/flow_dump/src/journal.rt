@@ -1,19 +1,17 @@
 ghost use Rattle.std.specs.Prelude.{◌≡◌, All, OnOk, codes, string_bytes};
-ghost use Rattle.spec_board.specs.Texts.{line_of, word_with, step_text, journal_text, journals_text};
-ghost use Rattle.edge_io.specs.declared.outside.InUse.TheVariants.{Nothing, Created};
+ghost use Rattle.spec_board.specs.Texts.{line_of, word_with, step_text, journal_text};
+ghost use Rattle.edge_io.specs.declared.outside.InUse.TheVariants.{Created};
 ghost use Rattle.board_steps.specs.StepViews.{step_view, steps_view};
 ghost use Rattle.pmd_board.specs.BoardView.{journal_view};
 ghost use Rattle.flow_dump.specs.Lines.{steps_text};
-ghost use Rattle.edge_io.specs.Written.{WritesAll, WritesFile};
+ghost use Rattle.edge_io.specs.Written.{WritesAll};
 ghost use Rattle.board_steps.specs.Printable.{IsPrintable, IsPrintableStep, IsPrintableJournal};
 
 use board_steps::{Step, push_step};
-use edge_io::{Failed, Shelf, write_all, write_file};
+use edge_io::{Failed, Shelf, write_all};
 use pmd_board::Board;
 use run_case::Case;
-use std::alloc::Global;
 use std::fmt::Write;
-use step_runner::Finished;
 
 // Writes the line with a line feed. It isn't said what the buffer has then.
 fn write_line<S: Shelf>(shelf: &mut S, line: &mut String) -> Result<(), Failed>
@@ -62,8 +60,8 @@ fn write_steps<S: Shelf>(shelf: &mut S, line: &mut String, steps: &[Step]) -> Re
     Ok(())
 }
 
-// Writes the text of the journal of a board.
-fn write_journal<C: Case, S: Shelf>(
+/// Writes the text of the journal of a board.
+pub(crate) fn write_journal<C: Case, S: Shelf>(
     shelf: &mut S,
     line: &mut String,
     board: &Board<C>,
@@ -75,58 +73,4 @@ fn write_journal<C: Case, S: Shelf>(
 {
     write_port(shelf, line, board.port())?;
     write_steps(shelf, line, board.journal())
-}
-
-// Writes the texts of the journals of finished boards.
-fn write_boards<C: Case, S: Shelf>(
-    shelf: &mut S,
-    line: &mut String,
-    finished: &Finished<C>,
-) -> Result<(), Failed>
-    requires { S.in_use shelf.old ≡ Created }
-    ensures writes { let text = journals_text finished.now in
-        WritesAll S.Shelf shelf.old shelf.new text result }
-    ensures printable { OnOk result (All IsPrintableJournal finished.now) }
-{
-    let of_ports = finished.boards();
-    'boards: for board in of_ports {
-        write_journal(shelf, line, board)?;
-    }
-    Ok(())
-}
-
-/// Writes the journals of finished boards, one after the other, to a new file of this name, and closes it.
-///
-/// It takes memory for one line at a time.
-///
-/// # Errors
-///
-/// - `Fault`: the shelf failed in creating, writing or closing the file, and its count of writing rose.
-/// - `OutOfMemory`: there was no memory for a line, or for the shelf.
-///
-/// After an error the file was not created, or has a prefix of the text. It may then still be in use.
-pub fn write_journals<C: Case, S: Shelf>(
-    alloc: Global,
-    shelf: &mut S,
-    name: &str,
-    finished: &Finished<C>,
-) -> Result<(), Failed>
-    requires { S.in_use shelf.old ≡ Nothing }
-    ensures file { let text = journals_text finished.now in
-        WritesFile S.Shelf shelf.old shelf.new (name.now, text) result }
-
-    // So the text determines the journals, by `journals_text_is_one_to_one`.
-    ensures printable { OnOk result (All IsPrintableJournal finished.now) }
-{
-    let mut line = String::new(alloc);
-    write_file(
-        shelf,
-        name,
-        |shelf: &mut S| -> Result<(), Failed>
-            requires { S.in_use shelf.old ≡ Created }
-            ensures writes { let text = journals_text finished.entry.now in
-                WritesAll S.Shelf shelf.old shelf.new text result }
-            ensures printable { OnOk result (All IsPrintableJournal finished.entry.now) }
-        { write_boards(shelf, &mut line, finished) },
-    )
 }

@@ -25,6 +25,8 @@
 //! One buffer holds one line at a time. It is emptied and used again, so that after the first few lines no memory is
 //! taken, and each line is one write: a shelf gathers small writes itself, if it likes.
 //!
+//! What is written of each board, its journal or its megaflows, is a choice that one walk over the boards takes.
+//!
 //! The counts of all rules are summed once, over the boards and their megaflows (`rule_sums`), and the rules sorted once
 //! (`rule_lines`).
 //!
@@ -41,6 +43,7 @@
 //! was written in part: it may still be in use.
 #![tactic(auto)]
 
+mod boards;
 mod frame_counts;
 mod journal;
 mod megaflows;
@@ -48,7 +51,6 @@ mod rules;
 mod step_counts;
 mod summary;
 
-pub use journal::write_journals;
-pub use megaflows::write_megaflows;
+pub use boards::{write_journals, write_megaflows};
 pub use rules::write_rules;
 pub use summary::say_summary;

@@ -2,23 +2,21 @@ ghost use Rattle.std.specs.Prelude.{◌≡◌, Some, IsSome};
 ghost use Rattle.std.specs.Option.{option_map};
 ghost use Rattle.spec_board.specs.Results.{entry_of};
 ghost use Rattle.spec_dp_text.specs.Within.{AreWithinFields};
-ghost use Rattle.spec_dumps.specs.Megaflows.{megaflow_line, port_megaflows_text, megaflows_text};
-ghost use Rattle.edge_io.specs.declared.outside.InUse.TheVariants.{Nothing, Created};
-ghost use Rattle.edge_io.specs.Written.{WritesAll, WritesFile};
+ghost use Rattle.spec_dumps.specs.Megaflows.{megaflow_line, port_megaflows_text};
+ghost use Rattle.edge_io.specs.declared.outside.InUse.TheVariants.{Created};
+ghost use Rattle.edge_io.specs.Written.{WritesAll};
 ghost use Rattle.pmd_board.specs.BoardView.{journal_view, state_of};
 ghost use Rattle.megaflow_lines.specs.Views.{entry_with};
 ghost use Rattle.flow_dump.specs.Numbered.{line_of_number};
 
 use board_laws::{entries_are_found, entries_cover_what_they_were_made_for};
 use dp_text::translation_is_within_fields;
-use edge_io::{Failed, Shelf, write_all, write_file};
+use edge_io::{Failed, Shelf, write_all};
 use megaflow_lines::push_megaflow;
 use megaflow_table::Entry;
 use pmd_board::Board;
 use run_case::Case;
 use spec_actions::DpAction;
-use std::alloc::Global;
-use step_runner::Finished;
 
 // Writes the line of a megaflow that has these actions.
 fn write_entry<S: Shelf>(
@@ -70,8 +68,8 @@ fn write_numbered<C: Case, S: Shelf>(
     }
 }
 
-// Writes the lines of the megaflows of a board, in rising order of their numbers.
-fn write_board<C: Case, S: Shelf>(
+/// Writes the lines of the megaflows of a board, in rising order of their numbers.
+pub(crate) fn write_entries<C: Case, S: Shelf>(
     shelf: &mut S,
     line: &mut String,
     board: &Board<C>,
@@ -87,53 +85,4 @@ fn write_board<C: Case, S: Shelf>(
         write_numbered(shelf, line, board, *number)?;
     }
     Ok(())
-}
-
-// Writes the lines of the megaflows of finished boards.
-fn write_boards<C: Case, S: Shelf>(
-    shelf: &mut S,
-    line: &mut String,
-    finished: &Finished<C>,
-) -> Result<(), Failed>
-    requires { S.in_use shelf.old ≡ Created }
-    ensures { let text = megaflows_text C.run finished.now in
-        WritesAll S.Shelf shelf.old shelf.new text result }
-{
-    let of_ports = finished.boards();
-    'boards: for board in of_ports {
-        write_board(shelf, line, board)?;
-    }
-    Ok(())
-}
-
-/// Writes the megaflows that stand at finished boards, by port and number, to a new file of this name, and closes it.
-///
-/// It takes memory for one line at a time.
-///
-/// # Errors
-///
-/// - `Fault`: the shelf failed in creating, writing or closing the file, and its count of writing rose.
-/// - `OutOfMemory`: there was no memory for a line, or for the shelf.
-///
-/// After an error the file was not created, or has a prefix of the text. It may then still be in use.
-pub fn write_megaflows<C: Case, S: Shelf>(
-    alloc: Global,
-    shelf: &mut S,
-    name: &str,
-    finished: &Finished<C>,
-) -> Result<(), Failed>
-    requires { S.in_use shelf.old ≡ Nothing }
-    ensures file { let text = megaflows_text C.run finished.now in
-        WritesFile S.Shelf shelf.old shelf.new (name.now, text) result }
-{
-    let mut line = String::new(alloc);
-    write_file(
-        shelf,
-        name,
-        |shelf: &mut S| -> Result<(), Failed>
-            requires { S.in_use shelf.old ≡ Created }
-            ensures { let text = megaflows_text C.run finished.entry.now in
-                WritesAll S.Shelf shelf.old shelf.new text result }
-        { write_boards(shelf, &mut line, finished) },
-    )
 }

@@ -1,4 +1,4 @@
-use Rattle.flow_dump.proofs.journal.write_journals.Goals as goal
+use Rattle.flow_dump.proofs.boards.write_dump.Goals as goal
 
 pub write_file-requires-clause-fills : goal.write_file-requires-clause-fills
 write_file-requires-clause-fills g c = (_, λ before r after created call. call.0)

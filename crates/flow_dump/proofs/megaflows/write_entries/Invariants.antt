@@ -3,7 +3,7 @@ use Rattle.std.specs.List.{flat_map}
 use Rattle.edge_io.specs.Written.{HasWritten}
 use Rattle.pmd_board.specs.BoardView.{state_of}
 use Rattle.flow_dump.specs.Numbered.{line_of_number}
-use Rattle.flow_dump.proofs.megaflows.write_board.Given as goal
+use Rattle.flow_dump.proofs.megaflows.write_entries.Given as goal
 
 abbrev pub invariant-numbers : goal.invariant-numbers
 invariant-numbers g l =

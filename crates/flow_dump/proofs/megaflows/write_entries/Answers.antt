@@ -8,7 +8,7 @@ use Rattle.spec_board.specs.Results.{numbers_of}
 use Rattle.pmd_board.specs.BoardView.{state_of}
 use Rattle.flow_dump.specs.Numbered.{line_of_number}
 use Rattle.flow_dump.proofs.Numbered.{numbers-kept, live_in, lines_in}
-use Rattle.flow_dump.proofs.megaflows.write_board.Goals as goal
+use Rattle.flow_dump.proofs.megaflows.write_entries.Goals as goal
 
 pub write_numbered-requires-clause-created : goal.write_numbered-requires-clause-created
 write_numbered-requires-clause-created g c = c.numbers.invariant.in_use
