@@ -39,6 +39,12 @@ met_alike : (t : Bool) (x y v w : Board) → by_number x ≡ by_number y → by_
 met_alike true x y v w done other = (refl, done)
 met_alike false x y v w done other = (refl, other)
 
+-- what is done by the kept version of a number is done alike by lists that keep the same versions
+by_version : (step : Option ℕ → Board → Met) (number : ℕ) (k l : List Kept) → versions k ≡ versions l → (x y : Board)
+    → ((o : Option ℕ) → Alike (step o x) (step o y)) → Alike (step (kept_version number k) x) (step (kept_version number l) y)
+by_version step number k l same x y each =
+    subst (λ (o : Option ℕ). Alike (step (kept_version number k) x) (step o y)) (ap (λ (f : ℕ → Option ℕ). f number) same) (each (kept_version number k))
+
 module _ (run : Run) (newest port : ℕ) (steps : List Step) (state : State) where
   abbrev at : List Kept → List Kept → Board
   at s c = board port steps state s c
@@ -73,9 +79,7 @@ module _ (run : Run) (newest port : ℕ) (steps : List Step) (state : State) whe
     line_alike (given.Settle p place) =
         let u = given_up place s in
         let w = given_up place t in
-        subst (λ (o : Option ℕ). Alike (settle_kept run place (kept_version place s) (at u c)) (settle_kept run place o (at w d)))
-        (ap (λ (f : ℕ → Option ℕ). f place) snaps)
-        (settle_alike u w c d (given_up_alike place s t snaps) checks place (kept_version place s))
+        by_version (settle_kept run place) place s t snaps (at u c) (at w d) (settle_alike u w c d (given_up_alike place s t snaps) checks place)
     line_alike (given.Sweep p) =
         met_alike (is_none (begin_fault run state newest)) _ _ (at s c) (at t d)
         (boards_alike port _ _ s t c d snaps checks) (boards_alike port steps state s t c d snaps checks)
@@ -86,9 +90,7 @@ module _ (run : Run) (newest port : ℕ) (steps : List Step) (state : State) whe
     line_alike (given.Put p number) =
         let u = given_up number c in
         let w = given_up number d in
-        subst (λ (o : Option ℕ). Alike (put_kept run number (kept_version number c) (at s u)) (put_kept run number o (at t w)))
-        (ap (λ (f : ℕ → Option ℕ). f number) checks)
-        (put_alike s t u w snaps (given_up_alike number c d checks) number (kept_version number c))
+        by_version (put_kept run number) number c d checks (at s u) (at t w) (put_alike s t u w snaps (given_up_alike number c d checks) number)
     line_alike (given.Swept p) =
         met_alike (is_none (end_fault state)) _ _ (at s c) (at t d)
         (boards_alike port _ _ s t c d snaps checks) (boards_alike port steps state s t c d snaps checks)
