@@ -18,7 +18,7 @@ since {T} {before} {mid} {now} {r} same cause = subst (λ x. HasCause with_write
 
 module _ {S : Type 0} (g : shelf.Ghosts S) (old begun : S) (file : File)
     (created : IsTrue g.tells → g.told begun ≡ record (g.told old) { current = []; last = file.0 })
-    (counts : g.counts begun ≡ g.counts old) where
+    (noted : IsTrue g.tells → g.counts_at_last begun ≡ g.counts old) (counts : g.counts begun ≡ g.counts old) where
   -- it was cut short
   pub cut : {T U : Type 0} (now : S) (e : Failed) (r : Result U Failed) → r ≡ Err e → WritesAll g begun now {T = T} file.1 (Err e)
       → WritesFile g old now file r
@@ -29,6 +29,7 @@ module _ {S : Type 0} (g : shelf.Ghosts S) (old begun : S) (file : File)
     named = λ t _.
         let prefix = w.err t in
         ap (λ (x : Told). x.last) prefix.1 ∙ ap (λ (x : Told). x.last) (created t);
+    since = λ t _. w.since t ∙ noted t;
     opened = λ t.
         let prefix = w.err t in
         ap (λ (x : Told). x.opened) prefix.1 ∙ ap (λ (x : Told). x.opened) (created t);
@@ -37,13 +38,15 @@ module _ {S : Type 0} (g : shelf.Ghosts S) (old begun : S) (file : File)
 
   -- it was filled and closed, whatever closing it answers
   pub whole : {T U : Type 0} (filled now : S) (a : T) (r : Result U Failed) → WritesAll g begun filled file.1 (Ok a)
-      → g.in_use now ≡ Nothing → (IsTrue g.tells → g.told now ≡ closed (g.told filled)) → HasCause with_write_fault (g.counts filled) (g.counts now) r
+      → g.in_use now ≡ Nothing → (IsTrue g.tells → g.told now ≡ closed (g.told filled)) → (IsTrue g.tells → g.counts_at_last now ≡ g.counts_at_last filled)
+      → HasCause with_write_fault (g.counts filled) (g.counts now) r
       → WritesFile g old now file r
-  whole filled now a r w idle is cause = record {
+  whole filled now a r w idle is stands cause = record {
     in_use = on_ok r idle;
     ok = λ t. on_ok r (made t);
     err = λ t. on_err r (closed_prefix (g.told old) (g.told now) file (g.in_use now) idle (made t));
     named = λ t _. ap (λ (x : Told). x.last) (made t);
+    since = λ t _. stands t ∙ w.since t ∙ noted t;
     opened = λ t. ap (λ (x : Told). x.opened) (made t);
     cause = since (w.cause.ok ∙ counts) cause;
   }

@@ -33,7 +33,7 @@ module _ {C : Type 0} (with_one : C → C) (before now : C) where
 module _ {S : Type 0} (g : shelf.Ghosts S) where
   -- nothing was written yet
   pub none_yet : (s : S) → g.in_use s ≡ Created → HasWritten g s s []
-  none_yet s is = record { in_use = is; ok = λ t. wrote_none (g.told s); err = λ t. tt; cause = uncounted with_write_fault _ _ tt refl }
+  none_yet s is = record { in_use = is; ok = λ t. wrote_none (g.told s); err = λ t. tt; since = λ t. refl; cause = uncounted with_write_fault _ _ tt refl }
 
   module _ {T U : Type 0} (old new : S) (r : Result U Failed) where
     -- the first of two pieces was cut short
@@ -42,6 +42,7 @@ module _ {S : Type 0} (g : shelf.Ghosts S) where
       in_use = w.in_use;
       ok = λ t. tt;
       err = λ t. prefix_of_first (g.told old) (g.told new) xs ys (w.err t);
+      since = w.since;
       cause = recounted with_write_fault _ _ e w.cause;
     })
 
@@ -51,12 +52,13 @@ module _ {S : Type 0} (g : shelf.Ghosts S) where
       in_use = w.in_use;
       ok = λ t. on_ok_weaker r (wrote_both (g.told old) (g.told mid) (g.told new) xs ys (first.ok t)) (w.ok t);
       err = λ t. on_err_weaker r (prefix_of_second (g.told old) (g.told mid) (g.told new) xs ys (first.ok t)) (w.err t);
+      since = λ t. w.since t ∙ first.since t;
       cause = rw (← first.cause.ok) w.cause;
     }
 
   -- whatever the answer holds
   pub has_written : {T : Type 0} (old new : S) (bytes : List ℕ) (a : T) → WritesAll g old new bytes (Ok a) → HasWritten g old new bytes
-  has_written old new bytes a w = record { in_use = w.in_use; ok = w.ok; err = λ t. tt; cause = uncounted with_write_fault _ _ tt w.cause.ok }
+  has_written old new bytes a w = record { in_use = w.in_use; ok = w.ok; err = λ t. tt; since = w.since; cause = uncounted with_write_fault _ _ tt w.cause.ok }
 
   -- out of memory before anything was written
   pub out_of_memory : {T : Type 0} (s : S) (bytes : List ℕ) (r : Result T Failed) → r ≡ Err OutOfMemory → g.in_use s ≡ Created → WritesAll g s s bytes r
@@ -64,6 +66,7 @@ module _ {S : Type 0} (g : shelf.Ghosts S) where
     in_use = created;
     ok = λ t. tt;
     err = λ t. (0, wrote_none (g.told s));
+    since = λ t. refl;
     cause = record { fault = λ h. cc; no_memory = λ h. refl; ok = tt };
   })
 
@@ -95,5 +98,6 @@ module _ {S : Type 0} (g : shelf.Ghosts S) where
       in_use = w.in_use;
       ok = λ t. wrote_more bytes (g.told old) (g.told mid) (g.told new) xs i d lt (before.ok t) (w.ok t);
       err = λ t. tt;
+      since = λ t. w.since t ∙ before.since t;
       cause = uncounted with_write_fault _ _ tt (w.cause.ok ∙ before.cause.ok);
     }

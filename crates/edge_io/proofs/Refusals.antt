@@ -8,8 +8,8 @@ use Rattle.edge_io.specs.declared.outside.Failed.TheVariants as failed
 use Rattle.edge_io.specs.declared.outside.InUse.{InUse}
 use Rattle.edge_io.specs.declared.outside.InUse.TheVariants.{Nothing}
 use Rattle.edge_io.specs.declared.reading.ReadFault.{ReadFault}
-use Rattle.edge_io.specs.declared.reading.ReadFault.TheVariants.{Over}
-use Rattle.edge_io.specs.Counts.{Counts, HasCause, ReadFailed, with_read_fault}
+use Rattle.edge_io.specs.declared.reading.ReadFault.TheVariants.{Fault, Over}
+use Rattle.edge_io.specs.Counts.{Counts, HasCause, Notes, ReadFailed, with_read_fault}
 use Rattle.edge_io.specs.Shelf.{Told, Opens}
 use Rattle.edge_io.specs.ReadAll.{read_fault_of, in_use_after, ReadCause, OnlyRead, IsAsked, Names}
 
@@ -71,3 +71,10 @@ cause before now r failed.OutOfMemory from has =
       over = λ _. has.no_memory refl;
       ok = rw e tt;
     }
+
+-- what was noted as the name was asked for
+pub noted : {T U : Type 0} (counts before now : Counts) (r : Result T ReadFault) (f : Failed) → IsFrom f r →
+    Notes {T = U} counts before now (Err f) → IsErrOf r Fault → now ≡ counts
+noted counts before now r failed.Fault from notes h = notes.fault refl
+noted counts before now r failed.OutOfMemory from notes h =
+    let x = sym (answer r failed.OutOfMemory from) ∙ h in cc

@@ -30,6 +30,12 @@ pub record HasCause {T C : Type 0} (with_one : C → C) (before now : C) (result
   pub no_memory : IsErrOf result OutOfMemory → now ≡ before
   pub ok : OnOk result (now ≡ before)
 
+-- As a name is asked for, the counts before the call are noted. Out of memory, it was not asked for.
+pub record Notes {T : Type 0} (counts before now : Counts) (result : Result T Failed) : Type 0 where
+  pub fault : IsErrOf result Fault → now ≡ counts
+  pub no_memory : IsErrOf result OutOfMemory → now ≡ before
+  pub ok : OnOk result (now ≡ counts)
+
 -- Of several calls: the count of reading rose, and that of writing stands.
 pub record ReadFailed (before now : Counts) : Type 0 where
   pub reading : Rose before.reading now.reading

@@ -25,6 +25,7 @@ module _ {S : Type 0} (g : shelf.Ghosts S) (old new : S) where
     pub in_use : g.in_use new ≡ Created
     pub ok : IsTrue g.tells → OnOk result (g.told new ≡ wrote (g.told old) bytes)
     pub err : IsTrue g.tells → OnErr result (WrotePrefix (g.told old) (g.told new) bytes)
+    pub since : IsTrue g.tells → g.counts_at_last new ≡ g.counts_at_last old
     pub cause : HasCause with_write_fault (g.counts old) (g.counts new) result
 
   -- All these bytes were written to it.
@@ -32,11 +33,13 @@ module _ {S : Type 0} (g : shelf.Ghosts S) (old new : S) where
   HasWritten bytes = WritesAll {T = Unit {0}} bytes (Ok tt)
 
   -- A file of this name and these bytes is created, written and closed. After a refusal it has a prefix of the bytes, or
-  -- was not created, and it may still be in use; a fault leaves its name as the last one. No file is opened.
+  -- was not created, and it may still be in use; a fault leaves its name as the last one, and none came before that was asked
+  -- for. No file is opened.
   pub record WritesFile {T : Type 0} (file : File) (result : Result T Failed) : Type 0 where
     pub in_use : OnOk result (g.in_use new ≡ Nothing)
     pub ok : IsTrue g.tells → OnOk result (g.told new ≡ kept (g.told old) file)
     pub err : IsTrue g.tells → OnErr result (IsPrefixOf (g.told old).done file (written (g.in_use new) (g.told new)))
     pub named : IsTrue g.tells → IsErrOf result Fault → (g.told new).last ≡ file.0
+    pub since : IsTrue g.tells → IsErrOf result Fault → g.counts_at_last new ≡ g.counts old
     pub opened : IsTrue g.tells → (g.told new).opened ≡ (g.told old).opened
     pub cause : HasCause with_write_fault (g.counts old) (g.counts new) result

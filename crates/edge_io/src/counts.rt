@@ -39,6 +39,16 @@ impl FaultCounts {
         }
     }
 
+    /// The same counts again.
+    pub fn snapshot(&self) -> FaultCounts
+        ensures { result ≡ self.now }
+    {
+        FaultCounts {
+            reading: self.reading,
+            writing: self.writing,
+        }
+    }
+
     /// Counts a failed call of reading.
     pub fn read_fault(&mut self) -> Failed
         ensures fault { result ≡ Failed.Fault }

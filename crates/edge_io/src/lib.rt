@@ -24,7 +24,8 @@
 //! closed, what was written to the created file, the name that was last asked for, and the names that were
 //! asked for to be read, in their order. Each call is one change of that record, after a refusal too: a fault
 //! may take a prefix of the bytes, out of memory takes none. So "the files written are exactly these" is one
-//! equation, and the name of a refused file is known.
+//! equation, and the name of a refused file is known. With that name `counts_at_last` keeps the counts as they
+//! were before it was asked for, so that no fault of an earlier file passes for one of that file.
 //! A sink that tells says which bytes were written.
 //!
 //! # Which file is in use

@@ -1,7 +1,7 @@
 ghost use Rattle.std.specs.Prelude.{◌≡◌, ◌≢◌, ℕ, ◌<◌, ◌≤◌, Bool, List, length, IsTrue, OnOk, OnErr, IfOk, IsErrOf};
 ghost use Rattle.edge_io.specs.declared.outside.Failed.TheVariants.{OutOfMemory};
 ghost use Rattle.edge_io.specs.declared.outside.InUse.{InUse};
-ghost use Rattle.edge_io.specs.Counts.{Counts, with_fault, with_read_fault, with_write_fault, HasCause};
+ghost use Rattle.edge_io.specs.Counts.{Counts, no_faults, with_fault, with_read_fault, with_write_fault, HasCause, Notes};
 ghost use Rattle.edge_io.specs.Shelf.{Told, Opens, Reads, Creates, Writes, released, closed};
 ghost use Rattle.edge_io.specs.Sink.{Says};
 
@@ -54,12 +54,17 @@ pub trait Shelf {
     /// How often its calls have failed.
     ghost counts: { Self → Counts };
 
+    /// The counts as they were when the last name was asked for.
+    ghost counts_at_last: { Self → Counts } = { λ _. no_faults };
+
     /// Opens the file of a name, to be read from its beginning.
     fn open_file(&mut self, name: &str) -> Result<(), Failed>
         requires { in_use self.old ≡ InUse.Nothing }
         ensures opened { OnOk result (in_use self.new ≡ InUse.Opened) }
         ensures refused { OnErr result (in_use self.new ≡ InUse.Nothing) }
         ensures told { IsTrue tells → Opens (told self.old) (told self.new) name.now result }
+        ensures since { IsTrue tells →
+            Notes (counts self.old) (counts_at_last self.old) (counts_at_last self.new) result }
         ensures cause { HasCause with_read_fault (counts self.old) (counts self.new) result };
 
     /// Reads the next bytes of the opened file to the front of `into`, and answers how many. A read
@@ -69,6 +74,7 @@ pub trait Shelf {
         ensures in_use { in_use self.new ≡ InUse.Opened }
         ensures bound { IfOk result (λ n. n ≤ length into.new) }
         ensures told { IsTrue tells → Reads (told self.old) (told self.new) into.new result }
+        ensures since { IsTrue tells → counts_at_last self.new ≡ counts_at_last self.old }
         ensures cause { HasCause with_read_fault (counts self.old) (counts self.new) result };
 
     /// Creates an empty file of a name, to be written.
@@ -77,6 +83,8 @@ pub trait Shelf {
         ensures created { OnOk result (in_use self.new ≡ InUse.Created) }
         ensures refused { OnErr result (in_use self.new ≡ InUse.Nothing) }
         ensures told { IsTrue tells → Creates (told self.old) (told self.new) name.now result }
+        ensures since { IsTrue tells →
+            Notes (counts self.old) (counts_at_last self.old) (counts_at_last self.new) result }
         ensures cause { HasCause with_write_fault (counts self.old) (counts self.new) result };
 
     /// Writes bytes from the front of these to the created file, and answers how many: at least one,
@@ -87,6 +95,7 @@ pub trait Shelf {
         ensures bound { IfOk result (λ n. n ≤ length bytes.now) }
         ensures some { IfOk result (λ n. 0 < length bytes.now → 0 < n) }
         ensures told { IsTrue tells → Writes (told self.old) (told self.new) bytes.now result }
+        ensures since { IsTrue tells → counts_at_last self.new ≡ counts_at_last self.old }
         ensures cause { HasCause with_write_fault (counts self.old) (counts self.new) result };
 
     /// Closes the file that is in use. It is closed whatever the answer is, and a created one keeps
@@ -94,6 +103,7 @@ pub trait Shelf {
     fn close_file(&mut self) -> Result<(), Failed>
         requires { in_use self.old ≢ InUse.Nothing }
         ensures in_use { in_use self.new ≡ InUse.Nothing }
+        ensures since { IsTrue tells → counts_at_last self.new ≡ counts_at_last self.old }
 
         // An opened file.
         ensures told_opened { IsTrue tells → in_use self.old ≡ InUse.Opened →

@@ -55,6 +55,7 @@ fn read_rest<S: Shelf>(
         max < length (S.told shelf.old).left }
     ensures told { IsTrue S.tells →
         S.told shelf.new ≡ record (S.told shelf.old) { left = (S.told shelf.new).left } }
+    ensures since { IsTrue S.tells → S.counts_at_last shelf.new ≡ S.counts_at_last shelf.old }
     ensures cause { ReadCause (S.counts shelf.old) (S.counts shelf.new) result }
 {
     let mut bytes = Vec::new(alloc);
@@ -85,6 +86,7 @@ fn read_opened<S: Shelf>(
         max < length (S.told shelf.old).left }
     ensures told { IsTrue S.tells →
         S.told shelf.new ≡ record (S.told shelf.old) { left = (S.told shelf.new).left } }
+    ensures since { IsTrue S.tells → S.counts_at_last shelf.new ≡ S.counts_at_last shelf.old }
     ensures left { IsTrue S.tells → OnOk result ((S.told shelf.new).left ≡ []) }
     ensures cause { ReadCause (S.counts shelf.old) (S.counts shelf.new) result }
 {
@@ -142,6 +144,10 @@ pub fn read_all<S: Shelf>(
         OnOk result (S.told shelf.new ≡ was_read (S.told shelf.old) name.now) }
     ensures only_read { IsTrue S.tells → OnlyRead (S.told shelf.old) (S.told shelf.new) }
     ensures named { IsTrue S.tells → Names (S.told shelf.old) (S.told shelf.new) name.now result }
+
+    // No call failed before the name was asked for.
+    ensures since { IsTrue S.tells → IsErrOf result ReadFault.Fault →
+        S.counts_at_last shelf.new ≡ S.counts shelf.old }
     ensures cause { ReadCause (S.counts shelf.old) (S.counts shelf.new) result }
 {
     let mut piece = vec![in alloc; 0; PIECE]?;

@@ -19,6 +19,10 @@ shelf_in_use s = s.folder.in_use
 abbrev pub shelf_counts : MemoryShelf → Counts
 shelf_counts s = s.counts
 
+-- the counts as the last name was asked for
+abbrev pub shelf_counts_at_last : MemoryShelf → Counts
+shelf_counts_at_last s = s.counts_at_last
+
 abbrev pub shelf_calls : MemoryShelf → Calls
 shelf_calls s = s.calls
 

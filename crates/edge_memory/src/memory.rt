@@ -1,7 +1,7 @@
 ghost use Rattle.std.specs.Prelude.{◌≡◌, ◌≢◌, ◌<◌, ◌≤◌, ◌⊎◌, ◌↔◌, true, length, None, IsSome, IfSome, OnOk, OnErr, IfOk};
 ghost use Rattle.edge_io.specs.declared.outside.InUse.TheVariants.{Nothing, Opened, Created};
 ghost use Rattle.edge_memory.specs.Calls.{with_call, IsDue, FailsWhere};
-ghost use Rattle.edge_io.specs.Counts.{no_faults, with_read_fault, with_write_fault, HasCause};
+ghost use Rattle.edge_io.specs.Counts.{no_faults, with_read_fault, with_write_fault, HasCause, Notes};
 ghost use Rattle.edge_io.specs.Shelf.{untouched, Opens, Reads, Creates, Writes, released, closed};
 ghost use Rattle.spec_base.specs.Files.{lookup};
 ghost use Rattle.edge_memory.specs.Stored.{pairs, names};
@@ -19,10 +19,11 @@ pub struct MemoryShelf {
     folder: Folder,
     calls: NumberedCalls,
     counts: FaultCounts,
+    counts_at_last: FaultCounts,
 }
 
 impl MemoryShelf {
-    ghost use Rattle.edge_memory.specs.Memory.{shelf_told, shelf_in_use, shelf_counts, shelf_calls};
+    ghost use Rattle.edge_memory.specs.Memory.{shelf_told, shelf_in_use, shelf_counts, shelf_counts_at_last, shelf_calls};
 
     /// A shelf that holds these files, of a name the first. The calls of `fails` are numbered from 1
     /// over all five functions.
@@ -30,12 +31,14 @@ impl MemoryShelf {
         ensures told { shelf_told result ≡ untouched (lookup (pairs files.items)) }
         ensures in_use { shelf_in_use result ≡ Nothing }
         ensures counts { shelf_counts result ≡ no_faults }
+        ensures noted { shelf_counts_at_last result ≡ no_faults }
         ensures calls { shelf_calls result ≡ record { made = 0; to_fail = fails.items } }
     {
         MemoryShelf {
             folder: Folder::new(alloc, files),
             calls: NumberedCalls::new(fails),
             counts: FaultCounts::new(),
+            counts_at_last: FaultCounts::new(),
         }
     }
 
@@ -72,7 +75,7 @@ impl MemoryShelf {
 
 // Each function says first which of its calls fail, and then what every shelf promises.
 impl Shelf for MemoryShelf {
-    ghost use Rattle.edge_memory.specs.Memory.{shelf_told, shelf_in_use, shelf_counts, shelf_calls};
+    ghost use Rattle.edge_memory.specs.Memory.{shelf_told, shelf_in_use, shelf_counts, shelf_counts_at_last, shelf_calls};
 
     ghost tells = { true };
 
@@ -81,6 +84,8 @@ impl Shelf for MemoryShelf {
     ghost in_use = { shelf_in_use };
 
     ghost counts = { shelf_counts };
+
+    ghost counts_at_last = { shelf_counts_at_last };
 
     fn open_file(&mut self, name: &str) -> Result<(), Failed>
         requires { shelf_in_use self.old ≡ Nothing }
@@ -91,16 +96,20 @@ impl Shelf for MemoryShelf {
         ensures opened { OnOk result (shelf_in_use self.new ≡ Opened) }
         ensures refused { OnErr result (shelf_in_use self.new ≡ Nothing) }
         ensures told { Opens (shelf_told self.old) (shelf_told self.new) name.now result }
+        ensures since { let noted = shelf_counts_at_last self.new in
+            Notes (shelf_counts self.old) (shelf_counts_at_last self.old) noted result }
         ensures cause { HasCause with_read_fault (shelf_counts self.old) (shelf_counts self.new) result }
     {
         let due = self.calls.next_fails();
         match self.folder.place_of(name) {
             Some(place) if !due => {
                 self.folder.open(Some(place), name)?;
+                self.counts_at_last = self.counts.snapshot();
                 Ok(())
             }
             _ => {
                 self.folder.keep_opened(name)?;
+                self.counts_at_last = self.counts.snapshot();
                 Err(self.counts.read_fault())
             }
         }
@@ -114,6 +123,7 @@ impl Shelf for MemoryShelf {
         ensures in_use { shelf_in_use self.new ≡ Opened }
         ensures bound { IfOk result (λ n. n ≤ length into.new) }
         ensures told { Reads (shelf_told self.old) (shelf_told self.new) into.new result }
+        ensures since { shelf_counts_at_last self.new ≡ shelf_counts_at_last self.old }
         ensures cause { HasCause with_read_fault (shelf_counts self.old) (shelf_counts self.new) result }
     {
         if self.calls.next_fails() {
@@ -130,13 +140,17 @@ impl Shelf for MemoryShelf {
         ensures created { OnOk result (shelf_in_use self.new ≡ Created) }
         ensures refused { OnErr result (shelf_in_use self.new ≡ Nothing) }
         ensures told { Creates (shelf_told self.old) (shelf_told self.new) name.now result }
+        ensures since { let noted = shelf_counts_at_last self.new in
+            Notes (shelf_counts self.old) (shelf_counts_at_last self.old) noted result }
         ensures cause { HasCause with_write_fault (shelf_counts self.old) (shelf_counts self.new) result }
     {
         if self.calls.next_fails() {
             self.folder.keep_name(name)?;
+            self.counts_at_last = self.counts.snapshot();
             return Err(self.counts.write_fault());
         }
         self.folder.create(name)?;
+        self.counts_at_last = self.counts.snapshot();
         Ok(())
     }
 
@@ -149,6 +163,7 @@ impl Shelf for MemoryShelf {
         ensures bound { IfOk result (λ n. n ≤ length bytes.now) }
         ensures some { IfOk result (λ n. 0 < length bytes.now → 0 < n) }
         ensures told { Writes (shelf_told self.old) (shelf_told self.new) bytes.now result }
+        ensures since { shelf_counts_at_last self.new ≡ shelf_counts_at_last self.old }
         ensures cause { HasCause with_write_fault (shelf_counts self.old) (shelf_counts self.new) result }
     {
         let refused = self.calls.next_fails();
@@ -165,6 +180,7 @@ impl Shelf for MemoryShelf {
         ensures fails { FailsWhere (IsDue (shelf_calls self.new)) result }
 
         ensures in_use { shelf_in_use self.new ≡ Nothing }
+        ensures since { shelf_counts_at_last self.new ≡ shelf_counts_at_last self.old }
         ensures told_opened { shelf_in_use self.old ≡ Opened →
             shelf_told self.new ≡ released (shelf_told self.old) }
         ensures cause_opened { shelf_in_use self.old ≡ Opened →

@@ -106,6 +106,7 @@ not_created g s file r is nothing = rw is (record {
   ok = λ t. tt;
   err = λ t. rw nothing (inl refl);
   named = λ t h. cc;
+  since = λ t h. cc;
   opened = λ t. refl;
   cause = record { fault = λ h. cc; no_memory = λ h. refl; ok = tt };
 })

@@ -53,6 +53,7 @@ module _ {S K : Type 0} (g : shelf.Ghosts S) (h : sink.Ghosts K) (words : List (
   })
   ended (Reading (input.ReadFault name)) left is silent = ReadingFailed refl (record {
     counts = left.cause;
+    since = left.since;
     opened = λ t. subst (λ n. HasOpenedUpTo (g.told old) (g.told new) (files_opened words (g.told old).holds) n) (sym (left.named t)) (left.opened t);
     unwritten = left.unwritten;
     printed = λ t k. subst (λ n. Printed said (read_fault_text n)) (sym (left.named t)) (printed (read_fault_text name.now) left.unsaid is k);
@@ -65,6 +66,7 @@ module _ {S K : Type 0} (g : shelf.Ghosts S) (h : sink.Ghosts K) (words : List (
   })
   ended (Output (Files (WriteFault name))) left is silent = FileFailed refl (record {
     counts = left.cause;
+    since = left.since;
     opened = left.opened;
     run = λ t. (left.run t).0;
     printed = λ t k. subst (λ n. Printed said (write_fault_text n)) (sym ((left.run t).1)) (printed (write_fault_text (string_bytes name)) left.unsaid is k);

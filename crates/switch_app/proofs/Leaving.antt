@@ -78,10 +78,14 @@ module _ {S K : Type 0} (g : shelf.Ghosts S) (h : sink.Ghosts K) (words : List (
   write_cause : (r : WriteRefusal) → HasWriteCause (g.counts mid) (g.counts new) r → HasWriteCause (g.counts old) (g.counts new) r
   write_cause r cause = subst (λ (counts : Counts). HasWriteCause counts (g.counts new) r) stood cause
 
+  noted : (r : WriteRefusal) → IfWriteFault r (λ _. g.counts_at_last new ≡ g.counts mid) → IfWriteFault r (λ _. g.counts_at_last new ≡ g.counts old)
+  noted r since = subst (λ (counts : Counts). IfWriteFault r (λ _. g.counts_at_last new ≡ counts)) stood since
+
   by_journals : (r : OutputRefusal) → ByJournals accepted.command.workers accepted.run (λ journals. CutsOut g h mid new said saying (files journals) (text journals) r)
       → Leaves g h words old new said saying (Output r)
   by_journals (Files r) by = record {
     run = λ t. is_written t by.journals by.are_journals r (by.holds.cut t) (by.holds.named t);
+    since = λ t. noted r (by.holds.since t);
     opened = opens;
     cause = write_cause r by.holds.cause;
     unsaid = by.holds.unsaid;
@@ -104,6 +108,7 @@ module _ {S K : Type 0} (g : shelf.Ghosts S) (h : sink.Ghosts K) (words : List (
   untouched : IsUntouched g h mid new said saying → Leaves g h words old new said saying (Output (Files OutOfMemory))
   untouched u = record {
     run = λ t. inl (only_read t (u.told t));
+    since = λ t. tt;
     opened = opens;
     cause = u.counts ∙ stood;
     unsaid = u.unsaid;

@@ -49,17 +49,19 @@ module _ {S K : Type 0} (g : shelf.Ghosts S) (h : sink.Ghosts K) (words : List (
     pub printed : IsTrue g.tells → IsTrue h.tells
         → PrintsRefusal words held h.needs_memory (h.faults said) (h.faults saying) (h.written said) (h.written saying)
 
-  -- Reading failed, in the last file that was opened, before which none is refused. Nothing is written.
+  -- Reading failed, in the last file that was opened, before which none is refused and no call failed. Nothing is written.
   pub record HasReadFailed : Type 0 where
     pub counts : ReadFailed (g.counts old) (g.counts new)
+    pub since : IsTrue g.tells → g.counts_at_last new ≡ g.counts old
     pub opened : IsTrue g.tells → HasOpenedUpTo (g.told old) (g.told new) (files_opened words held) (g.told new).last
     pub unwritten : WritesNothing
     pub printed : IsTrue g.tells → Says (read_fault_text (g.told new).last)
 
-  -- One call of writing failed: the run was accepted, the files before the last name are whole, and it has a prefix of its
-  -- bytes, or was not created.
+  -- One call of writing failed, after the last name was asked for: the run was accepted, the files before that name are whole,
+  -- and it has a prefix of its bytes, or was not created.
   pub record HasFileFailed : Type 0 where
     pub counts : g.counts new ≡ with_write_fault (g.counts old)
+    pub since : IsTrue g.tells → g.counts_at_last new ≡ g.counts old
     pub opened : OpensAll
     pub run : IsTrue g.tells → IsCutRun words held (g.told old).done (written (g.in_use new) (g.told new)) (g.told new).last
     pub printed : IsTrue g.tells → Says (write_fault_text (g.told new).last)

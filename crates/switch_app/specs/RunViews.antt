@@ -19,7 +19,7 @@ use Rattle.switch_refusals.specs.Refused.{Explains, IfReadFault, HasReadCause, H
 use Rattle.switch_output.specs.declared.refusal.WriteRefusal.{WriteRefusal}
 use Rattle.switch_output.specs.declared.refusal.WriteRefusal.TheVariants.{WriteFault, OutOfMemory}
 use Rattle.switch_output.specs.declared.refusal.OutputRefusal.TheVariants.{Files, Summary}
-use Rattle.switch_output.specs.Refused.{HasWriteCause}
+use Rattle.switch_output.specs.Refused.{IfWriteFault, HasWriteCause}
 use Rattle.switch_app.specs.declared.refusal.Refusal.{Refusal}
 use Rattle.switch_app.specs.declared.refusal.Refusal.TheVariants.{Reading, Output}
 
@@ -46,6 +46,7 @@ module _ {S K : Type 0} (g : shelf.Ghosts S) (h : sink.Ghosts K) (words : List (
   pub record LeavesUnread (r : InputRefusal) : Type 0 where
     pub verdict : IsTrue g.tells → Explains (verdict words (g.told old).holds) r
     pub named : IsTrue g.tells → IfReadFault r (λ name. (g.told new).last ≡ name)
+    pub since : IsTrue g.tells → IfReadFault r (λ _. g.counts_at_last new ≡ g.counts old)
     pub unwritten : IsTrue g.tells → OnlyRead (g.told old) (g.told new)
     pub opened : IsTrue g.tells → HasOpenedUntil (g.told old) (g.told new) (files_opened words (g.told old).holds) r
     pub cause : HasReadCause (g.counts old) (g.counts new) r
@@ -67,6 +68,7 @@ module _ {S K : Type 0} (g : shelf.Ghosts S) (h : sink.Ghosts K) (words : List (
   -- The files were not written whole, and nothing was printed.
   pub record LeavesUnwritten (r : WriteRefusal) : Type 0 where
     pub run : IsTrue g.tells → IsWritten r
+    pub since : IsTrue g.tells → IfWriteFault r (λ _. g.counts_at_last new ≡ g.counts old)
     pub opened : HasRead
     pub cause : HasWriteCause (g.counts old) (g.counts new) r
     pub unsaid : saying ≡ said

@@ -123,6 +123,8 @@ pub fn read_edits<'a, S: Shelf>(
     ensures err { IsTrue S.tells → IfErr result (Explains (script_in (S.told shelf.old).holds name.now)) }
     ensures fault { IfErr result (λ r. IfReadFault r (λ n. n ≡ name.now)) }
     ensures named { IsTrue S.tells → IfErr result (λ r. IfReadFault r (λ n. (S.told shelf.new).last ≡ n)) }
+    ensures since { IsTrue S.tells →
+        IfErr result (λ r. IfReadFault r (λ _. S.counts_at_last shelf.new ≡ S.counts shelf.old)) }
     ensures told { IsTrue S.tells → OnlyRead (S.told shelf.old) (S.told shelf.new) }
     ensures opened { IsTrue S.tells →
         OpensInTurn (S.told shelf.old) (S.told shelf.new) (name.now ∷ []) result }

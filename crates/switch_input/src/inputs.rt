@@ -57,6 +57,8 @@ fn read_sources<'a, S: Shelf>(
     ensures err { let sources = sources_for command.entry in IsTrue S.tells → IfErr result
         (Explains (run_in (S.told shelf.old).holds command.entry.flow_limit sources)) }
     ensures named { IsTrue S.tells → IfErr result (λ r. IfReadFault r (λ n. (S.told shelf.new).last ≡ n)) }
+    ensures since { IsTrue S.tells →
+        IfErr result (λ r. IfReadFault r (λ _. S.counts_at_last shelf.new ≡ S.counts shelf.old)) }
     ensures told { IsTrue S.tells → OnlyRead (S.told shelf.old) (S.told shelf.new) }
     ensures opened { let names = sources_opened (S.told shelf.old).holds (sources_for command.entry) in
         IsTrue S.tells → OpensInTurn (S.told shelf.old) (S.told shelf.new) names result }
@@ -117,6 +119,8 @@ fn read_run<'a, S: Shelf>(
         IsTrue S.tells → IfErr result
         (Explains (run_in files command.entry.flow_limit (sources_for command.entry))) }
     ensures named { IsTrue S.tells → IfErr result (λ r. IfReadFault r (λ n. (S.told shelf.new).last ≡ n)) }
+    ensures since { IsTrue S.tells →
+        IfErr result (λ r. IfReadFault r (λ _. S.counts_at_last shelf.new ≡ S.counts shelf.old)) }
     ensures told { IsTrue S.tells → OnlyRead (S.told shelf.old) (S.told shelf.new) }
     ensures opened { let names = opened_for (S.told shelf.old).holds (input_view command.entry.input) in
         IsTrue S.tells → OpensInTurn (S.told shelf.old) (S.told shelf.new) names result }
@@ -145,11 +149,14 @@ pub fn read_inputs<'a, S: Shelf>(
     ensures within { IfOk result IsWithinLimits }
     ensures without_fault { OnOk result (S.counts shelf.new ≡ S.counts shelf.old) }
 
-    // A refusal of an input is the verdict's, and a fault is told of the file that was last asked for.
+    // A refusal of an input is the verdict's, and a fault is told of the file that was last asked for, before
+    // which no call failed.
     ensures refused { IsTrue S.tells
         → IfErr result (Explains (verdict (texts words.now) (S.told shelf.old).holds)) }
     ensures read_fault_name { IsTrue S.tells
         → IfErr result (λ r. IfReadFault r (λ name. (S.told shelf.new).last ≡ name)) }
+    ensures since { IsTrue S.tells →
+        IfErr result (λ r. IfReadFault r (λ _. S.counts_at_last shelf.new ≡ S.counts shelf.old)) }
     ensures cause { IfErr result (HasReadCause (S.counts shelf.old) (S.counts shelf.new)) }
 
     // Nothing but reading is done, and each file is opened only where none before it is refused.

@@ -19,7 +19,8 @@
 //! - The files that are opened are those that the verdict opens, each once and in its order: all of them, or those up to the
 //!   one at which reading failed, or, out of memory, a prefix. So none is opened after one that is refused.
 //! - Where a number makes what is read, the shelf isn't touched.
-//! - A read fault is told only where calls of reading failed, and of the file that was last asked for.
+//! - A read fault is told only where calls of reading failed, and of the file that was last asked for, before which none
+//!   did.
 //! - Nothing else is refused, unless memory runs out. Whatever the answer is, nothing is written, and all but a read fault
 //!   leave the counts of the shelf as they stood.
 //!

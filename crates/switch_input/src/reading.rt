@@ -32,6 +32,8 @@ pub fn read_file<'a, S: Shelf>(
         (λ _. IsSomeAnd ((S.told shelf.old).holds name.now) (λ b. most < length b))) }
     ensures fault { IfErr result (λ r. IfReadFault r (λ n. n ≡ name.now)) }
     ensures named { IsTrue S.tells → IfErr result (λ r. IfReadFault r (λ n. (S.told shelf.new).last ≡ n)) }
+    ensures since { IsTrue S.tells →
+        IfErr result (λ r. IfReadFault r (λ _. S.counts_at_last shelf.new ≡ S.counts shelf.old)) }
     ensures told { IsTrue S.tells → OnlyRead (S.told shelf.old) (S.told shelf.new) }
     ensures opened { IsTrue S.tells →
         OpensInTurn (S.told shelf.old) (S.told shelf.new) (name.now ∷ []) result }
@@ -84,6 +86,8 @@ fn read_trace_file<'a, S: Shelf>(
         → IfErr result (Explains (file_in (S.told shelf.old).holds bytes_left frames_left name.now)) }
     ensures fault { IfErr result (λ r. IfReadFault r (λ n. n ≡ name.now)) }
     ensures named { IsTrue S.tells → IfErr result (λ r. IfReadFault r (λ n. (S.told shelf.new).last ≡ n)) }
+    ensures since { IsTrue S.tells →
+        IfErr result (λ r. IfReadFault r (λ _. S.counts_at_last shelf.new ≡ S.counts shelf.old)) }
     ensures told { IsTrue S.tells → OnlyRead (S.told shelf.old) (S.told shelf.new) }
     ensures opened { IsTrue S.tells →
         OpensInTurn (S.told shelf.old) (S.told shelf.new) (name.now ∷ []) result }
@@ -117,6 +121,8 @@ fn read_port_trace<'a, S: Shelf>(
         (trace_in (S.told shelf.old).holds bytes_left frames_left (port_view w.now))) }
     ensures fault { IfErr result (λ r. IfReadFault r (Contains (trace_names (port_view w.now)))) }
     ensures named { IsTrue S.tells → IfErr result (λ r. IfReadFault r (λ n. (S.told shelf.new).last ≡ n)) }
+    ensures since { IsTrue S.tells →
+        IfErr result (λ r. IfReadFault r (λ _. S.counts_at_last shelf.new ≡ S.counts shelf.old)) }
     ensures told { IsTrue S.tells → OnlyRead (S.told shelf.old) (S.told shelf.new) }
     ensures opened { IsTrue S.tells →
         OpensInTurn (S.told shelf.old) (S.told shelf.new) (trace_names (port_view w.now)) result }
@@ -147,6 +153,8 @@ pub fn read_traces<'a, S: Shelf>(
     ensures err { IsTrue S.tells
         → IfErr result (Explains (traces_in (S.told shelf.old).holds (ports_view ports.now))) }
     ensures named { IsTrue S.tells → IfErr result (λ r. IfReadFault r (λ n. (S.told shelf.new).last ≡ n)) }
+    ensures since { IsTrue S.tells →
+        IfErr result (λ r. IfReadFault r (λ _. S.counts_at_last shelf.new ≡ S.counts shelf.old)) }
     ensures told { IsTrue S.tells → OnlyRead (S.told shelf.old) (S.told shelf.new) }
     ensures opened { let names =
         traces_opened (S.told shelf.old).holds most_trace_bytes most_frames

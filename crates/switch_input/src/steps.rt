@@ -66,6 +66,8 @@ fn read_steps_file<'a, S: Shelf>(
         (Explains (steps_in (S.told shelf.old).holds ports.now (Some name.now))) }
     ensures fault { IfErr result (λ r. IfReadFault r (λ n. n ≡ name.now)) }
     ensures named { IsTrue S.tells → IfErr result (λ r. IfReadFault r (λ n. (S.told shelf.new).last ≡ n)) }
+    ensures since { IsTrue S.tells →
+        IfErr result (λ r. IfReadFault r (λ _. S.counts_at_last shelf.new ≡ S.counts shelf.old)) }
     ensures told { IsTrue S.tells → OnlyRead (S.told shelf.old) (S.told shelf.new) }
     ensures opened { IsTrue S.tells →
         OpensInTurn (S.told shelf.old) (S.told shelf.new) (name.now ∷ []) result }
@@ -93,6 +95,8 @@ pub fn read_steps<'a, S: Shelf>(
         (Explains (steps_in (S.told shelf.old).holds ports.now (text_view name.entry))) }
     ensures fault { IfErr result (λ r. IfReadFault r (λ n. text_view name.entry ≡ Some n)) }
     ensures named { IsTrue S.tells → IfErr result (λ r. IfReadFault r (λ n. (S.told shelf.new).last ≡ n)) }
+    ensures since { IsTrue S.tells →
+        IfErr result (λ r. IfReadFault r (λ _. S.counts_at_last shelf.new ≡ S.counts shelf.old)) }
     ensures told { IsTrue S.tells → OnlyRead (S.told shelf.old) (S.told shelf.new) }
     ensures opened { IsTrue S.tells →
         OpensInTurn (S.told shelf.old) (S.told shelf.new) (steps_names (text_view name.entry)) result }

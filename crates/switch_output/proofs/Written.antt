@@ -111,6 +111,7 @@ module _ {S : Type 0} (g : shelf.Ghosts S) where
     ok = λ t. tt;
     err = λ t. cut_in_first files more _ _ r (w.err t);
     named = w.named;
+    since = w.since;
     opened = w.opened;
     counts = tt;
     cause = w.cause;
@@ -124,6 +125,7 @@ module _ {S : Type 0} (g : shelf.Ghosts S) where
     ok = λ t. w.ok t ∙ ap (λ done. done ++ more) (first.ok t) ∙ append_assoc (g.told old).done files more;
     err = λ t. tt;
     named = λ t. tt;
+    since = λ t. tt;
     opened = λ t. w.opened t ∙ first.opened t;
     counts = w.counts ∙ first.counts;
     cause = tt;
@@ -133,6 +135,7 @@ module _ {S : Type 0} (g : shelf.Ghosts S) where
     ok = λ t. tt;
     err = λ t. cut_in_later files more _ _ _ r (first.ok t) (w.err t);
     named = w.named;
+    since = rw (← first.counts) w.since;
     opened = λ t. w.opened t ∙ first.opened t;
     counts = tt;
     cause = rw (← first.counts) w.cause;
@@ -147,6 +150,7 @@ module _ {S : Type 0} (g : shelf.Ghosts S) where
     ok = λ t. tt;
     err = λ t. record { file = file; cut = record { whole = 0; next = refl; prefix = rw (append-nil (g.told now).done, none) (inl refl) }; named = tt };
     named = λ t. tt;
+    since = λ t. tt;
     opened = λ t. refl;
     counts = tt;
     cause = refl;
@@ -160,6 +164,7 @@ module _ {S : Type 0} (g : shelf.Ghosts S) where
     ok = λ t. tt;
     err = λ t. record { file = (given, text); cut = record { whole = 0; next = refl; prefix = rw (append-nil (g.told old).done) (w.err t) }; named = sym lent };
     named = λ t. w.named t refl ∙ lent;
+    since = λ t. w.since t refl;
     opened = w.opened;
     counts = tt;
     cause = w.cause.fault refl;
@@ -169,6 +174,7 @@ module _ {S : Type 0} (g : shelf.Ghosts S) where
     ok = λ t. tt;
     err = λ t. record { file = (given, text); cut = record { whole = 0; next = refl; prefix = rw (append-nil (g.told old).done) (w.err t) }; named = tt };
     named = λ t. tt;
+    since = λ t. tt;
     opened = w.opened;
     counts = tt;
     cause = w.cause.no_memory refl;

@@ -23,6 +23,7 @@ module _ {S K : Type 0} (g : shelf.Ghosts S) (h : sink.Ghosts K) (old new : S) (
   pub record CutsFiles (r : WriteRefusal) : Type 0 where
     pub cut : IsTrue g.tells → IsCutIn files (g.told old).done (written (g.in_use new) (g.told new)) r
     pub named : IsTrue g.tells → IfWriteFault r (λ name. (g.told new).last ≡ name)
+    pub since : IsTrue g.tells → IfWriteFault r (λ _. g.counts_at_last new ≡ g.counts old)
     pub unsaid : saying ≡ said
     pub cause : HasWriteCause (g.counts old) (g.counts new) r
 

@@ -36,13 +36,14 @@ pub record IsCutIn (files before now : List File) (r : WriteRefusal) : Type 0 wh
 
 module _ {S : Type 0} (g : shelf.Ghosts S) (old new : S) {T : Type 0} where
   -- This file is written and closed. After a refusal it has a prefix of its bytes, or was not created, and a fault names
-  -- it. No file is opened.
+  -- it; no call failed before it was asked for. No file is opened.
   pub record WritesOne (file : File) (result : Result T WriteRefusal) : Type 0 where
     pub in_use : OnOk result (g.in_use new ≡ Nothing)
     pub ok : IsTrue g.tells → OnOk result (g.told new ≡ kept (g.told old) file)
     pub err : IsTrue g.tells → OnErr result (IsPrefixOf (g.told old).done file (written (g.in_use new) (g.told new)))
     pub fault : IfErr result (λ r. IfWriteFault r (λ name. name ≡ file.0))
     pub named : IsTrue g.tells → IfErr result (λ r. IfWriteFault r (λ name. (g.told new).last ≡ name))
+    pub since : IsTrue g.tells → IfErr result (λ r. IfWriteFault r (λ _. g.counts_at_last new ≡ g.counts old))
     pub opened : IsTrue g.tells → (g.told new).opened ≡ (g.told old).opened
     pub counts : OnOk result (g.counts new ≡ g.counts old)
     pub cause : IfErr result (HasWriteCause (g.counts old) (g.counts new))
@@ -53,6 +54,7 @@ module _ {S : Type 0} (g : shelf.Ghosts S) (old new : S) {T : Type 0} where
     pub ok : IsTrue g.tells → OnOk result ((g.told new).done ≡ (g.told old).done ++ files)
     pub err : IsTrue g.tells → IfErr result (IsCutIn files (g.told old).done (written (g.in_use new) (g.told new)))
     pub named : IsTrue g.tells → IfErr result (λ r. IfWriteFault r (λ name. (g.told new).last ≡ name))
+    pub since : IsTrue g.tells → IfErr result (λ r. IfWriteFault r (λ _. g.counts_at_last new ≡ g.counts old))
     pub opened : IsTrue g.tells → (g.told new).opened ≡ (g.told old).opened
     pub counts : OnOk result (g.counts new ≡ g.counts old)
     pub cause : IfErr result (HasWriteCause (g.counts old) (g.counts new))

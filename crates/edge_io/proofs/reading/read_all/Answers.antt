@@ -24,6 +24,11 @@ returns-in_err-open_file-clause-named g c = λ t.
     refusals.names _ _ c.args.name.now _ c.in_err-open_file.field-0.0 c.from_residual-in_err-open_file.ensures.1
     (c.in_err-open_file.ensures.told t)
 
+pub returns-in_err-open_file-clause-since : goal.returns-in_err-open_file-clause-since
+returns-in_err-open_file-clause-since g c = λ t.
+    refusals.noted _ _ _ _ c.in_err-open_file.field-0.0 c.from_residual-in_err-open_file.ensures.1
+    (c.in_err-open_file.ensures.since t)
+
 pub returns-in_err-open_file-clause-cause : goal.returns-in_err-open_file-clause-cause
 returns-in_err-open_file-clause-cause g c =
     refusals.cause _ _ _ c.in_err-open_file.field-0.0 c.from_residual-in_err-open_file.ensures.1

@@ -11,6 +11,7 @@ invariant-pieces g l = record {
       l.bytes.items ++ (g.S.Shelf.told l.shelf).left ≡ (g.S.Shelf.told l.initial.shelf).left;
   told : IsTrue g.S.Shelf.tells →
       g.S.Shelf.told l.shelf ≡ record (g.S.Shelf.told l.initial.shelf) { left = (g.S.Shelf.told l.shelf).left };
+  since : IsTrue g.S.Shelf.tells → g.S.Shelf.counts_at_last l.shelf ≡ g.S.Shelf.counts_at_last l.initial.shelf;
   counts : g.S.Shelf.counts l.shelf ≡ g.S.Shelf.counts l.initial.shelf;
 }
 

@@ -14,6 +14,7 @@ returns-in_err-at g c = record {
         c.loop-at.at + w.0,
         wrote_twice _ _ _ c.args.bytes.now c.loop-at.at w.0 (c.loop-at.invariant.told t) w.1,
       );
+  since = λ t. c.in_err-at.ensures.since t ∙ c.loop-at.invariant.since t;
   cause = search rules;
 }
 
@@ -23,5 +24,6 @@ loop-at-preserved g c = record {
   in_use = c.in_ok-at.ensures.in_use;
   told = λ t. wrote_twice _ _ _ c.args.bytes.now c.loop-at.at c.in_ok-at.field-0
       (c.loop-at.invariant.told t) (c.in_ok-at.ensures.told t).ok;
+  since = λ t. c.in_ok-at.ensures.since t ∙ c.loop-at.invariant.since t;
   counts = c.in_ok-at.ensures.cause.ok ∙ c.loop-at.invariant.counts;
 }

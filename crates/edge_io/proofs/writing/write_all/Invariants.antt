@@ -10,6 +10,7 @@ invariant-loop-at g l = record {
   in_use : g.S.Shelf.in_use l.shelf ≡ Created;
   told : IsTrue g.S.Shelf.tells →
       g.S.Shelf.told l.shelf ≡ wrote (g.S.Shelf.told l.initial.shelf) (take l.at l.bytes);
+  since : IsTrue g.S.Shelf.tells → g.S.Shelf.counts_at_last l.shelf ≡ g.S.Shelf.counts_at_last l.initial.shelf;
   counts : g.S.Shelf.counts l.shelf ≡ g.S.Shelf.counts l.initial.shelf;
 }
 

@@ -12,6 +12,7 @@ returns-in_err-inputs-clause-err g c =
     rw (p.1, p.2) (record {
       verdict = read.refused;
       named = read.read_fault_name;
+      since = read.since;
       unwritten = read.only_read;
       opened = read.opened;
       cause = read.cause;

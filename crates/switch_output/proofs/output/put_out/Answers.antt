@@ -8,7 +8,7 @@ returns-in_err-write_out g c =
     let w = c.in_err-write_out.ensures in
     rw (p.1, p.2) (record {
       ok = tt;
-      err = record { cut = w.err; named = w.named; unsaid = refl; cause = w.cause };
+      err = record { cut = w.err; named = w.named; since = w.since; unsaid = refl; cause = w.cause };
       opened = w.opened;
     })
 

@@ -19,6 +19,7 @@ returns-in_err-filters g c =
       ok = λ t. tt;
       err = λ t. rw c.requires.in_use (cut_in_at file run.ports run.ports 0 done done done OutOfMemory refl some (sym (append-nil done)) (inl refl) tt);
       named = λ t. tt;
+      since = λ t. tt;
       opened = λ t. refl;
       counts = tt;
       cause = refl;
@@ -35,6 +36,7 @@ returns-in_err-write_port_file g c =
       err = λ t. cut_in_at file c.as_slice-ports.result.now g.C.Case.run.ports c.files.port-index _ _ _ _ (c.as_slice-ports.ensures.list ∙ c.ports.ensures) c.files-test.true (c.files.invariant.done t)
           (w.err t) w.fault;
       named = w.named;
+      since = rw (← c.files.invariant.counts) w.since;
       opened = λ t. w.opened t ∙ c.files.invariant.opened t;
       counts = tt;
       cause = rw (← c.files.invariant.counts) w.cause;
