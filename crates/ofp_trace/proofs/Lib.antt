@@ -1,0 +1,3 @@
+mod FewLookups
+mod Noted
+mod LiveWinners
