@@ -4,7 +4,7 @@ use Rattle.std.specs.Fmt.{decimal}
 use Rattle.spec_board.specs.Texts.{line_of}
 use Rattle.spec_run.specs.Verdict.{Files}
 use Rattle.spec_run.specs.Statuses as run
-use Rattle.spec_run.specs.Statuses.{usage_status, text_status, limit_status, Prints}
+use Rattle.spec_run.specs.Statuses.{usage_status, Prints}
 use Rattle.spec_trace.specs.Verdict.{Refusal, Usage, Input, NoPort, verdict}
 
 -- the flow's port is none of the switch
@@ -32,8 +32,7 @@ text_of (NoPort port) = no_port_text port
 
 -- whether a status tells that the words, the file of edits or the flow is refused
 abbrev pub is_refusal : ℕ → Bool
-is_refusal status =
-    (status == usage_status) || ((status == text_status) || ((status == limit_status) || (status == no_port_status)))
+is_refusal status = run.is_refusal status || (status == no_port_status)
 
 -- The verdict is a refusal that ends with this status.
 pub record IsRefused (words : List (List ℕ)) (files : Files) (status : ℕ) : Type 0 where

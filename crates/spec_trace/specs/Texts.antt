@@ -36,7 +36,7 @@ use Rattle.spec_trace.specs.Paths.{path_of, last_of}
 abbrev pub carried_bits : List ℕ → FieldId → List (List ℕ)
 carried_bits key f = if value_of key f == 0 then [] else whole f ∷ []
 
-abbrev pub carried : List ℕ → List ℕ
+unfoldable pub carried : List ℕ → List ℕ
 carried key = union (flat_map (carried_bits key) fields)
 
 -- the fields of a key that aren't 0, as a megaflow that states them prints them
