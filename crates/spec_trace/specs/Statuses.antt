@@ -16,7 +16,7 @@ abbrev pub usage_text : List ℕ
 usage_text = line_of (codes "usage: megatrace EDITS FLOW PORTS")
 
 abbrev pub no_port_text : ℕ → List ℕ
-no_port_text port = line_of (codes "no such port: " ++ decimal port)
+no_port_text port = codes "no such port: " ++ line_of (decimal port)
 
 -- the status that a refusal ends with
 abbrev pub status_of : Refusal → ℕ

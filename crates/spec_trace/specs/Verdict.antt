@@ -59,7 +59,7 @@ match_in flow =
     if nat_lt most_line_bytes (length flow) then Err (run.Limit quantity.Line) else match_or_refusal (read_match Delete 0 flow)
 
 -- the key of the packet: what the match states, and 0 elsewhere, and in metadata and the registers
-abbrev pub key_of : Match → List ℕ
+unfoldable pub key_of : Match → List ℕ
 key_of m = without register_fields m.key
 
 -- it comes in at a port of the switch
@@ -72,16 +72,19 @@ at_port ports key = if list_any (λ p. p == in_port_of key) ports then Ok key el
 abbrev pub rules_of : Script → List Rule
 rules_of s = version s.edits (length s.edits)
 
-abbrev pub accepted : Command → Script → List ℕ → Accepted
-accepted c s key = record { rules = rules_of s; ports = c.ports; key = key }
+abbrev pub accepted : List ℕ → Script → List ℕ → Accepted
+accepted ports s key = record { rules = rules_of s; ports = ports; key = key }
 
--- what becomes of the words' files and flow
+-- what becomes of a flow and of ports, after edits that were accepted
+unfoldable pub case_of : List ℕ → List ℕ → Script → Result Accepted Refusal
+case_of flow ports s =
+    as_input (match_in flow)
+    >>= (λ m. at_port ports (key_of m)
+    >>= (λ key. Ok (accepted ports s key)))
+
+-- what becomes of all that the words name
 unfoldable pub verdict_of : Files → Command → Result Accepted Refusal
-verdict_of files c =
-    as_input (script_in files c.edits)
-    >>= (λ s. as_input (match_in c.flow)
-    >>= (λ m. at_port c.ports (key_of m)
-    >>= (λ key. Ok (accepted c s key))))
+verdict_of files c = as_input (script_in files c.edits) >>= case_of c.flow c.ports
 
 unfoldable pub verdict : List (List ℕ) → Files → Result Accepted Refusal
 verdict words files = command_in words >>= verdict_of files

@@ -1,0 +1,4 @@
+mod Ending
+mod PortsWithin
+mod Printed
+mod Stages

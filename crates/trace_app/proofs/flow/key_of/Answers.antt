@@ -1,0 +1,6 @@
+use Rattle.spec_trace.specs.Verdict.{key_of}
+use Rattle.trace_app.proofs.flow.key_of.Goals as goal
+
+pub returns : goal.returns
+unfolding key_of
+returns c = c.clear.ensures

@@ -1,0 +1,38 @@
+use Rattle.std.proofs.Common.{◌≡◌, ℕ, List, ◌++◌, sym, ap, ◌∙◌, subst}
+use Rattle.std.specs.Prelude.{All}
+use Rattle.spec_actions.specs.declared.action.DpAction.{DpAction}
+use Rattle.spec_dp_text.specs.Within.{AreWithinFields}
+use Rattle.spec_tables.specs.Rules.{Rule}
+use Rattle.spec_xlate.specs.Translation.{Translation, switch_of, pipe}
+use Rattle.spec_xlate.specs.Consulted.{consulted}
+use Rattle.ovs_fields.specs.Packed.{numbers}
+use Rattle.rule_lines.specs.Live.{live_in}
+use Rattle.spec_trace.specs.Paths.{path_of, last_of}
+use Rattle.spec_trace.specs.Texts.{told_text}
+use Rattle.ofp_trace.specs.Winners.{HasLiveWinner}
+use Rattle.trace_app.proofs.Printed.{told-traced}
+use Rattle.trace_app.proofs.run.text_of.Goals as goal
+
+pub print_trace-requires-clause-live : goal.print_trace-requires-clause-live
+print_trace-requires-clause-live c =
+    subst (λ (rules : List Rule). All (HasLiveWinner rules) c.in_ok-traced.traced.path.items) c.requires.tables c.in_ok-traced.ensures.winners
+
+pub print_trace-requires-clause-within : goal.print_trace-requires-clause-within
+print_trace-requires-clause-within c =
+    let i = c.args.inputs.now in
+    subst (λ (t : Translation). AreWithinFields t.actions) (sym c.in_ok-traced.ensures.translation)
+    (c.translation_is_within_fields.ensures (switch_of i.tables.rules c.deref.result.now) (numbers i.key) i.key.is_key)
+
+pub returns : goal.returns
+returns c =
+    let i = c.args.inputs.now in
+    let t = c.in_ok-traced.traced in
+    let key = numbers i.key in
+    let text = told_text (live_in i.rules) key t.path.items (numbers t.last) t.translated.mask t.translated.translation.actions in
+    let to = c.deref.ensures.value in
+    c.in_ok-print_trace.ensures.text ∙ ap (λ (z : List ℕ). z ++ text) c.new-text.ensures.bytes
+    ∙ told-traced (live_in i.rules) i.tables.rules i.ports.items key t.path.items (numbers t.last) t.translated.mask t.translated.translation.actions c.requires.tables
+    (c.in_ok-traced.ensures.path ∙ ap (λ (ps : List ℕ). path_of (switch_of i.tables.rules ps) key) to)
+    (c.in_ok-traced.ensures.last ∙ ap (λ (ps : List ℕ). last_of (switch_of i.tables.rules ps) key) to)
+    (c.in_ok-traced.ensures.mask ∙ ap (λ (ps : List ℕ). consulted (switch_of i.tables.rules ps) key) to)
+    (ap (λ (tr : Translation). tr.actions) c.in_ok-traced.ensures.translation ∙ ap (λ (ps : List ℕ). (pipe (switch_of i.tables.rules ps) key).actions) to)

@@ -1,0 +1,16 @@
+-- What is traced, as the definitions see it.
+use Rattle.std.specs.Prelude.{◌≡◌}
+use Rattle.ovs_fields.specs.Packed.{numbers}
+use Rattle.pipe_model.specs.Runnable.{AreRunnable}
+use Rattle.rule_lines.specs.Live.{IsOfEdits, live_in}
+use Rattle.spec_trace.specs.Verdict as verdicts
+use Rattle.trace_app.specs.declared.inputs.Inputs.{Inputs}
+
+abbrev pub accepted_view : Inputs → verdicts.Accepted
+accepted_view i = record { rules = i.tables.rules; ports = i.ports.items; key = numbers i.key }
+
+-- Some edits of sound actions made the rules, and the tables are those of the last version.
+pub record IsTraceable (i : Inputs) : Type 0 where
+  pub of_edits : IsOfEdits i.rules
+  pub tables : i.tables.rules ≡ live_in i.rules
+  pub runnable : AreRunnable i.tables.rules

@@ -1,0 +1,143 @@
+//! What is traced: the words, the file of edits and the flow, read up to the first that is refused.
+ghost use Rattle.std.specs.Prelude.{◌≡◌, ◌≤◌, length, Ok, IsTrue, OnOk, IfOk, IfErr};
+ghost use Rattle.std.specs.List.{list_all};
+ghost use Rattle.edge_io.specs.declared.outside.InUse.TheVariants.{Nothing};
+ghost use Rattle.edge_io.specs.ReadAll.{OnlyRead};
+ghost use Rattle.spec_tables.specs.Edits.{has_sound_actions};
+ghost use Rattle.spec_script.specs.Script.{most_edits};
+ghost use Rattle.spec_xlate.specs.Translation.{in_port_of};
+ghost use Rattle.ovs_fields.specs.Packed.{numbers};
+ghost use Rattle.command_words.specs.CommandViews.{texts};
+ghost use Rattle.rule_tables.specs.History.{history_of};
+ghost use Rattle.tuple_classifier.specs.Versions.{version_of};
+ghost use Rattle.edit_script.specs.ScriptViews.{script_view};
+ghost use Rattle.spec_trace.specs.Verdict.{command_in, case_of, verdict_of, verdict, opened_for, files_opened};
+ghost use Rattle.trace_app.specs.Commands.{command_view};
+ghost use Rattle.trace_app.specs.InputViews.{accepted_view, IsTraceable};
+ghost use Rattle.trace_app.specs.Refused.{Explains, IfReadFault, IsUntold, HasReadCause, OpensInTurn};
+
+use crate::flow::{key_of, read_flow};
+use crate::refusal::Refusal;
+use crate::words::{Command, names_port, read_command};
+use edge_io::Shelf;
+use ovs_fields::{FieldId, Key};
+use rule_tables::{Edit, VersionedRules};
+use std::alloc::{AllocError, Global};
+use switch_input::{EditsFile, read_edits};
+use tuple_classifier::Tables;
+
+/// What is traced.
+#[derive(Drop)]
+pub struct Inputs {
+    /// The rules of all versions that the edits make.
+    pub rules: VersionedRules,
+    /// The tables of the last of these.
+    pub tables: Tables,
+    /// The ports of the switch, in the order of the words.
+    pub ports: Vec<u16>,
+    /// The key of the packet.
+    pub key: Key,
+}
+
+// The tables after all edits.
+fn tables_of(alloc: Global, edits: &[Edit]) -> Result<Tables, AllocError>
+    requires { length edits.now ≤ most_edits }
+    ensures { IfOk result (λ tables. tables ≡ version_of edits.now (length edits.now)) }
+{
+    let mut tables = Tables::new(alloc);
+    'edits: for edit in edits {
+        tables.apply(edit)?;
+    }
+    Ok(tables)
+}
+
+// The port by which a packet comes in.
+fn in_port(key: &Key) -> u16
+    ensures { result ≡ in_port_of (numbers key.now) }
+{
+    key.get(FieldId::InPort) as u16
+}
+
+// What is traced, after the edits: the flow, whose port has to be one of the switch, and the tables.
+fn inputs_of<'a>(
+    alloc: Global,
+    edits: EditsFile,
+    flow: &'a str,
+    ports: Vec<u16>,
+) -> Result<Inputs, Refusal<'a>>
+    requires rules { edits.rules ≡ history_of edits.script.edits.items }
+    requires sound { IsTrue (list_all has_sound_actions edits.script.edits.items) }
+    requires few { length edits.script.edits.items ≤ most_edits }
+    ensures ok { IfOk result (λ inputs.
+        case_of flow.now ports.items (script_view edits.script) ≡ Ok (accepted_view inputs)) }
+    ensures within { IfOk result IsTraceable }
+    ensures err { IfErr result (Explains (case_of flow.now ports.items (script_view edits.script))) }
+    ensures unsaid { IfErr result IsUntold }
+    ensures no_fault { IfErr result (λ r. IfReadFault r (λ _. ⊥)) }
+{
+    let matching = read_flow(alloc, flow)?;
+    let key = key_of(&matching);
+    let port = in_port(&key);
+    if !names_port(&ports, port) {
+        return Err(Refusal::NoPort { port });
+    }
+    let tables = tables_of(alloc, &edits.script.edits)?;
+    Ok(Inputs {
+        rules: edits.rules,
+        tables,
+        ports,
+        key,
+    })
+}
+
+// Reads what the words name: the file of edits, and then the flow.
+fn read_sources<'a, S: Shelf>(
+    alloc: Global,
+    shelf: &mut S,
+    command: Command<'a>,
+) -> Result<Inputs, Refusal<'a>>
+    requires { S.in_use shelf.old ≡ Nothing }
+    ensures in_use { OnOk result (S.in_use shelf.new ≡ Nothing) }
+    ensures ok { IsTrue S.tells → IfOk result (λ inputs.
+        verdict_of (S.told shelf.old).holds (command_view command.entry) ≡ Ok (accepted_view inputs)) }
+    ensures within { IfOk result IsTraceable }
+    ensures err { IsTrue S.tells → IfErr result
+        (Explains (verdict_of (S.told shelf.old).holds (command_view command.entry))) }
+    ensures unsaid { IfErr result IsUntold }
+    ensures named { IsTrue S.tells → IfErr result (λ r. IfReadFault r (λ n. (S.told shelf.new).last ≡ n)) }
+    ensures told { IsTrue S.tells → OnlyRead (S.told shelf.old) (S.told shelf.new) }
+    ensures opened { IsTrue S.tells → OpensInTurn (S.told shelf.old) (S.told shelf.new)
+        (opened_for (command_view command.entry)) result }
+    ensures counts { OnOk result (S.counts shelf.new ≡ S.counts shelf.old) }
+    ensures cause { IfErr result (HasReadCause (S.counts shelf.old) (S.counts shelf.new)) }
+{
+    let edits = read_edits(alloc, shelf, command.edits)?;
+    inputs_of(alloc, edits, command.flow, command.ports)
+}
+
+/// Reads the words, the file of edits that they name and the flow, up to the first that is refused.
+pub fn read_inputs<'a, S: Shelf>(
+    alloc: Global,
+    words: &'a [String],
+    shelf: &mut S,
+) -> Result<Inputs, Refusal<'a>>
+    requires { S.in_use shelf.old ≡ Nothing }
+    ensures in_use { OnOk result (S.in_use shelf.new ≡ Nothing) }
+    ensures ok { IsTrue S.tells → IfOk result (λ inputs.
+        verdict (texts words.now) (S.told shelf.old).holds ≡ Ok (accepted_view inputs)) }
+    ensures within { IfOk result IsTraceable }
+    ensures err { IsTrue S.tells → IfErr result
+        (Explains (verdict (texts words.now) (S.told shelf.old).holds)) }
+    ensures unsaid { IfErr result IsUntold }
+    ensures named { IsTrue S.tells → IfErr result (λ r. IfReadFault r (λ n. (S.told shelf.new).last ≡ n)) }
+    ensures told { IsTrue S.tells → OnlyRead (S.told shelf.old) (S.told shelf.new) }
+    ensures opened { IsTrue S.tells → OpensInTurn (S.told shelf.old) (S.told shelf.new)
+        (files_opened (texts words.now)) result }
+    ensures counts { OnOk result (S.counts shelf.new ≡ S.counts shelf.old) }
+    ensures cause { IfErr result (HasReadCause (S.counts shelf.old) (S.counts shelf.new)) }
+{
+    match read_command(alloc, words)? {
+        None => Err(Refusal::Usage),
+        Some(command) => read_sources(alloc, shelf, command),
+    }
+}
