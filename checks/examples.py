@@ -2,8 +2,10 @@
 
     python3 examples.py
     python3 examples.py NAME OUT
+    python3 examples.py --traced
 
-prints their names, or the words of one of them, a word in each line.
+prints their names, or the words of one of them, a word in each line; or of those that are traced the names, each with the
+words of the tracer behind it in one line.
 """
 import os
 import re
@@ -13,22 +15,40 @@ from collections import namedtuple
 TOP = os.path.dirname(os.path.dirname(os.path.realpath(__file__)))
 COMMAND = re.compile(r"^\./megaswitch (.*) out (.*)$", re.MULTILINE)
 
+TRACE = re.compile(r"^\./megatrace (.*)$", re.MULTILINE)
+
 # The options, the name of the edits and the ports; names are from the top of the repository.
 Example = namedtuple("Example", "name options edits ports")
 
 
-def examples():
+def readmes():
     folder = os.path.join(TOP, "examples")
     for name in sorted(os.listdir(folder)):
         readme = os.path.join(folder, name, "README.md")
         if os.path.exists(readme):
             with open(readme, encoding="utf-8") as file:
-                before, ports = COMMAND.search(file.read()).groups()
+                yield name, file.read()
+
+
+def examples():
+    for name, text in readmes():
+        if found := COMMAND.search(text):
+            before, ports = found.groups()
             *options, edits = before.split()
             yield Example(name, options, edits, ports.split())
 
 
+def traced_examples():
+    for name, text in readmes():
+        if found := TRACE.search(text):
+            yield name, found[1]
+
+
 def main(words):
+    if words == ["--traced"]:
+        for traced in traced_examples():
+            print(*traced)
+        return
     for example in examples():
         if not words:
             print(example.name)

@@ -115,6 +115,15 @@ class Switch:
             self.run("ovs-ofctl", "-O", version, "add-flows", "br0", "-", input="\n".join(lines))
         self.run("ovs-appctl", "revalidator/wait")
 
+    def replace_flows(self, flows):
+        """Takes all flows away, and hands these over."""
+        self.run("ovs-ofctl", "del-flows", "br0")
+        self.add_flows(flows)
+
+    def traced(self, flow):
+        """What is told of a flow by `ofproto/trace`, with the names of ports."""
+        return self.run("ovs-appctl", "ofproto/trace", "--names", "br0", flow)
+
     def sent(self, port, frame):
         """What is sent of a frame that comes in at a port: pairs of a port and bytes, port by port."""
         self.run("ovs-appctl", "netdev-dummy/receive", f"p{port}", frame.hex())

@@ -7,5 +7,7 @@ is matched by, translation.py what the tables make of a packet, caches.py what i
 schedule.py when these are taken, and rewriting.py what becomes of the bytes of a frame. dumps.py tells all that at the
 end. switch.py is the whole: words and files in, status, text and files out; refusals.py has the statuses.
 
+tracer.py is the tracer: words and a file of edits in, status and text out.
+
 checks/simulate runs it on the words of `megaswitch`, and examples/*/expected was written so.
 """

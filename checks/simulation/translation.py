@@ -1,5 +1,5 @@
 """What the flow tables make of a packet: the datapath actions that a frame of its key is sent with, the rules that say
-so, and the bits of the key that they were found by.
+so, the bits of the key that they were found by, and the lookups on the way.
 
 After ovs-actions(7), in the profile of docs/FORMATS.md: a write acts where the packet is what its field needs, and the
 limits are on depth, lookups and datapath actions.
@@ -38,6 +38,10 @@ AFTER_TAG = (
 # What is done to a frame; the numbers of the rules that were found on the way, in order; and the mask: each key that has
 # the same bits there has the same translation.
 Translated = namedtuple("Translated", "actions visits mask")
+# A lookup: how deep it is, and the rule that decided, or None.
+Lookup = namedtuple("Lookup", "depth table rule")
+# The lookups on the way, in order, the key at the end, and what came of it.
+Traced = namedtuple("Traced", "path last translated")
 
 
 class Stopped(Exception):
@@ -48,14 +52,20 @@ class ListEnded(Exception):
     """A list of actions ends before its last one."""
 
 
-def translate(tables, ports, key):
-    """What a packet of a key comes to by the tables of a version. Its actions are Output, Set, PushVlan and PopVlan."""
+def trace(tables, ports, key):
+    """What a packet of a key comes to by the tables of a version, told step by step."""
     translation = Translation(tables, ports, unpacked(key))
     try:
         translation.look_up(0, 0)
     except Stopped:
         translation.actions = []
-    return Translated(translation.actions, translation.visits, translation.consulted & ~REGISTERS)
+    translated = Translated(translation.actions, translation.visits, translation.consulted & ~REGISTERS)
+    return Traced(translation.path, packed(translation.packet), translated)
+
+
+def translate(tables, ports, key):
+    """What a packet of a key comes to by the tables of a version. Its actions are Output, Set, PushVlan and PopVlan."""
+    return trace(tables, ports, key).translated
 
 
 def fields_needed(field):
@@ -111,7 +121,7 @@ class Translation:
     def __init__(self, tables, ports, key):
         self.tables, self.ports = tables, sorted(ports)
         self.packet, self.frame = dict(key), dict(key)
-        self.actions, self.visits, self.lookups = [], [], 0
+        self.actions, self.visits, self.path = [], [], []
         self.consulted = WHOLE["in_port"] | WHOLE["dl_type"] | (WHOLE["ip_frag"] if self.is_ip() else 0)
 
     def is_ip(self):
@@ -119,10 +129,10 @@ class Translation:
 
     def look_up(self, table, depth):
         """Does what the rule says that decides, which another may lead one level deeper."""
-        self.lookups += 1
-        if depth > DEEPEST or self.lookups > MOST_LOOKUPS:
+        if depth > DEEPEST or len(self.path) == MOST_LOOKUPS:
             raise Stopped
         rule, consulted = self.tables.look_up(table, packed(self.packet))
+        self.path.append(Lookup(depth, table, rule))
         self.consulted |= consulted
         if rule:
             self.visits.append(rule.number)
