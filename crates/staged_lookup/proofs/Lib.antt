@@ -1,3 +1,4 @@
+pub mod AlikeRules
 pub mod KeyLaws
 pub mod Members
 pub mod OnlyCount

@@ -1,5 +1,5 @@
 -- A subtable, and the rules of its mask.
-use Rattle.std.specs.Prelude.{◌≡◌, ℕ, ◌<◌, true, false, nat_le, if◌then◌else◌, List, length, map, filter, Some, nat_eq}
+use Rattle.std.specs.Prelude.{◌≡◌, ℕ, ◌<◌, ◌==◌, ◌&&◌, Bool, true, false, nat_le, if◌then◌else◌, List, length, map, filter, Option, Some, None, nat_eq}
 use Rattle.std.specs.Option.{option_map}
 use Rattle.std.specs.declared.hash.FoldHasher.{FoldHasher}
 use Rattle.std.specs.declared.hash.BuildHasherDefault.{BuildHasherDefault}
@@ -10,6 +10,7 @@ use Rattle.spec_keys.specs.Stages.{staged, metadata_stage, ethernet_stage, netwo
 use Rattle.spec_tables.specs.Rules.{Rule, winner}
 use Rattle.translation_laws.specs.Members.{Among}
 use Rattle.ovs_fields.specs.Packed.{numbers, bits}
+use Rattle.compact_keys.specs.Seen.{mask_bits}
 use Rattle.staged_lookup.specs.declared.probe.Probe.{Probe}
 use Rattle.staged_lookup.specs.declared.probe.Probe.TheVariants.{Ended, Best}
 use Rattle.staged_lookup.specs.declared.rank.Rank.{Rank}
@@ -30,6 +31,10 @@ pub record IsOfMask (mask : List ℕ) (r : Rule) : Type 0 where
   pub normalised : masked r.matching.key mask ≡ r.matching.key
   pub fields : length r.matching.key ≡ field_count
 
+-- whether a rule has this key and priority
+abbrev pub has_priority : List ℕ → ℕ → Rule → Bool
+has_priority key priority r = same key r.matching.key && (r.priority == priority)
+
 -- the keys of rules by their numbers
 abbrev pub Keys : Type 0
 Keys = IndexMap ℕ Key (BuildHasherDefault FoldHasher)
@@ -42,6 +47,7 @@ pub record AreKept (keys : Keys) (rs : List Rule) : Type 0 where
 -- the subtable has these rules, which are all of its mask, and no two of one number
 pub record IsSubtableOf (s : Subtable) (rs : List Rule) : Type 0 where
   pub of_mask : (r : Rule) → Among r rs → IsOfMask (bits s.mask) r
+  pub masks : mask_bits s.key_mask ≡ bits s.mask
   pub distinct : AreDistinct rs
   pub ranked : (key : List ℕ) → ranks_at s.buckets key ≡ ranks_with key rs
   pub metadata : IsStage s.metadata none (staged metadata_stage (bits s.mask)) (bits s.mask) rs
@@ -61,12 +67,31 @@ HasNoRule number s = (rs : List Rule) × IsSubtableOf s rs × HasNoNumber number
 abbrev pub part_through : ℕ → List ℕ → List ℕ
 part_through stage mask = if nat_le stage network_stage then staged stage mask else mask
 
+-- some rule agrees with a key on each stage before this one
+abbrev pub PassesTo : ℕ → List ℕ → List ℕ → List Rule → Type 0
+PassesTo stage mask key rs = (s : ℕ) → s < stage → some_agrees rs key (part_through s mask) ≡ true
+
 -- this stage is the first on which no rule agrees with a key
 pub record EndsAt (stage : ℕ) (mask key : List ℕ) (rs : List Rule) : Type 0 where
   pub none_agrees : some_agrees rs key (part_through stage mask) ≡ false
-  pub before : (s : ℕ) → s < stage → some_agrees rs key (part_through s mask) ≡ true
+  pub before : PassesTo stage mask key rs
 
 -- what a probe says of a key
 abbrev pub IsProbe : Probe → List ℕ → List ℕ → List Rule → Type 0
 IsProbe (Ended stage) mask key rs = EndsAt stage mask key rs
 IsProbe (Best rule priority) mask key rs = option_map rank_of (winner rs key) ≡ Some (record { priority = priority; number = rule })
+
+-- it names no stage but those before that of the network
+abbrev pub IsEarly : Probe → Type 0
+IsEarly (Ended stage) = stage < network_stage
+IsEarly (Best rule priority) = Unit {0}
+
+-- the part of the mask that it tested
+abbrev pub tested_part : Probe → List ℕ → List ℕ
+tested_part (Ended stage) mask = part_through stage mask
+tested_part (Best rule priority) mask = mask
+
+-- the rank of the rule that it found, if it found one
+abbrev pub found_rank : Probe → Option Rank
+found_rank (Ended stage) = None
+found_rank (Best rule priority) = Some (record { priority = priority; number = rule })

@@ -2,30 +2,30 @@
 
 ghost use Rattle.std.specs.Prelude.{◌≡◌, ◌==◌, not, ◌++◌, [], ◌∷◌, List, ℕ, IsTrue, IfOk, OnOk, OnErr, is_ok, if◌then◌else◌, filter};
 ghost use Rattle.spec_keys.specs.Keys.{same};
-ghost use Rattle.ovs_fields.specs.Packed.{numbers};
+ghost use Rattle.compact_keys.specs.Seen.{masked_numbers};
 ghost use Rattle.staged_lookup.specs.Counts.{ranks_at};
 ghost use Rattle.staged_lookup.specs.Ranks.{is_other};
 
 use crate::rank::Rank;
+use compact_keys::MaskedKey;
 use indexmap::IndexMap;
-use ovs_fields::Key;
 use std::alloc::{AllocError, Global};
 
 /// The ranks of the rules with each key, in the order in which they came: rules of one mask and one key differ in their
 /// priority alone. A key without rules has no entry.
-pub(crate) type Buckets = IndexMap<Key, Vec<Rank>>;
+pub(crate) type Buckets = IndexMap<MaskedKey, Vec<Rank>>;
 
 /// Adds a rank at a key. The only error is out of memory, and then the ranks stay.
 pub(crate) fn add_rank(
     alloc: Global,
     buckets: &mut Buckets,
-    key: Key,
+    key: MaskedKey,
     rank: Rank,
 ) -> Result<(), AllocError>
     ensures ok { OnOk result
         ((q : List ℕ)
         → ranks_at buckets.new q
-        ≡ ranks_at buckets.old q ++ (if same q (numbers key) then rank ∷ [] else [])) }
+        ≡ ranks_at buckets.old q ++ (if same q (masked_numbers key) then rank ∷ [] else [])) }
     ensures err { OnErr result ((q : List ℕ) → ranks_at buckets.new q ≡ ranks_at buckets.old q) }
 {
     if let Some(bucket) = buckets.get_mut(&key) {
@@ -39,10 +39,10 @@ pub(crate) fn add_rank(
 }
 
 /// Takes the rank of a number out of those at a key.
-pub(crate) fn take_rank(buckets: &mut Buckets, key: &Key, number: u32)
+pub(crate) fn take_rank(buckets: &mut Buckets, key: &MaskedKey, number: u32)
     ensures { (q : List ℕ)
         → ranks_at buckets.new q
-        ≡ (if same q (numbers key.now) then filter (is_other number)
+        ≡ (if same q (masked_numbers key.now) then filter (is_other number)
         (ranks_at buckets.old q) else ranks_at buckets.old q) }
 {
     if forget_rank(buckets, key, number) {
@@ -67,12 +67,12 @@ fn one_rank(alloc: Global, rank: Rank) -> Result<Vec<Rank>, AllocError>
 }
 
 /// Takes the rank of a number out of those at a key, and tells whether none is left.
-fn forget_rank(buckets: &mut Buckets, key: &Key, number: u32) -> bool
+fn forget_rank(buckets: &mut Buckets, key: &MaskedKey, number: u32) -> bool
     ensures ranks { (q : List ℕ)
         → ranks_at buckets.new q
-        ≡ (if same q (numbers key.now) then filter (is_other number)
+        ≡ (if same q (masked_numbers key.now) then filter (is_other number)
         (ranks_at buckets.old q) else ranks_at buckets.old q) }
-    ensures emptied { IsTrue result → ranks_at buckets.new (numbers key.now) ≡ [] }
+    ensures emptied { IsTrue result → ranks_at buckets.new (masked_numbers key.now) ≡ [] }
 {
     match buckets.get_mut(key) {
         Some(ranks) => {

@@ -18,7 +18,9 @@
 //! - `remove` takes the rule of a number out, which is there. It takes no memory.
 //! - `probe` answers `Ended` with the first stage on which no rule agrees with the key, or `Best` with the number and
 //!   priority of the rule that wins of those that the key matches. So it is `Ended` exactly where none matches. It takes no
-//!   memory.
+//!   memory. `probe_early` and `probe_late` do the same in two steps, for a lookup that has prefixes to test between the
+//!   second stage and the third, and `part` has the bits of the mask through a stage.
+//! - `find` answers the number of the rule of a key and priority, and `better` the better of two ranks.
 //!
 //! # How
 //!
@@ -26,6 +28,10 @@
 //! stage that adds no bits to the one before isn't tested, and one that reaches the whole mask is tested by the map of the
 //! rules themselves, which the last stage would ask anyway. Where all rules have the same key under a part, nothing is
 //! hashed.
+//!
+//! What a test of a stage costs is to make a key under a part of the mask, to hash it and to compare it. Each part is kept as
+//! a `KeyMask` of `compact_keys`, under which a key is made of 40 bytes instead of 160 where the part has no bits of
+//! metadata and registers, nor of the addresses of IPv6 and ARP.
 //!
 //! The rules with a key stand in one bucket, of their *ranks*: the priority and the number, which decide who wins. Rules of
 //! one mask and one key differ in their priorities alone. A third map has the rules' keys by their numbers, for removals.
@@ -49,6 +55,7 @@ mod stage;
 mod subtable;
 
 pub use probe::Probe;
+pub use rank::{Rank, better};
 pub use subtable::Subtable;
 
 #[cfg(test)]

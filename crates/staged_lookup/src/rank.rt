@@ -3,9 +3,9 @@ ghost use Rattle.staged_lookup.specs.Ranks.{is_outranked, better_rank, best_rank
 
 /// What decides among rules that match: the greatest priority wins, and of equal ones the least number.
 #[derive(Clone, Copy, Debug)]
-pub(crate) struct Rank {
-    pub(crate) priority: u16,
-    pub(crate) number: u32,
+pub struct Rank {
+    pub priority: u16,
+    pub number: u32,
 }
 
 fn is_outranked(rank: Rank, other: Rank) -> bool
@@ -15,7 +15,8 @@ fn is_outranked(rank: Rank, other: Rank) -> bool
         || (rank.priority == other.priority && other.number < rank.number)
 }
 
-fn better(rank: Rank, best: Option<Rank>) -> Option<Rank>
+/// The better of a rank and the best one of others, if there is one.
+pub fn better(rank: Rank, best: Option<Rank>) -> Option<Rank>
     ensures { result ≡ better_rank rank best }
 {
     match best {

@@ -10,8 +10,9 @@ ghost use Rattle.staged_lookup.specs.declared.stage.StageKind.TheVariants as kin
 ghost use Rattle.staged_lookup.specs.declared.stage.Step.TheVariants as steps;
 
 use crate::counts::{KeyCounts, add_count, count_of, reserve_count, take_count};
+use compact_keys::KeyMask;
 use indexmap::IndexMap;
-use ovs_fields::{Key, Mask, masked};
+use ovs_fields::{Key, Mask};
 use std::alloc::{AllocError, Global};
 
 /// What a stage of a lookup does for a mask, by the part of the mask that it reaches.
@@ -56,6 +57,8 @@ fn kind_of(before: &Mask, part: &Mask, mask: &Mask) -> StageKind
 pub(crate) struct Stage {
     pub(crate) kind: StageKind,
     pub(crate) part: Mask,
+    /// The part, as it masks keys.
+    pub(crate) key_mask: KeyMask,
     pub(crate) counts: KeyCounts,
 }
 
@@ -69,6 +72,7 @@ impl Stage {
         Stage {
             kind: kind_of(before, &part, mask),
             part,
+            key_mask: KeyMask::new(&part),
             counts: IndexMap::new(alloc),
         }
     }
@@ -96,7 +100,7 @@ impl Stage {
     {
         match self.kind {
             StageKind::LikeTheOneBefore | StageKind::WholeMask => {}
-            StageKind::Tested => add_count(&mut self.counts, masked(key, &self.part)),
+            StageKind::Tested => add_count(&mut self.counts, self.key_mask.masked(key)),
         }
     }
 
@@ -110,7 +114,7 @@ impl Stage {
     {
         match self.kind {
             StageKind::LikeTheOneBefore | StageKind::WholeMask => {}
-            StageKind::Tested => take_count(&mut self.counts, &masked(key, &self.part)),
+            StageKind::Tested => take_count(&mut self.counts, &self.key_mask.masked(key)),
         }
     }
 
@@ -133,7 +137,7 @@ impl Stage {
             → IsStage self.now before part mask rs → self.now.kind ≡ kinds.Tested
             → result ≡ some_agrees rs (numbers key.now) part }
     {
-        count_of(&self.counts, &masked(key, &self.part)) > 0
+        count_of(&self.counts, &self.key_mask.masked(key)) > 0
     }
 }
 

@@ -1,7 +1,9 @@
-ghost use Rattle.std.specs.Prelude.{◌≡◌, ◌==◌, ◌<◌, ◌++◌, [], ◌∷◌, ℕ, nat_eq, List, IsTrue, OnOk, OnErr, IfSome, Some, None, if◌then◌else◌};
+ghost use Rattle.std.specs.Prelude.{◌≡◌, ◌==◌, ◌<◌, ◌++◌, [], ◌∷◌, ℕ, nat_eq, List, IsTrue, IsNone, OnOk, OnErr, IfSome, Some, None, if◌then◌else◌};
 ghost use Rattle.indexmap.specs.IndexMap.{spare, get};
 ghost use Rattle.staged_lookup.specs.declared.probe.Probe.TheVariants as probes;
+ghost use Rattle.std.specs.List.{find};
 ghost use Rattle.std.specs.Option.{option_map};
+ghost use Rattle.spec_keys.specs.Stages.{network_stage};
 ghost use Rattle.spec_keys.specs.Keys.{same};
 ghost use Rattle.spec_tables.specs.Rules.{Rule, winner};
 ghost use Rattle.ovs_fields.specs.Packed.{numbers, bits};
@@ -13,8 +15,9 @@ use crate::buckets::{Buckets, add_rank, take_rank};
 use crate::probe::{ETHERNET, METADATA, NETWORK, PORTS, Probe};
 use crate::rank::{Rank, best_of};
 use crate::stage::{Stage, Step};
+use compact_keys::{KeyMask, MaskedKey};
 use indexmap::IndexMap;
-use ovs_fields::{Key, Mask, ethernet_part, masked, metadata_part, network_part};
+use ovs_fields::{Key, Mask, ethernet_part, metadata_part, network_part};
 use rule_tables::Match;
 use std::alloc::{AllocError, Global};
 
@@ -23,6 +26,8 @@ use std::alloc::{AllocError, Global};
 pub struct Subtable {
     pub(crate) alloc: Global,
     pub(crate) mask: Mask,
+    /// The mask, as it masks keys.
+    pub(crate) key_mask: KeyMask,
     /// The keys of the rules by their numbers.
     pub(crate) keys: IndexMap<u32, Key>,
     /// The ranks of the rules with each key.
@@ -33,7 +38,7 @@ pub struct Subtable {
 }
 
 impl Subtable {
-    ghost use Rattle.staged_lookup.specs.Subtables.{IsSubtableOf, HasRule, HasNoRule, IsProbe};
+    ghost use Rattle.staged_lookup.specs.Subtables.{IsSubtableOf, HasRule, HasNoRule, IsProbe, IsEarly, PassesTo, part_through, has_priority};
 
     /// No rules of a mask. It takes no memory.
     pub fn new(alloc: Global, mask: &Mask) -> Subtable
@@ -46,6 +51,7 @@ impl Subtable {
         Subtable {
             alloc,
             mask: *mask,
+            key_mask: KeyMask::new(mask),
             keys: IndexMap::new(alloc),
             buckets: IndexMap::new(alloc),
             metadata: Stage::new(alloc, &Mask::none(), metadata, mask),
@@ -82,7 +88,7 @@ impl Subtable {
         add_rank(
             self.alloc,
             &mut self.buckets,
-            matching.key,
+            self.key_mask.masked(&matching.key),
             Rank { priority, number },
         )?;
         self.metadata.add(&matching.key);
@@ -102,7 +108,7 @@ impl Subtable {
         let Some(key) = self.keys.swap_remove(&number) else {
             unreachable!()
         };
-        take_rank(&mut self.buckets, &key, number);
+        take_rank(&mut self.buckets, &self.key_mask.masked(&key), number);
         self.metadata.take(&key);
         self.ethernet.take(&key);
         self.network.take(&key);
@@ -115,25 +121,85 @@ impl Subtable {
             → IsSubtableOf self.now rs
             → IsProbe result (bits self.now.mask) (numbers key.now) rs }
     {
+        match self.probe_early(key) {
+            Some(probe) => probe,
+            None => self.probe_late(key),
+        }
+    }
+
+    /// What `probe` answers of a key, where the stages of the metadata and of Ethernet decide it. A lookup that has
+    /// something to test between them and the others asks this first, and then `probe_late`. It takes no memory.
+    pub fn probe_early(&self, key: &Key) -> Option<Probe>
+        ensures some { IfSome result
+            (λ probe. (rs : List Rule)
+            → IsSubtableOf self.now rs
+            → IsProbe probe (bits self.now.mask) (numbers key.now) rs) }
+        ensures early { IfSome result IsEarly }
+        ensures none { IsNone result
+            → (rs : List Rule) → IsSubtableOf self.now rs
+            → PassesTo network_stage (bits self.now.mask) (numbers key.now) rs }
+    {
         if self.keys.is_empty() {
-            return Probe::Ended { stage: METADATA };
+            return Some(Probe::Ended { stage: METADATA });
         }
         match self.metadata.step(key) {
             Step::Passes => {}
-            Step::Ends => return Probe::Ended { stage: METADATA },
-            Step::Decides => return decided(self.best(key), METADATA),
+            Step::Ends => return Some(Probe::Ended { stage: METADATA }),
+            Step::Decides => return Some(decided(self.best(key), METADATA)),
         }
         match self.ethernet.step(key) {
-            Step::Passes => {}
-            Step::Ends => return Probe::Ended { stage: ETHERNET },
-            Step::Decides => return decided(self.best(key), ETHERNET),
+            Step::Passes => None,
+            Step::Ends => Some(Probe::Ended { stage: ETHERNET }),
+            Step::Decides => Some(decided(self.best(key), ETHERNET)),
         }
+    }
+
+    /// What `probe` answers of a key that these stages don't decide. It takes no memory.
+    pub fn probe_late(&self, key: &Key) -> Probe
+        ensures { (rs : List Rule)
+            → IsSubtableOf self.now rs
+            → PassesTo network_stage (bits self.now.mask) (numbers key.now) rs
+            → IsProbe result (bits self.now.mask) (numbers key.now) rs }
+    {
         match self.network.step(key) {
-            Step::Passes => {}
-            Step::Ends => return Probe::Ended { stage: NETWORK },
-            Step::Decides => return decided(self.best(key), NETWORK),
+            Step::Passes => decided(self.best(key), PORTS),
+            Step::Ends => Probe::Ended { stage: NETWORK },
+            Step::Decides => decided(self.best(key), NETWORK),
         }
-        decided(self.best(key), PORTS)
+    }
+
+    /// The bits of the mask in the fields of a stage and those before it: from 0, the metadata, to 2, IP and ARP. From 3 on
+    /// it is the whole mask.
+    pub fn part(&self, stage: u8) -> &Mask
+        ensures { (rs : List Rule)
+            → IsSubtableOf self.now rs
+            → bits result.now ≡ part_through stage (bits self.now.mask) }
+    {
+        match stage {
+            METADATA => &self.metadata.part,
+            ETHERNET => &self.ethernet.part,
+            NETWORK => &self.network.part,
+            _ => &self.mask,
+        }
+    }
+
+    /// The number of the rule with this key and priority.
+    pub fn find(&self, key: &Key, priority: u16) -> Option<u32>
+        ensures { (rs : List Rule)
+            → IsSubtableOf self.now rs
+            → result ≡ option_map (λ r. r.number) (find (has_priority (numbers key.now) priority) rs) }
+    {
+        match self.buckets.get(&MaskedKey::whole(key)) {
+            Some(ranks) => number_of_priority(ranks, priority),
+            None => None,
+        }
+    }
+
+    /// Whether it has no rules.
+    pub fn is_empty(&self) -> bool
+        ensures { IsTrue result → (rs : List Rule) → IsSubtableOf self.now rs → rs ≡ [] }
+    {
+        self.keys.is_empty()
     }
 
     /// The best rank of the rules that a key matches.
@@ -142,7 +208,7 @@ impl Subtable {
             → IsSubtableOf self.now rs
             → result ≡ option_map rank_of (winner rs (numbers key.now)) }
     {
-        match self.buckets.get(&masked(key, &self.mask)) {
+        match self.buckets.get(&self.key_mask.masked(key)) {
             Some(ranks) => best_of(ranks),
             None => None,
         }
@@ -158,6 +224,16 @@ fn keep_key(keys: &mut IndexMap<u32, Key>, number: u32, key: Key)
     let Ok(_) = keys.insert(number, key) else {
         unreachable!()
     };
+}
+
+/// The number of the first rank of a priority.
+fn number_of_priority(ranks: &[Rank], priority: u16) -> Option<u32>
+    ensures { result ≡ option_map (λ r. r.number) (find (λ r. r.priority == priority) ranks.now) }
+{
+    ranks
+        .iter()
+        .find(|rank| rank.priority == priority)
+        .map(|rank| rank.number)
 }
 
 /// What a probe answers that tested all rules at this stage, by the best of those that match.

@@ -3,6 +3,7 @@ use Rattle.std.specs.Prelude.{if◌then◌else◌}
 use Rattle.spec_keys.specs.Keys.{masked, same}
 use Rattle.ovs_fields.specs.Equality.{equal_from_same}
 use Rattle.ovs_fields.specs.Packed.{numbers, bits}
+use Rattle.compact_keys.specs.Seen.{masked_numbers}
 use Rattle.staged_lookup.specs.declared.rank.Rank.{Rank}
 use Rattle.spec_tables.specs.Rules.{Rule}
 use Rattle.staged_lookup.specs.Numbered.{AreDistinct, HasNoNumber}
@@ -41,6 +42,7 @@ returns-in_err-reserve-clause-err c = on_err_always c.from_residual.result _ (λ
     let mask = bits c.args.self.now.mask in
     record {
       of_mask = is.of_mask;
+      masks = is.masks;
       distinct = is.distinct;
       ranked = is.ranked;
       metadata = c.reserve.ensures.same _ _ mask rs is.metadata;
@@ -54,6 +56,7 @@ returns-in_err-reserve-2-clause-err c = on_err_always c.from_residual-in_err-res
     let mask = bits c.args.self.now.mask in
     record {
       of_mask = is.of_mask;
+      masks = is.masks;
       distinct = is.distinct;
       ranked = is.ranked;
       metadata = c.reserve.ensures.same _ _ mask rs is.metadata;
@@ -67,6 +70,7 @@ returns-in_err-reserve-3-clause-err c = on_err_always c.from_residual-in_err-res
     let mask = bits c.args.self.now.mask in
     record {
       of_mask = is.of_mask;
+      masks = is.masks;
       distinct = is.distinct;
       ranked = is.ranked;
       metadata = c.reserve.ensures.same _ _ mask rs is.metadata;
@@ -80,6 +84,7 @@ returns-in_err-reserve-4-clause-err c = on_err_always c.from_residual-in_err-res
     let mask = bits c.args.self.now.mask in
     record {
       of_mask = is.of_mask;
+      masks = is.masks;
       distinct = is.distinct;
       ranked = is.ranked;
       metadata = c.reserve.ensures.same _ _ mask rs is.metadata;
@@ -93,6 +98,7 @@ returns-in_err-add_rank-clause-err c = on_err_always c.from_residual-in_err-add_
     let mask = bits c.args.self.now.mask in
     record {
       of_mask = is.of_mask;
+      masks = is.masks;
       distinct = is.distinct;
       ranked = λ q. c.in_err-add_rank.ensures.err q ∙ is.ranked q;
       metadata = c.reserve.ensures.same _ _ mask rs is.metadata;
@@ -108,6 +114,7 @@ returns-clause-ok c rs r is of_number of_priority of_match =
     let rank : Rank = record { priority = c.args.priority; number = c.args.number } in
     let same_mask : bits matching.mask ≡ mask = equal_from_same _ _ c.requires.mask in
     let of_key : r.matching.key ≡ numbers matching.key = ap (λ m. m.key) of_match in
+    let masked_key : masked_numbers c.masked.result ≡ numbers matching.key = c.masked.ensures ∙ ap (masked (numbers matching.key)) (is.masks ∙ sym same_mask) ∙ matching.normalised in
     let keys = kept_same c.args.self.now.keys c.reserve-4.new.self rs c.reserve-4.ensures.entries is.kept in
     let fresh = fresh_for_all c.args.self.now.keys c.requires.new.0 rs c.args.number c.requires.new.1.kept is.kept c.requires.new.2 in
     record {
@@ -116,9 +123,10 @@ returns-clause-ok c rs r is of_number of_priority of_match =
         normalised = ap₂ masked of_key (sym same_mask) ∙ matching.normalised ∙ sym of_key;
         fields = ap length of_key ∙ matching.key.is_key.fields;
       });
+      masks = is.masks;
       distinct = distinct_more rs r is.distinct (subst (λ n. HasNoNumber n rs) (sym of_number) fresh);
       ranked = λ q.
-          c.in_ok-add_rank.ensures.ok q ∙ ap (λ ranks. ranks ++ (if same q (numbers matching.key) then rank ∷ [] else [])) (is.ranked q)
+          c.in_ok-add_rank.ensures.ok q ∙ ap₂ (λ ranks (key : List ℕ). ranks ++ (if same q key then rank ∷ [] else [])) (is.ranked q) masked_key
           ∙ ranks_more q (numbers matching.key) rank rs r of_key (rank_is r c.args.priority c.args.number of_priority of_number);
       metadata = c.add.ensures _ _ mask rs r (c.reserve.ensures.same _ _ mask rs is.metadata) of_key;
       ethernet = c.add-2.ensures _ _ mask rs r (c.reserve-2.ensures.same _ _ mask rs is.ethernet) of_key;

@@ -1,8 +1,9 @@
-use Rattle.std.proofs.Common.{◌≡◌, if◌then◌else◌, ℕ, filter, nat_eq, Some, None, sym, refl, ap, ◌∙◌, subst}
+use Rattle.std.proofs.Common.{◌≡◌, if◌then◌else◌, ℕ, List, filter, nat_eq, Some, None, sym, refl, ap, ap₂, ◌∙◌, subst}
 use Rattle.indexmap.specs.IndexMap.{get}
-use Rattle.spec_keys.specs.Keys.{none, same}
+use Rattle.spec_keys.specs.Keys.{none, masked, same}
 use Rattle.spec_keys.specs.Stages.{staged, metadata_stage, ethernet_stage, network_stage}
 use Rattle.ovs_fields.specs.Packed.{numbers, bits}
+use Rattle.compact_keys.specs.Seen.{masked_numbers}
 use Rattle.staged_lookup.specs.Numbered.{without}
 use Rattle.staged_lookup.specs.Ranks.{rank_of, is_other}
 use Rattle.staged_lookup.specs.Stages.{IsStage}
@@ -48,12 +49,14 @@ returns-clause-removed c rs is =
     let mask = bits c.args.self.now.mask in
     let key = numbers c.in-Some.key in
     let number = c.args.number in
-    let of_key = kept_key c.args.self.now.keys rs h.0 number c.in-Some.key is.kept h.1 h.2 (sym c.swap_remove.ensures.value ∙ c.in-Some.is) in
+    let of_key : h.0.matching.key ≡ key = kept_key c.args.self.now.keys rs h.0 number c.in-Some.key is.kept h.1 h.2 (sym c.swap_remove.ensures.value ∙ c.in-Some.is) in
+    let masked_key : masked_numbers c.masked.result ≡ key = c.masked.ensures ∙ ap₂ masked (sym of_key) is.masks ∙ (is.of_mask h.0 h.1).normalised ∙ of_key in
     record {
       of_mask = λ x a. is.of_mask x (among_without number x rs a);
+      masks = is.masks;
       distinct = distinct_without number rs distinct;
       ranked = λ q.
-          c.take_rank.ensures q ∙ ap (λ ranks. if same q key then filter (is_other number) ranks else ranks) (is.ranked q)
+          c.take_rank.ensures q ∙ ap₂ (λ ranks (l : List ℕ). if same q l then filter (is_other number) ranks else ranks) (is.ranked q) masked_key
           ∙ subst (λ (n : ℕ). (if same q key then filter (is_other n) (ranks_with q rs) else ranks_with q rs) ≡ ranks_with q (without n rs)) h.2
           (ranks_less q key (rank_of h.0) rs h.0 distinct h.1 of_key refl);
       metadata = subst (λ (n : ℕ). IsStage c.take.new.self none (staged metadata_stage mask) mask (without n rs)) h.2 (c.take.ensures _ _ mask rs h.0 is.metadata distinct h.1 of_key);
