@@ -1,10 +1,11 @@
 -- The words of the command line, and what was read of them, as the definitions see it.
-use Rattle.std.specs.Prelude.{◌≡◌, ◌≤◌, ℕ, List, map, Option, Some, None, String, string_bytes}
+use Rattle.std.specs.Prelude.{◌≡◌, ◌≤◌, ℕ, List, map, Option, IfSome, String, string_bytes}
 use Rattle.std.specs.Option.{option_map}
 use Rattle.std.specs.Borrow.{Bor}
 use Rattle.std.specs.declared.alloc.Global.{Global}
 use Rattle.spec_words.specs.Words as words
 use Rattle.command_words.specs.declared.ports.PortWord.{PortWord}
+use Rattle.command_words.specs.declared.reading.FilesNamed.{FilesNamed}
 use Rattle.command_words.specs.declared.reading.Input.{Input}
 use Rattle.command_words.specs.declared.reading.Input.TheVariants.{Files, Made}
 use Rattle.command_words.specs.declared.reading.Command.{Command}
@@ -17,8 +18,18 @@ texts words = map string_bytes words
 abbrev pub text_view : Option (Bor (List ℕ)) → Option (List ℕ)
 text_view text = option_map (λ (t : Bor (List ℕ)). t.now) text
 
+abbrev pub files_view : FilesNamed → words.FilesNamed
+files_view f = record {
+  edits = f.edits.now;
+  steps = text_view f.steps;
+  mirrors = text_view f.mirrors;
+  out = f.out.now;
+  netflow = f.netflow;
+  ports = ports_view f.ports.items;
+}
+
 abbrev pub input_view : Input → words.Input
-input_view (Files edits steps out ports) = words.Files edits.now (text_view steps) out.now (ports_view ports.items)
+input_view (Files f) = words.Files (files_view f)
 input_view (Made number) = words.Made number
 
 abbrev pub command_view : Command → words.Command
@@ -26,13 +37,12 @@ command_view c = record { workers = c.workers; flow_limit = c.flow_limit; input 
 
 -- This holds of the ports of files, where files are what is run.
 abbrev pub IfFiles : Input → (List PortWord → Type 0) → Type 0
-IfFiles (Files edits steps out ports) P = P ports.items
+IfFiles (Files f) P = P f.ports.items
 IfFiles (Made number) P = Unit {0}
 
 -- This holds where steps are given.
 abbrev pub IfSteps : Input → Type 0 → Type 0
-IfSteps (Files edits (Some name) out ports) P = P
-IfSteps (Files edits None out ports) P = Unit {0}
+IfSteps (Files f) P = IfSome f.steps (λ _. P)
 IfSteps (Made number) P = Unit {0}
 
 -- There are not too many workers, and none where steps are given.

@@ -3,7 +3,7 @@
 //! # What?
 //!
 //! `read_command` says what the words after the program's name ask for: how many workers, how many megaflows a port may
-//! have, and what is run. `read_port_number` reads the number of a port by itself, for whoever has ports in other words.
+//! have, what is run, and what is written beside. `read_port_number` reads the number of a port by itself, for whoever has ports in other words.
 //!
 //! # What is promised
 //!
@@ -25,4 +25,4 @@ mod ports;
 mod reading;
 
 pub use ports::{PortWord, read_port_number};
-pub use reading::{Command, Input, read_command};
+pub use reading::{Command, FilesNamed, Input, read_command};

@@ -1,7 +1,7 @@
 //! The command as `clap` knows it, and its matches.
 ghost use Rattle.std.specs.Prelude.{◌≡◌, ◌≢◌, [], false, Some, IfOk, IfNone, IfSome};
 ghost use Rattle.clap.specs.Words.{app_of, rule_of, rows_of, found_of, fault_of, matches_of};
-ghost use Rattle.spec_words.specs.Words.{option, positional, several, plain_app, app};
+ghost use Rattle.spec_words.specs.Words.{option, flag, positional, several, plain_app, app};
 ghost use Rattle.command_words.specs.CommandViews.{texts};
 
 use clap::error::ErrorKind;
@@ -14,6 +14,10 @@ pub const WORKERS: &str = "workers";
 pub const STEPS: &str = "steps";
 
 pub const FLOW_LIMIT: &str = "flow-limit";
+
+pub const NETFLOW: &str = "netflow";
+
+pub const MIRRORS: &str = "mirrors";
 
 pub const GENERATE: &str = "generate";
 
@@ -28,6 +32,13 @@ fn option<'a>(alloc: Global, name: &'a str) -> Arg<'a>
     ensures local { result.global ≡ false }
 {
     Arg::new(alloc, name).long(name)
+}
+
+fn flag<'a>(alloc: Global, name: &'a str) -> Arg<'a>
+    ensures rule { rule_of result ≡ flag name.entry.now }
+    ensures local { result.global ≡ false }
+{
+    Arg::new(alloc, name).long(name).action(ArgAction::SetTrue)
 }
 
 fn positional<'a>(alloc: Global, name: &'a str) -> Arg<'a>
@@ -59,6 +70,8 @@ fn command<'a>(alloc: Global) -> Result<clap::Command<'a>, AllocError>
         .arg(option(alloc, WORKERS))?
         .arg(option(alloc, STEPS))?
         .arg(option(alloc, FLOW_LIMIT))?
+        .arg(flag(alloc, NETFLOW))?
+        .arg(option(alloc, MIRRORS))?
         .arg(option(alloc, GENERATE))?
         .arg(positional(alloc, EDITS))?
         .arg(positional(alloc, OUT))?

@@ -2,11 +2,13 @@
 ghost use Rattle.std.specs.Prelude.{◌≡◌, ◌≤◌, None, Some, IfOk, IfSome, codes};
 ghost use Rattle.std.specs.Option.{option_map};
 ghost use Rattle.clap.specs.Words.{rows_of, found_of, first_of, all_of};
-ghost use Rattle.spec_words.specs.Words.{most_workers, most_flows, most_made, number_of, workers_of, flow_limit_of, name_in, name_of, steps_of, ports_of, given_steps, files_in, is_alone, input_by, command_in, command_of};
+ghost use Rattle.spec_words.specs.Words.{most_workers, most_flows, most_made, number_of, workers_of, flow_limit_of, name_in, name_of, given_name, has_flag, ports_of, given_steps, files_in, is_alone, input_by, command_in, command_of};
 ghost use Rattle.command_words.specs.PortViews.{lent, ports_view, ArePorts};
 ghost use Rattle.command_words.specs.CommandViews.{texts, text_view, input_view, command_view, IfFiles, IfSteps, HasWorkers};
 
-use crate::parsing::{EDITS, FLOW_LIMIT, GENERATE, OUT, STEPS, TRACE, WORKERS, matches};
+use crate::parsing::{
+    EDITS, FLOW_LIMIT, GENERATE, MIRRORS, NETFLOW, OUT, STEPS, TRACE, WORKERS, matches,
+};
 use crate::ports::{PortWord, read_port_words};
 use clap::ArgMatches;
 use std::alloc::{AllocError, Global};
@@ -24,21 +26,28 @@ const DEFAULT_FLOW_LIMIT: u128 = 8192;
 // The greatest number that makes an input.
 const MOST_MADE: u128 = 4_294_967_295;
 
+/// The files of a run, by their names.
+#[derive(Debug, Drop)]
+pub struct FilesNamed<'a> {
+    pub edits: &'a str,
+    /// The steps file, where there is one.
+    pub steps: Option<&'a str>,
+    /// The mirrors file, where there is one.
+    pub mirrors: Option<&'a str>,
+    /// The begin of the names of what is written.
+    pub out: &'a str,
+    /// Whether the flows are written too.
+    pub netflow: bool,
+    /// The ports, each with its trace.
+    pub ports: Vec<PortWord<'a>>,
+}
+
 /// What is run.
 #[derive(Debug, Drop)]
 pub enum Input<'a> {
-    /// Files: edits, given steps where there are any, the begin of the names that are written, and the ports with their
-    /// traces.
-    Files {
-        edits: &'a str,
-        steps: Option<&'a str>,
-        out: &'a str,
-        ports: Vec<PortWord<'a>>,
-    },
+    Files(FilesNamed<'a>),
     /// What a number makes.
-    Made {
-        number: u32,
-    },
+    Made { number: u32 },
 }
 
 /// What the words of the command line ask for.
@@ -115,11 +124,11 @@ fn name_of<'a>(found: &ArgMatches<'a>, id: &str) -> Option<&'a str>
     name_in(text)
 }
 
-// The name of the steps file, where there is one.
-fn steps_of<'a>(found: &ArgMatches<'a>) -> Option<Option<&'a str>>
-    ensures { option_map text_view result ≡ steps_of (rows_of (found_of found.now)) }
+// The name of a file that may be left out.
+fn given_name<'a>(found: &ArgMatches<'a>, id: &str) -> Option<Option<&'a str>>
+    ensures { option_map text_view result ≡ given_name id.now (rows_of (found_of found.now)) }
 {
-    match first(found, STEPS) {
+    match first(found, id) {
         None => Some(None),
         Some(text) => match name_in(text) {
             None => None,
@@ -128,11 +137,21 @@ fn steps_of<'a>(found: &ArgMatches<'a>) -> Option<Option<&'a str>>
     }
 }
 
+// Whether a flag stands.
+fn has_flag(found: &ArgMatches<'_>, id: &str) -> bool
+    ensures { result ≡ has_flag id.now (rows_of (found_of found.now)) }
+{
+    match first(found, id) {
+        None => false,
+        Some(text) => text == "true",
+    }
+}
+
 fn given_steps<'a>(found: &ArgMatches<'a>, workers: u8) -> Option<Option<&'a str>>
     ensures value { option_map text_view result ≡ given_steps workers (rows_of (found_of found.now)) }
     ensures alone { IfSome result (λ steps. IfSome steps (λ _. workers ≡ 0)) }
 {
-    let steps = steps_of(found)?;
+    let steps = given_name(found, STEPS)?;
     if steps.is_none() || workers == 0 {
         Some(steps)
     } else {
@@ -181,18 +200,23 @@ fn files_in<'a>(
     let Some(steps) = given_steps(found, workers) else {
         return Ok(None);
     };
+    let Some(mirrors) = given_name(found, MIRRORS) else {
+        return Ok(None);
+    };
     match ports_of(alloc, found)? {
         None => Ok(None),
-        Some(ports) => Ok(Some(Input::Files {
+        Some(ports) => Ok(Some(Input::Files(FilesNamed {
             edits,
             steps,
+            mirrors,
             out,
+            netflow: has_flag(found, NETFLOW),
             ports,
-        })),
+        }))),
     }
 }
 
-// Whether nothing but a number says what is run.
+// Whether nothing but a number says what is run and written.
 fn is_alone(found: &ArgMatches<'_>) -> bool
     ensures { result ≡ is_alone (rows_of (found_of found.now)) }
 {
@@ -200,6 +224,8 @@ fn is_alone(found: &ArgMatches<'_>) -> bool
         && first(found, OUT).is_none()
         && all(found, TRACE).is_none()
         && first(found, STEPS).is_none()
+        && first(found, MIRRORS).is_none()
+        && !has_flag(found, NETFLOW)
 }
 
 // What is run, where no number makes it, or by that number.

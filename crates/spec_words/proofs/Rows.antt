@@ -1,12 +1,12 @@
 -- Worked rows: the words of the command line.
-use Rattle.std.specs.Prelude.{◌≡◌, ℕ, List, [], ◌∷◌, ◌++◌, Option, Some, None, true, codes, map, refl}
+use Rattle.std.specs.Prelude.{◌≡◌, ℕ, List, [], ◌∷◌, ◌++◌, Option, Some, None, true, false, codes, map, refl}
 use Rattle.std.specs.List.{range_with_len}
 use Rattle.std.specs.Option.{option_map}
 use Rattle.std.specs.Fmt.{digits, decimal}
 use Rattle.clap.specs.Faults.{is_simple_and_free}
 use Rattle.clap.proofs.OnLiterals.{clap_on_literals}
 use Rattle.spec_numbers.specs.Numbers.{digits_upto, decimal_upto}
-use Rattle.spec_words.specs.Words.{Command, Input, Files, Made, PortWord, app, port_number, port_word, new_port, port_words, files_in, command_in, command_of}
+use Rattle.spec_words.specs.Words.{Command, Input, FilesNamed, Files, Made, PortWord, app, port_number, port_word, new_port, port_words, files_in, command_in, command_of}
 
 -- of this command `clap` says exactly which words it takes, and what they say
 the_command_is_simple : is_simple_and_free app ≡ true
@@ -24,13 +24,20 @@ says words said = command_of words ≡ Some said
 abbrev refused : List (List ℕ) → Type 0
 refused words = command_of words ≡ None
 
--- what one port of these names says
+-- what these names say, where nothing is given beside edits and traces
+abbrev named : List ℕ → List ℕ → List PortWord → FilesNamed
+named edits out ports = record { edits = edits; steps = None; mirrors = None; out = out; netflow = false; ports = ports }
+
+-- one port of these names
+abbrev one : FilesNamed
+one = named (codes "e") (codes "o") (word 1 (codes "a") ∷ [])
+
 abbrev one_port : Option (List ℕ) → Input
-one_port steps = Files (codes "e") steps (codes "o") (word 1 (codes "a") ∷ [])
+one_port steps = Files (record one { steps = steps })
 
 names_and_ports_stand_in_order :
-    (says (codes "e" ∷ codes "o" ∷ codes "1=a=b" ∷ codes "2=" ∷ []) (command 0 8192 (Files (codes "e") None (codes "o") (word 1 (codes "a=b") ∷ word 2 [] ∷ []))))
-    × (says (codes "e" ∷ codes "o" ∷ codes "65279=" ∷ []) (command 0 8192 (Files (codes "e") None (codes "o") (word 65279 [] ∷ []))))
+    (says (codes "e" ∷ codes "o" ∷ codes "1=a=b" ∷ codes "2=" ∷ []) (command 0 8192 (Files (named (codes "e") (codes "o") (word 1 (codes "a=b") ∷ word 2 [] ∷ [])))))
+    × (says (codes "e" ∷ codes "o" ∷ codes "65279=" ∷ []) (command 0 8192 (Files (named (codes "e") (codes "o") (word 65279 [] ∷ [])))))
 unfolding command_of command_in files_in port_words new_port port_word port_number decimal_upto digits_upto clap_on_literals
 names_and_ports_stand_in_order = (refl, refl)
 
@@ -40,8 +47,28 @@ options_stand_anywhere :
 unfolding command_of command_in files_in port_words new_port port_word port_number decimal_upto digits_upto clap_on_literals
 options_stand_anywhere = (refl, refl)
 
+flows_are_written_where_the_flag_stands :
+    (says (codes "--netflow" ∷ codes "e" ∷ codes "o" ∷ codes "1=a" ∷ []) (command 0 8192 (Files (record one { netflow = true }))))
+    × ((says (codes "e" ∷ codes "o" ∷ codes "1=a" ∷ codes "--netflow" ∷ codes "--workers=2" ∷ []) (command 2 8192 (Files (record one { netflow = true }))))
+    × ((refused (codes "--netflow=x" ∷ codes "e" ∷ codes "o" ∷ codes "1=a" ∷ []))
+    × ((refused (codes "--netflow=true" ∷ codes "e" ∷ codes "o" ∷ codes "1=a" ∷ []))
+    × (refused (codes "--netflow" ∷ codes "--netflow" ∷ codes "e" ∷ codes "o" ∷ codes "1=a" ∷ [])))))
+unfolding command_of command_in files_in port_words new_port port_word port_number decimal_upto digits_upto clap_on_literals
+flows_are_written_where_the_flag_stands = (refl, (refl, (refl, (refl, refl))))
+
+mirrors_may_be_given :
+    (says (codes "--mirrors" ∷ codes "m" ∷ codes "e" ∷ codes "o" ∷ codes "1=a" ∷ []) (command 0 8192 (Files (record one { mirrors = Some (codes "m") }))))
+    × ((says (codes "e" ∷ codes "--mirrors=m" ∷ codes "--steps=s" ∷ codes "o" ∷ codes "--netflow" ∷ codes "1=a" ∷ [])
+    (command 0 8192 (Files (record one { steps = Some (codes "s"); mirrors = Some (codes "m"); netflow = true }))))
+    × ((says (codes "--workers=3" ∷ codes "--mirrors=m" ∷ codes "e" ∷ codes "o" ∷ codes "1=a" ∷ []) (command 3 8192 (Files (record one { mirrors = Some (codes "m") }))))
+    × ((refused (codes "--mirrors" ∷ [] ∷ codes "e" ∷ codes "o" ∷ codes "1=a" ∷ []))
+    × ((refused (codes "--mirrors=" ∷ codes "e" ∷ codes "o" ∷ codes "1=a" ∷ []))
+    × (refused (codes "--mirrors=m" ∷ codes "--mirrors=m" ∷ codes "e" ∷ codes "o" ∷ codes "1=a" ∷ []))))))
+unfolding command_of command_in files_in port_words new_port port_word port_number decimal_upto digits_upto clap_on_literals
+mirrors_may_be_given = (refl, (refl, (refl, (refl, (refl, refl)))))
+
 after_two_hyphens_words_are_names :
-    says (codes "--" ∷ codes "--steps" ∷ codes "-o" ∷ codes "1=-a" ∷ []) (command 0 8192 (Files (codes "--steps") None (codes "-o") (word 1 (codes "-a") ∷ [])))
+    says (codes "--" ∷ codes "--steps" ∷ codes "-o" ∷ codes "1=-a" ∷ []) (command 0 8192 (Files (named (codes "--steps") (codes "-o") (word 1 (codes "-a") ∷ []))))
 unfolding command_of command_in files_in port_words new_port port_word port_number decimal_upto digits_upto clap_on_literals
 after_two_hyphens_words_are_names = refl
 
@@ -70,7 +97,7 @@ ports_differ_and_are_from_1_to_65279 = (refl, (refl, (refl, (refl, (refl, (refl,
 
 -- what these ports say, after EDITS and OUT
 abbrev says_ports : List (List ℕ) → List PortWord → Type 0
-says_ports ports words = says (codes "e" ∷ codes "o" ∷ ports) (command 0 8192 (Files (codes "e") None (codes "o") words))
+says_ports ports words = says (codes "e" ∷ codes "o" ∷ ports) (command 0 8192 (Files (named (codes "e") (codes "o") words)))
 
 any_port_may_have_a_trace :
     (says_ports (codes "1=" ∷ codes "2=a" ∷ []) (word 1 [] ∷ word 2 (codes "a") ∷ []))
@@ -118,9 +145,10 @@ a_hyphen_begins_an_option = (refl, (refl, (refl, refl)))
 what_cannot_stand_together :
     (refused (codes "--workers=1" ∷ codes "--steps=s" ∷ codes "e" ∷ codes "o" ∷ codes "1=" ∷ []))
     × ((refused (codes "--generate=7" ∷ codes "e" ∷ [])) × ((refused (codes "--generate=7" ∷ codes "--steps=s" ∷ []))
-    × (refused (codes "--workers=1" ∷ codes "--workers=1" ∷ codes "e" ∷ codes "o" ∷ codes "1=" ∷ []))))
+    × ((refused (codes "--generate=7" ∷ codes "--netflow" ∷ [])) × ((refused (codes "--generate=7" ∷ codes "--mirrors=m" ∷ []))
+    × (refused (codes "--workers=1" ∷ codes "--workers=1" ∷ codes "e" ∷ codes "o" ∷ codes "1=" ∷ []))))))
 unfolding command_of command_in files_in port_words new_port port_word port_number decimal_upto digits_upto clap_on_literals
-what_cannot_stand_together = (refl, (refl, (refl, refl)))
+what_cannot_stand_together = (refl, (refl, (refl, (refl, (refl, refl)))))
 
 unknown_options_and_requests_for_help_are_refused :
     (refused (codes "--trace" ∷ codes "e" ∷ codes "o" ∷ codes "1=" ∷ [])) × ((refused (codes "--help" ∷ [])) × ((refused (codes "-h" ∷ []))

@@ -1,16 +1,17 @@
 -- The words of the command line:
 --
---     [--workers N] [--steps FILE] [--flow-limit N] EDITS OUT PORT=FILE PORT=..
+--     [--workers N] [--steps FILE] [--flow-limit N] [--netflow] [--mirrors FILE] EDITS OUT PORT=FILE PORT=..
 --     --generate N [--workers N] [--flow-limit N]
 --
 -- Which word is an option, which its value and which a positional is what `clap` has of this command, in which each
 -- argument may be left out and no one has to do with another. What may stand together, and numbers, are tested after it.
-use Rattle.std.specs.Prelude.{ℕ, ◌==◌, nat_le, Bool, true, not, ◌&&◌, ◌||◌, if◌then◌else◌, List, [], ◌∷◌, ◌++◌, length, Option, Some, None, unwrap_or, codes}
+use Rattle.std.specs.Prelude.{ℕ, ◌==◌, nat_le, Bool, true, false, not, ◌&&◌, ◌||◌, if◌then◌else◌, List, [], ◌∷◌, ◌++◌, length, Option, Some, None, unwrap_or, codes}
 use Rattle.std.specs.List.{list_any}
 use Rattle.std.specs.Option.{option_map, option_map_or, is_none}
+use Rattle.std.specs.Str.{bytes_eq}
 use Rattle.clap.specs.Words.{App, Row, Rule, new_app, new_rule, with_rule, matches_of, first_of, all_of, fault_of, Kinds}
 use Rattle.clap.specs.Simple.{on_top}
-use Rattle.clap.specs.declared.builder.action.ArgAction.TheVariants.{Append}
+use Rattle.clap.specs.declared.builder.action.ArgAction.TheVariants.{SetTrue, Append}
 use Rattle.spec_numbers.specs.Characters.{equals_sign}
 use Rattle.spec_numbers.specs.Numbers.{◌>>=◌, split_once, decimal_upto, last_port, nonzero}
 
@@ -19,6 +20,10 @@ use Rattle.spec_numbers.specs.Numbers.{◌>>=◌, split_once, decimal_upto, last
 -- an option `--NAME VALUE` or `--NAME=VALUE`
 abbrev pub option : List ℕ → Rule
 option name = record (new_rule name) { long = Some name }
+
+-- an option `--NAME` that takes no value
+abbrev pub flag : List ℕ → Rule
+flag name = record (new_rule name) { long = Some name; action = Some SetTrue }
 
 abbrev pub positional : List ℕ → Rule
 positional name = new_rule name
@@ -33,8 +38,9 @@ plain_app = on_top (λ s. record s { no_binary_name = true; disable_help_flag = 
 
 abbrev pub app : App
 app =
-    with_rule (with_rule (with_rule (with_rule (with_rule (with_rule (with_rule plain_app
-    (option (codes "workers"))) (option (codes "steps"))) (option (codes "flow-limit"))) (option (codes "generate")))
+    with_rule (with_rule (with_rule (with_rule (with_rule (with_rule (with_rule (with_rule (with_rule plain_app
+    (option (codes "workers"))) (option (codes "steps"))) (option (codes "flow-limit"))) (flag (codes "netflow")))
+    (option (codes "mirrors"))) (option (codes "generate")))
     (positional (codes "EDITS"))) (positional (codes "OUT"))) (several (codes "TRACE"))
 
 -- ---- what is said
@@ -47,9 +53,19 @@ pub record PortWord : Type 0 where
 abbrev pub has_trace : PortWord → Bool
 has_trace w = not (length w.file == 0)
 
--- what is run: files, with a steps file where there is one; or what a number makes
+-- The files of a run: the edits, the given steps and the mirrors where there are such files, the ports with their traces, the
+-- begin of the names of what is written, and whether the flows are written too.
+pub record FilesNamed : Type 0 where
+  pub edits : List ℕ
+  pub steps : Option (List ℕ)
+  pub mirrors : Option (List ℕ)
+  pub out : List ℕ
+  pub netflow : Bool
+  pub ports : List PortWord
+
+-- what is run: files, or what a number makes
 pub data Input : Type 0 where
-  Files : List ℕ → Option (List ℕ) → List ℕ → List PortWord → Input
+  Files : FilesNamed → Input
   Made : ℕ → Input
 
 -- how many workers there are, the most megaflows of a port, and what is run
@@ -97,9 +113,13 @@ name_in text = if length text == 0 then None else Some text
 abbrev pub name_of : List ℕ → List Row → Option (List ℕ)
 name_of id rows = first_of id rows >>= name_in
 
--- the name of the steps file, where there is one
-abbrev pub steps_of : List Row → Option (Option (List ℕ))
-steps_of rows = option_map_or (λ text. option_map (λ name. Some name) (name_in text)) (first_of (codes "steps") rows) (Some None)
+-- the name of a file that may be left out
+abbrev pub given_name : List ℕ → List Row → Option (Option (List ℕ))
+given_name id rows = option_map_or (λ text. option_map (λ name. Some name) (name_in text)) (first_of id rows) (Some None)
+
+-- whether a flag stands: `clap` has the value `true` or `false` of it
+abbrev pub has_flag : List ℕ → List Row → Bool
+has_flag id rows = option_map_or (λ text. bytes_eq text (codes "true")) (first_of id rows) false
 
 -- ---- ports
 
@@ -140,21 +160,23 @@ abbrev pub may_have_steps : ℕ → Option (List ℕ) → Bool
 may_have_steps workers steps = is_none steps || (workers == 0)
 
 abbrev pub given_steps : ℕ → List Row → Option (Option (List ℕ))
-given_steps workers rows = steps_of rows >>= (λ steps. if may_have_steps workers steps then Some steps else None)
+given_steps workers rows = given_name (codes "steps") rows >>= (λ steps. if may_have_steps workers steps then Some steps else None)
 
 unfoldable pub files_in : ℕ → List Row → Option Input
 files_in workers rows = do
   edits ← name_of (codes "EDITS") rows
   out ← name_of (codes "OUT") rows
   steps ← given_steps workers rows
+  mirrors ← given_name (codes "mirrors") rows
   ports ← ports_of rows
-  Some (Files edits steps out ports)
+  Some (Files (record { edits = edits; steps = steps; mirrors = mirrors; out = out; netflow = has_flag (codes "netflow") rows; ports = ports }))
 
--- nothing else says what is run
+-- nothing else says what is run or written
 abbrev pub is_alone : List Row → Bool
 is_alone rows =
     is_none (first_of (codes "EDITS") rows) && is_none (first_of (codes "OUT") rows) && is_none (all_of (codes "TRACE") rows)
-    && is_none (first_of (codes "steps") rows)
+    && is_none (first_of (codes "steps") rows) && is_none (first_of (codes "mirrors") rows)
+    && not (has_flag (codes "netflow") rows)
 
 abbrev pub made_in : List Row → ℕ → Option Input
 made_in rows number = if is_alone rows then Some (Made number) else None

@@ -8,7 +8,9 @@ returns c =
     let one = c.in_ok-arg.ensures.shape c.option.ensures.local ∙ ap₂ with_rule c.plain_command.ensures c.option.ensures.rule in
     let two = c.in_ok-arg-2.ensures.shape c.option-2.ensures.local ∙ ap₂ with_rule one c.option-2.ensures.rule in
     let three = c.in_ok-arg-3.ensures.shape c.option-3.ensures.local ∙ ap₂ with_rule two c.option-3.ensures.rule in
-    let four = c.in_ok-arg-4.ensures.shape c.option-4.ensures.local ∙ ap₂ with_rule three c.option-4.ensures.rule in
-    let five = c.in_ok-arg-5.ensures.shape c.positional.ensures.local ∙ ap₂ with_rule four c.positional.ensures.rule in
-    let six = c.in_ok-arg-6.ensures.shape c.positional-2.ensures.local ∙ ap₂ with_rule five c.positional-2.ensures.rule in
-    IfOk-weaker c.arg-7.result _ _ (λ m h. h.shape c.several.ensures.local ∙ ap₂ with_rule six c.several.ensures.rule) c.arg-7.ensures
+    let four = c.in_ok-arg-4.ensures.shape c.flag.ensures.local ∙ ap₂ with_rule three c.flag.ensures.rule in
+    let five = c.in_ok-arg-5.ensures.shape c.option-4.ensures.local ∙ ap₂ with_rule four c.option-4.ensures.rule in
+    let six = c.in_ok-arg-6.ensures.shape c.option-5.ensures.local ∙ ap₂ with_rule five c.option-5.ensures.rule in
+    let seven = c.in_ok-arg-7.ensures.shape c.positional.ensures.local ∙ ap₂ with_rule six c.positional.ensures.rule in
+    let eight = c.in_ok-arg-8.ensures.shape c.positional-2.ensures.local ∙ ap₂ with_rule seven c.positional-2.ensures.rule in
+    IfOk-weaker c.arg-9.result _ _ (λ m h. h.shape c.several.ensures.local ∙ ap₂ with_rule eight c.several.ensures.rule) c.arg-9.ensures
