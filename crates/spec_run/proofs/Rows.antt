@@ -28,6 +28,7 @@ use Rattle.spec_script.specs.Script.{with_line, with_lines, script_of, with_edit
 use Rattle.spec_frames.specs.Ethernet.{is_tagged, tci_of, carried, carried_by}
 use Rattle.spec_frames.specs.Network.{network_at}
 use Rattle.spec_frames.specs.Key.{with_network, key_of}
+use Rattle.spec_frames.specs.Layout.{layout_of}
 use Rattle.spec_case.specs.Run.{frames_in}
 use Rattle.spec_case.specs.Arrivals.{arrivals_at, arrivals_in, put_in_order, in_order}
 use Rattle.spec_xlate.specs.Commit.{commit, commit_fields, commit_field}
@@ -50,14 +51,16 @@ use Rattle.spec_dumps.specs.declared.ran.Ran.{Ran}
 use Rattle.spec_steps.specs.declared.fault.StepsFault.TheVariants as given
 use Rattle.spec_steps.specs.Steps as steps_file
 use Rattle.spec_steps.specs.Steps.{number_in, port_in, step_in, with_words, steps_of}
+use Rattle.spec_mirrors.specs.declared.fault.MirrorFault.TheVariants as mirroring
+use Rattle.spec_mirrors.specs.Mirrors as mirrors_file
 use Rattle.spec_run.specs.declared.quantity.Quantity.{Quantity}
-use Rattle.spec_run.specs.declared.quantity.Quantity.TheVariants.{EditsBytes, StepsBytes, Line, Edits, Syncs, Actions, Steps as StepCount, Changes, TraceBytes, Frames}
-use Rattle.spec_run.specs.Verdict.{Files, Refusal, Usage, Missing, Text, Steps, Trace, Limit, TraceFile, Accepted, command_in, script_in, file_in, traces_after, run_in, verdict, traces_opened, later_opened, sources_opened, files_opened}
+use Rattle.spec_run.specs.declared.quantity.Quantity.TheVariants.{EditsBytes, StepsBytes, MirrorsBytes, Line, Edits, Syncs, Actions, Steps as StepCount, Mirrors as MirrorCount, Changes, TraceBytes, Frames}
+use Rattle.spec_run.specs.Verdict.{Files, Refusal, Usage, Missing, Text, Steps, Mirrors, Trace, Limit, TraceFile, Accepted, command_in, script_in, file_in, traces_after, run_in, verdict, refused_mirrors, traces_opened, last_opened, later_opened, sources_opened, files_opened}
 use Rattle.spec_base.specs.Files.{File, IsPrefixOf}
 use Rattle.spec_run.specs.Journals.{scheduled_journals}
-use Rattle.spec_run.specs.Outputs.{out_of, output_of, has_steps, ran_of}
+use Rattle.spec_run.specs.Outputs.{outlets_of, output_of, has_steps, ran_of}
 use Rattle.spec_run.specs.CutShort.{IsCutShort}
-use Rattle.spec_run.specs.Statuses.{status_of, text_of, read_fault_text, script_text, trace_text, limit_text, Prints}
+use Rattle.spec_run.specs.Statuses.{status_of, text_of, read_fault_text, script_text, mirrors_text, trace_text, limit_text, Prints}
 
 abbrev said : List (List ℕ)
 said = codes "e" ∷ codes "o" ∷ codes "1=a" ∷ codes "2=" ∷ []
@@ -79,7 +82,7 @@ unfolding command_in script_in file_in traces_after run_in verdict capture_of fo
 outcome command e a = files_in (verdict command (files e a))
   where
     files_in : Result Accepted Refusal → Result (List File) Refusal
-    files_in (Ok accepted) = Ok (output_of (out_of accepted.command.input) accepted.run (scheduled_journals accepted.run))
+    files_in (Ok accepted) = Ok (output_of (outlets_of accepted.command.input accepted.mirrors) accepted.run (scheduled_journals accepted.run))
     files_in (Err refusal) = Err refusal
 
 -- the files of the two ports
@@ -159,6 +162,26 @@ the_dumps_stand_between_the_port_files_and_the_journal :
 unfolding outcome
 the_dumps_stand_between_the_port_files_and_the_journal = refl
 
+-- a run whose mirrors file is `a`, without a trace
+abbrev mirrored : List (List ℕ)
+mirrored = codes "--mirrors=a" ∷ codes "e" ∷ codes "o" ∷ codes "1=" ∷ []
+
+the_flows_and_then_the_copies_stand_after_the_journal :
+    (names_in (outcome (codes "--netflow" ∷ mirrored) (Some []) (Some (codes "select_all\n\nselect_src_port=1\n")))
+    ≡ codes "o.p1.pcap" ∷ codes "o.rules" ∷ codes "o.megaflows" ∷ codes "o.journal" ∷ codes "o.netflow" ∷ codes "o.m1.pcap" ∷ codes "o.m2.pcap" ∷ [])
+    × (names_in (outcome mirrored (Some []) (Some [])) ≡ codes "o.p1.pcap" ∷ codes "o.rules" ∷ codes "o.megaflows" ∷ codes "o.journal" ∷ [])
+unfolding outcome mirrors_file.port_in mirrors_file.with_port mirrors_file.with_valued mirrors_file.with_bare mirrors_file.with_item mirrors_file.with_items mirrors_file.mirror_in mirrors_file.with_line mirrors_file.with_lines mirrors_file.mirrors_in
+the_flows_and_then_the_copies_stand_after_the_journal = (refl, refl)
+
+-- the file after the five of a run with two ports, where there is one
+abbrev sixth : Result (List File) Refusal → Option File
+sixth (Ok files) = slice_get files 5
+sixth (Err refusal) = None
+
+what_is_no_ipv4_is_in_no_flow : sixth (outcome (codes "--netflow" ∷ said) (Some (codes "actions=2")) (Some trace)) ≡ Some (codes "o.netflow", [])
+unfolding outcome layout_of
+what_is_no_ipv4_is_in_no_flow = refl
+
 -- ---- what is refused
 
 refused_words_come_first : outcome (codes "e" ∷ []) None None ≡ Err Usage
@@ -182,6 +205,30 @@ the_steps_come_after_the_edits_and_before_the_traces :
     × (outcome stepped (Some []) (Some (codes "edit\nrx 1")) ≡ Err (Missing (codes "b")))))
 unfolding outcome number_in port_in step_in with_words steps_file.with_line steps_file.with_lines steps_of
 the_steps_come_after_the_edits_and_before_the_traces = (refl, (refl, (refl, refl)))
+
+-- a run whose steps file is `a`, and its mirrors file `m`
+abbrev stepped_and_mirrored : List (List ℕ)
+stepped_and_mirrored = codes "--mirrors=m" ∷ codes "--steps=a" ∷ codes "e" ∷ codes "o" ∷ codes "1=b" ∷ []
+
+-- a run whose mirrors file is `a`, and the trace of port 1 `b`
+abbrev mirrored_trace : List (List ℕ)
+mirrored_trace = codes "--mirrors=a" ∷ codes "e" ∷ codes "o" ∷ codes "1=b" ∷ []
+
+the_mirrors_come_after_the_steps_and_before_the_traces :
+    (outcome mirrored_trace (Some (codes "actions")) None ≡ Err (Text (codes "e") (script.Line 1 (text.Syntax 1))))
+    × ((outcome stepped_and_mirrored (Some []) (Some (codes "rx 2")) ≡ Err (Steps (codes "a") (given.Line 1 (text.BadValue 4))))
+    × ((outcome stepped_and_mirrored (Some []) (Some (codes "rx 1")) ≡ Err (Missing (codes "m")))
+    × ((outcome mirrored_trace (Some []) None ≡ Err (Missing (codes "a")))
+    × ((outcome mirrored_trace (Some []) (Some (codes "select_all\nselect_src_port=2")) ≡ Err (Mirrors (codes "a") (mirroring.Line 2 (text.BadValue 17))))
+    × (outcome mirrored_trace (Some []) (Some (codes "select_all\nselect_src_port=1")) ≡ Err (Missing (codes "b")))))))
+unfolding outcome number_in port_in step_in with_words steps_file.with_line steps_file.with_lines steps_of mirrors_file.port_in mirrors_file.with_port mirrors_file.with_valued mirrors_file.with_bare mirrors_file.with_item mirrors_file.with_items mirrors_file.mirror_in mirrors_file.with_line mirrors_file.with_lines mirrors_file.mirrors_in
+the_mirrors_come_after_the_steps_and_before_the_traces = (refl, (refl, (refl, (refl, (refl, refl)))))
+
+a_mirrors_file_has_at_most_65536_bytes :
+    (outcome mirrored_trace (Some []) (Some (replicate 65537 10)) ≡ Err (Limit MirrorsBytes))
+    × (map (refused_mirrors (codes "a")) (mirroring.LineTooLong ∷ mirroring.TooManyMirrors ∷ []) ≡ Limit Line ∷ Limit MirrorCount ∷ [])
+unfolding outcome
+a_mirrors_file_has_at_most_65536_bytes = (refl, refl)
 
 -- the steps of a run, and what is told of them
 abbrev steps_and_ran : Result Accepted Refusal → Option (List RunStep × Option Ran)
@@ -221,7 +268,7 @@ bytes_above_the_limit_come_before_frames = (refl, refl)
 -- ---- what is opened
 
 unfoldable opened : Option (List ℕ) → Option (List ℕ) → List (List ℕ)
-unfolding files_opened sources_opened later_opened traces_opened command_in script_in file_in traces_after run_in verdict capture_of format_of record_fault frames_from little_endian_at digits_upto decimal_upto number_upto octet octet_before_colon mac port_number port_word new_port port_words command_of command_line.command_in command_line.files_in clap_on_literals field_named is_field_left_out shorthand_named keyword_named item_named reserved_port_named is_action_left_out action_named value_in whole_value value_of bits_stated field_stated words with_part with_shorthand number_once with_valued with_bare with_item items.read_items kept match_of read_match up_to_end items is_closed argument_of port_of actions.output drop_item actions_of_item read_items read_actions edit_from edit_in changes_to with_line with_lines script_of with_edit with_sync sync_time time_of seconds_with_fraction seconds_of fraction_of
+unfolding files_opened sources_opened later_opened last_opened traces_opened command_in script_in file_in traces_after run_in verdict capture_of format_of record_fault frames_from little_endian_at digits_upto decimal_upto number_upto octet octet_before_colon mac port_number port_word new_port port_words command_of command_line.command_in command_line.files_in clap_on_literals field_named is_field_left_out shorthand_named keyword_named item_named reserved_port_named is_action_left_out action_named value_in whole_value value_of bits_stated field_stated words with_part with_shorthand number_once with_valued with_bare with_item items.read_items kept match_of read_match up_to_end items is_closed argument_of port_of actions.output drop_item actions_of_item read_items read_actions edit_from edit_in changes_to with_line with_lines script_of with_edit with_sync sync_time time_of seconds_with_fraction seconds_of fraction_of
 opened e a = files_opened said (files e a)
 
 nothing_is_opened_after_a_refusal :
@@ -229,6 +276,17 @@ nothing_is_opened_after_a_refusal :
     × (opened (Some []) None ≡ codes "e" ∷ codes "a" ∷ []))
 unfolding opened
 nothing_is_opened_after_a_refusal = (refl, (refl, refl))
+
+-- what is opened where the steps file and the mirrors file are `a`
+abbrev opened_twice : List ℕ → List (List ℕ)
+opened_twice a = files_opened (codes "--steps=a" ∷ codes "--mirrors=a" ∷ codes "e" ∷ codes "o" ∷ codes "1=b" ∷ []) (files (Some []) (Some a))
+
+the_mirrors_are_opened_after_the_steps_and_before_the_traces :
+    (opened_twice [] ≡ codes "e" ∷ codes "a" ∷ codes "a" ∷ codes "b" ∷ [])
+    × ((opened_twice (codes "rx 1") ≡ codes "e" ∷ codes "a" ∷ codes "a" ∷ [])
+    × (opened_twice (codes "select_all") ≡ codes "e" ∷ codes "a" ∷ []))
+unfolding files_opened sources_opened later_opened last_opened traces_opened command_in script_in file_in digits_upto decimal_upto port_number port_word new_port port_words command_of command_line.command_in command_line.files_in clap_on_literals words changes_to with_line with_lines script_of number_in port_in step_in with_words steps_file.with_line steps_file.with_lines steps_of mirrors_file.port_in mirrors_file.with_port mirrors_file.with_valued mirrors_file.with_bare mirrors_file.with_item mirrors_file.with_items mirrors_file.mirror_in mirrors_file.with_line mirrors_file.with_lines mirrors_file.mirrors_in
+the_mirrors_are_opened_after_the_steps_and_before_the_traces = (refl, (refl, refl))
 
 nothing_is_opened_for_what_a_number_makes : files_opened (codes "--generate=7" ∷ []) (files None None) ≡ []
 unfolding files_opened command_in digits_upto decimal_upto command_of command_line.command_in command_line.files_in clap_on_literals
@@ -238,7 +296,7 @@ nothing_is_opened_for_what_a_number_makes = refl
 
 -- the words that the program takes are told
 abbrev usage : List ℕ
-usage = codes "usage: megaswitch [--workers N] [--steps FILE] [--flow-limit N] EDITS OUT PORT=FILE...\n"
+usage = codes "usage: megaswitch [--workers N] [--steps FILE] [--flow-limit N] [--netflow] [--mirrors FILE] EDITS OUT PORT=FILE...\n"
 
 other_words_end_with_2 : (status_of Usage ≡ 2) × (text_of Usage ≡ usage)
 other_words_end_with_2 = (refl, refl)
@@ -260,6 +318,7 @@ the_texts_of_faulty_traces = (refl, (refl, (refl, (refl, (refl, (refl, refl)))))
 abbrev limits_and_their_texts : List (Quantity × List ℕ)
 limits_and_their_texts =
     (EditsBytes, codes "limit: edits-bytes 33554432\n") ∷ (StepsBytes, codes "limit: steps-bytes 4194304\n") ∷
+    (MirrorsBytes, codes "limit: mirrors-bytes 65536\n") ∷ (MirrorCount, codes "limit: mirrors 16\n") ∷
     (StepCount, codes "limit: steps 131072\n") ∷ (Line, codes "limit: line 4096\n") ∷ (Edits, codes "limit: edits 32768\n") ∷
     (Syncs, codes "limit: syncs 63\n") ∷ (Actions, codes "limit: actions 64\n") ∷ (Changes, codes "limit: changes 1048576\n") ∷
     (TraceBytes, codes "limit: trace-bytes 268435456\n") ∷ (Frames, codes "limit: frames 131072\n") ∷ []
@@ -277,6 +336,15 @@ the_texts_of_faulty_edits :
     × (script_text (codes "edits") (script.SyncOrder 2) ≡ codes "edits:2:1: sync order\n")))))
 unfolding digits
 the_texts_of_faulty_edits = (refl, (refl, (refl, (refl, (refl, refl)))))
+
+a_faulty_mirrors_file_ends_with_3 :
+    (status_of (Mirrors (codes "mirrors") (mirroring.Line 1 (text.BadValue 17))) ≡ 3)
+    × ((mirrors_text (codes "mirrors") (mirroring.Line 1 (text.BadValue 17)) ≡ codes "mirrors:1:17: bad value\n")
+    × ((mirrors_text (codes "m") (mirroring.Line 2 (text.Syntax 1)) ≡ codes "m:2:1: syntax\n")
+    × ((mirrors_text (codes "m") (mirroring.Line 3 (text.UnknownName 4)) ≡ codes "m:3:4: unknown name\n")
+    × (mirrors_text (codes "m") (mirroring.Line 16 (text.Repeated 19)) ≡ codes "m:16:19: repeated\n"))))
+unfolding digits
+a_faulty_mirrors_file_ends_with_3 = (refl, (refl, (refl, (refl, refl))))
 
 -- ---- what is cut short
 

@@ -17,7 +17,7 @@ use Rattle.spec_script.specs.declared.fault.ScriptFault.{ScriptFault}
 use Rattle.spec_script.specs.declared.fault.ScriptFault.TheVariants as script
 use Rattle.spec_script.specs.Script.{with_line, with_lines, script_of}
 use Rattle.spec_run.specs.declared.quantity.Quantity.TheVariants.{Line, Edits, Syncs, Actions, TraceBytes, Frames}
-use Rattle.spec_run.specs.Verdict.{Files, Refusal, Text, Trace, Limit, command_in, script_in, file_in, refused_script, refused_trace, traces_after, traces_in, traces_opened, later_opened, sources_opened, files_opened, run_in, verdict}
+use Rattle.spec_run.specs.Verdict.{Files, Refusal, Text, Trace, Limit, command_in, script_in, file_in, refused_script, refused_trace, traces_after, traces_in, traces_opened, last_opened, later_opened, sources_opened, files_opened, run_in, verdict}
 
 -- 60 bytes from 00:00:00:00:00:01 to 00:00:00:00:00:02, of the type 0x88b5 for local experiments (IEEE 802)
 abbrev frame : Frame
@@ -82,7 +82,7 @@ said = codes "e" ∷ codes "o" ∷ codes "1=a" ∷ codes "2=" ∷ []
 the_traces_are_opened_after_the_edits_within_the_same_room :
     (a : Option (List ℕ)) → files_opened said (with_no_edits a)
     ≡ codes "e" ∷ traces_opened (with_no_edits a) 268435456 131072 (word 1 (codes "a") ∷ word 2 [] ∷ [])
-unfolding files_opened sources_opened later_opened command_in script_in digits_upto decimal_upto port_number port_word new_port port_words command_of command_line.command_in command_line.files_in clap_on_literals changes_to with_line with_lines script_of
+unfolding files_opened sources_opened later_opened last_opened command_in script_in digits_upto decimal_upto port_number port_word new_port port_words command_of command_line.command_in command_line.files_in clap_on_literals changes_to with_line with_lines script_of
 the_traces_are_opened_after_the_edits_within_the_same_room a = refl
 
 abbrev run_of : List (List ℕ) → Files → Option Run

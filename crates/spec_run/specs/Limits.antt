@@ -3,8 +3,9 @@ use Rattle.std.specs.Prelude.{ℕ, List, codes}
 use Rattle.spec_flow_text.specs.Actions.{most_actions}
 use Rattle.spec_script.specs.Script.{most_line_bytes, most_edits, most_syncs}
 use Rattle.spec_steps.specs.Steps.{most_steps}
+use Rattle.spec_mirrors.specs.Mirrors.{most_mirrors_bytes, most_mirrors}
 use Rattle.spec_run.specs.declared.quantity.Quantity.{Quantity}
-use Rattle.spec_run.specs.declared.quantity.Quantity.TheVariants.{EditsBytes, StepsBytes, Line, Edits, Syncs, Actions, Steps, Changes, TraceBytes, Frames}
+use Rattle.spec_run.specs.declared.quantity.Quantity.TheVariants.{EditsBytes, StepsBytes, MirrorsBytes, Line, Edits, Syncs, Actions, Steps, Mirrors, Changes, TraceBytes, Frames}
 
 -- 32 MiB
 abbrev pub most_edits_bytes : ℕ
@@ -27,11 +28,13 @@ most_frames = 131072
 abbrev pub limit_of : Quantity → ℕ
 limit_of EditsBytes = most_edits_bytes
 limit_of StepsBytes = most_steps_bytes
+limit_of MirrorsBytes = most_mirrors_bytes
 limit_of Line = most_line_bytes
 limit_of Edits = most_edits
 limit_of Syncs = most_syncs
 limit_of Actions = most_actions
 limit_of Steps = most_steps
+limit_of Mirrors = most_mirrors
 limit_of Changes = most_changes
 limit_of TraceBytes = most_trace_bytes
 limit_of Frames = most_frames
@@ -39,11 +42,13 @@ limit_of Frames = most_frames
 abbrev pub quantity_name : Quantity → List ℕ
 quantity_name EditsBytes = codes "edits-bytes"
 quantity_name StepsBytes = codes "steps-bytes"
+quantity_name MirrorsBytes = codes "mirrors-bytes"
 quantity_name Line = codes "line"
 quantity_name Edits = codes "edits"
 quantity_name Syncs = codes "syncs"
 quantity_name Actions = codes "actions"
 quantity_name Steps = codes "steps"
+quantity_name Mirrors = codes "mirrors"
 quantity_name Changes = codes "changes"
 quantity_name TraceBytes = codes "trace-bytes"
 quantity_name Frames = codes "frames"

@@ -11,13 +11,16 @@ use Rattle.spec_case.specs.Run.{Run, frame_at, is_nanos}
 use Rattle.spec_case.specs.Arrivals.{arrivals, in_order}
 use Rattle.spec_board.specs.Scheduled.{scheduled}
 use Rattle.spec_board.specs.Texts.{Journal, journals_text}
-use Rattle.spec_words.specs.Words.{Input, Files as FilesNamed, Made}
+use Rattle.spec_words.specs.Words.{Input, Files as Named, Made}
+use Rattle.spec_netflow.specs.Datagrams.{netflow_file}
+use Rattle.spec_mirrors.specs.Mirrors.{Mirror}
 use Rattle.spec_dumps.specs.declared.ran.Ran.{Ran}
 use Rattle.spec_dumps.specs.Rules.{rules_text}
 use Rattle.spec_dumps.specs.Megaflows.{megaflows_text}
 use Rattle.spec_dumps.specs.Summary.{summary}
 use Rattle.spec_exec.specs.Sent.{Piece, sent}
 use Rattle.spec_run.specs.Journals.{AreJournals, actions_for}
+use Rattle.spec_run.specs.Mirrored.{mirror_files}
 use Rattle.spec_run.specs.Verdict.{Files, Accepted, verdict}
 
 -- the pieces of an arrived frame that these actions send out at a port, with the frame's time
@@ -52,25 +55,38 @@ megaflows_file out run journals = (out ++ codes ".megaflows", megaflows_text run
 abbrev pub journal_file : List ℕ → List Journal → File
 journal_file out journals = (out ++ codes ".journal", journals_text journals)
 
+-- OUT.netflow, where the flows are written
+abbrev pub netflow_files : List ℕ → Bool → Run → List Journal → List File
+netflow_files out true run journals = netflow_file out run (actions_for run journals) ∷ []
+netflow_files out false run journals = []
+
+-- What is written of a run: the begin of the names of its files, whether the flows are, and the mirrors, of which the copies
+-- are.
+pub record Outlets : Type 0 where
+  pub out : List ℕ
+  pub netflow : Bool
+  pub mirrors : List Mirror
+
 -- the files of a run by its journals: one for each port, in the order of the words, then its rules, its megaflows and the
--- journals themselves
-abbrev pub files_of : List ℕ → Run → List Journal → List File
-files_of out run journals =
-    map (port_file out run journals) run.ports
-    ++ rules_file out run journals ∷ megaflows_file out run journals ∷ journal_file out journals ∷ []
+-- journals themselves, then its flows where they are written, and one for each mirror
+abbrev pub files_of : Outlets → Run → List Journal → List File
+files_of o run journals =
+    map (port_file o.out run journals) run.ports
+    ++ rules_file o.out run journals ∷ megaflows_file o.out run journals ∷ journal_file o.out journals
+    ∷ (netflow_files o.out o.netflow run journals ++ mirror_files o.out run journals o.mirrors)
 
--- the begin of the names of what is written, where something is: nothing is where a number makes what is read
-abbrev pub out_of : Input → Option (List ℕ)
-out_of (FilesNamed edits steps out ports) = Some out
-out_of (Made number) = None
+-- what is written, where something is: nothing is where a number makes what is read
+abbrev pub outlets_of : Input → List Mirror → Option Outlets
+outlets_of (Named f) mirrors = Some (record { out = f.out; netflow = f.netflow; mirrors = mirrors })
+outlets_of (Made number) mirrors = None
 
-abbrev pub output_of : Option (List ℕ) → Run → List Journal → List File
+abbrev pub output_of : Option Outlets → Run → List Journal → List File
 output_of None run journals = []
-output_of (Some out) run journals = files_of out run journals
+output_of (Some outlets) run journals = files_of outlets run journals
 
 -- whether steps are given
 abbrev pub has_steps : Input → Bool
-has_steps (FilesNamed edits steps out ports) = is_some steps
+has_steps (Named f) = is_some f.steps
 has_steps (Made number) = false
 
 -- what is told of given steps: how many they are, and how many of them were not met
@@ -87,7 +103,7 @@ pub record Decided (words : List (List ℕ)) (files : Files) : Type 0 where
 
 -- the files of such a run, and the summary that is printed
 abbrev pub files_by : {words : List (List ℕ)} {files : Files} → Decided words files → List File
-files_by d = output_of (out_of d.accepted.command.input) d.accepted.run d.journals
+files_by d = output_of (outlets_of d.accepted.command.input d.accepted.mirrors) d.accepted.run d.journals
 
 abbrev pub summary_by : {words : List (List ℕ)} {files : Files} → Decided words files → List ℕ
 summary_by d = summary d.accepted.run d.journals (ran_of (has_steps d.accepted.command.input) d.accepted.run)

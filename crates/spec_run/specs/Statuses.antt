@@ -12,10 +12,12 @@ use Rattle.spec_script.specs.declared.fault.ScriptFault.{ScriptFault}
 use Rattle.spec_script.specs.declared.fault.ScriptFault.TheVariants as script
 use Rattle.spec_steps.specs.declared.fault.StepsFault.{StepsFault}
 use Rattle.spec_steps.specs.declared.fault.StepsFault.TheVariants as given
+use Rattle.spec_mirrors.specs.declared.fault.MirrorFault.{MirrorFault}
+use Rattle.spec_mirrors.specs.declared.fault.MirrorFault.TheVariants as mirroring
 use Rattle.spec_run.specs.declared.quantity.Quantity.{Quantity}
-use Rattle.spec_run.specs.declared.quantity.Quantity.TheVariants.{Line, Edits, Syncs, Steps as StepCount}
+use Rattle.spec_run.specs.declared.quantity.Quantity.TheVariants.{Line, Edits, Syncs, Steps as StepCount, Mirrors as MirrorCount}
 use Rattle.spec_run.specs.Limits.{limit_of, quantity_name}
-use Rattle.spec_run.specs.Verdict.{Files, Refusal, Usage, Missing, Text, Steps, Trace, Limit, verdict}
+use Rattle.spec_run.specs.Verdict.{Files, Refusal, Usage, Missing, Text, Steps, Mirrors, Trace, Limit, verdict}
 
 -- all is done
 abbrev pub done_status : ℕ
@@ -25,7 +27,7 @@ done_status = 0
 abbrev pub usage_status : ℕ
 usage_status = 2
 
--- the file of edits or the steps file is wrong
+-- the file of edits, the steps file or the mirrors file is wrong
 abbrev pub text_status : ℕ
 text_status = 3
 
@@ -50,7 +52,8 @@ out_of_memory_status = 8
 
 -- which words the program takes
 abbrev pub usage_text : List ℕ
-usage_text = line_of (codes "usage: megaswitch [--workers N] [--steps FILE] [--flow-limit N] EDITS OUT PORT=FILE...")
+usage_text =
+    line_of (codes "usage: megaswitch [--workers N] [--steps FILE] [--flow-limit N] [--netflow] [--mirrors FILE] EDITS OUT PORT=FILE...")
 
 abbrev pub read_fault_text : List ℕ → List ℕ
 read_fault_text name = line_of (codes "read fault: " ++ name)
@@ -115,6 +118,12 @@ steps_text name given.LineTooLong = limit_text Line
 steps_text name given.TooManySteps = limit_text StepCount
 steps_text name given.OutOfMemory = out_of_memory_text
 
+abbrev pub mirrors_text : List ℕ → MirrorFault → List ℕ
+mirrors_text name (mirroring.Line line why) = place_text name line (column_of why) (line_reason why)
+mirrors_text name mirroring.LineTooLong = limit_text Line
+mirrors_text name mirroring.TooManyMirrors = limit_text MirrorCount
+mirrors_text name mirroring.OutOfMemory = out_of_memory_text
+
 abbrev pub trace_text : List ℕ → PcapFault → List ℕ
 trace_text name fault = name ++ line_of (codes ": " ++ reason fault)
 
@@ -126,6 +135,7 @@ status_of Usage = usage_status
 status_of (Missing name) = read_fault_status
 status_of (Text name fault) = text_status
 status_of (Steps name fault) = text_status
+status_of (Mirrors name fault) = text_status
 status_of (Trace name fault) = trace_status
 status_of (Limit q) = limit_status
 
@@ -135,6 +145,7 @@ text_of Usage = usage_text
 text_of (Missing name) = read_fault_text name
 text_of (Text name fault) = script_text name fault
 text_of (Steps name fault) = steps_text name fault
+text_of (Mirrors name fault) = mirrors_text name fault
 text_of (Trace name fault) = trace_text name fault
 text_of (Limit q) = limit_text q
 

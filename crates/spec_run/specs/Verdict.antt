@@ -1,6 +1,6 @@
 -- What becomes of a run before anything is written. The words come first, then the file of edits, then the steps file,
--- then the traces in the order of the words; the first input that is refused decides.
-use Rattle.std.specs.Prelude.{ℕ, ◌-◌, ◌==◌, nat_lt, false, if◌then◌else◌, List, [], ◌∷◌, ◌++◌, length, map, Option, Some, None, Result, Ok, Err, codes}
+-- then the mirrors file, then the traces in the order of the words; the first input that is refused decides.
+use Rattle.std.specs.Prelude.{ℕ, ◌-◌, nat_lt, false, if◌then◌else◌, List, [], ◌∷◌, ◌++◌, length, map, Option, Some, None, Result, Ok, Err, codes}
 use Rattle.std.specs.Option.{ok_or}
 use Rattle.spec_base.specs.Files.{File, lookup_or_empty}
 use Rattle.spec_pcap.specs.declared.fault.PcapFault.{PcapFault}
@@ -8,7 +8,7 @@ use Rattle.spec_pcap.specs.declared.fault.PcapFault.TheVariants.{TooManyFrames}
 use Rattle.spec_pcap.specs.Pcap.{Capture, capture_of}
 use Rattle.spec_case.specs.declared.run_step.RunStep.{RunStep}
 use Rattle.spec_case.specs.Run.{Run}
-use Rattle.spec_words.specs.Words.{PortWord, Input, Files as FilesNamed, Made, Command, command_of, has_trace}
+use Rattle.spec_words.specs.Words.{PortWord, Input, Files as Named, Made, Command, command_of, has_trace}
 use Rattle.spec_tables.specs.Changes.{changes_to}
 use Rattle.spec_flow_text.specs.declared.fault.TextFault.TheVariants as text
 use Rattle.spec_script.specs.declared.fault.ScriptFault.{ScriptFault}
@@ -17,9 +17,13 @@ use Rattle.spec_script.specs.Script.{Script, script_of}
 use Rattle.spec_steps.specs.declared.fault.StepsFault.{StepsFault}
 use Rattle.spec_steps.specs.declared.fault.StepsFault.TheVariants as given
 use Rattle.spec_steps.specs.Steps as steps_file
+use Rattle.spec_mirrors.specs.declared.fault.MirrorFault.{MirrorFault}
+use Rattle.spec_mirrors.specs.declared.fault.MirrorFault.TheVariants as mirroring
+use Rattle.spec_mirrors.specs.Mirrors as mirrors_file
+use Rattle.spec_mirrors.specs.Mirrors.{Mirror, most_mirrors_bytes}
 use Rattle.spec_made.specs.Made.{edits_made, trace_made}
 use Rattle.spec_run.specs.declared.quantity.Quantity.{Quantity}
-use Rattle.spec_run.specs.declared.quantity.Quantity.TheVariants.{EditsBytes, StepsBytes, Line, Edits, Syncs, Actions, Steps as StepCount, Changes, TraceBytes, Frames}
+use Rattle.spec_run.specs.declared.quantity.Quantity.TheVariants.{EditsBytes, StepsBytes, MirrorsBytes, Line, Edits, Syncs, Actions, Steps as StepCount, Mirrors as MirrorCount, Changes, TraceBytes, Frames}
 use Rattle.spec_run.specs.Limits.{most_edits_bytes, most_steps_bytes, most_changes, most_trace_bytes, most_frames}
 
 -- the bytes of a file by its name, where there is one
@@ -27,19 +31,26 @@ abbrev pub Files : Type 0
 Files = List ℕ → Option (List ℕ)
 
 -- Why there is no run: words that the program doesn't take, a file that isn't there, the file of edits by its name and what
--- is wrong with it, the steps file and a trace likewise, or a quantity that is above its limit.
+-- is wrong with it, the steps file, the mirrors file and a trace likewise, or a quantity that is above its limit.
 pub data Refusal : Type 0 where
   Usage : Refusal
   Missing : List ℕ → Refusal
   Text : List ℕ → ScriptFault → Refusal
   Steps : List ℕ → StepsFault → Refusal
+  Mirrors : List ℕ → MirrorFault → Refusal
   Trace : List ℕ → PcapFault → Refusal
   Limit : Quantity → Refusal
 
--- a command, and the run that what it reads gives
+-- a run, and its mirrors, which are no part of it: no frame is decided otherwise for them
+pub record MirroredRun : Type 0 where
+  pub run : Run
+  pub mirrors : List Mirror
+
+-- a command, and what is given by what it reads
 pub record Accepted : Type 0 where
   pub command : Command
   pub run : Run
+  pub mirrors : List Mirror
 
 infixl 10 ◌>>=◌
 abbrev pub ◌>>=◌ : {A B : Type 0} → Result A Refusal → (A → Result B Refusal) → Result B Refusal
@@ -53,10 +64,12 @@ command_in words = ok_or (command_of words) Usage
 
 -- ---- what is read
 
--- the names of what is read: the file of edits, the steps file where there is one, and the traces of the ports
+-- the names of what is read: the file of edits, the steps file and the mirrors file where there are such, and the traces of
+-- the ports
 pub record Sources : Type 0 where
   pub edits : List ℕ
   pub steps : Option (List ℕ)
+  pub mirrors : Option (List ℕ)
   pub ports : List PortWord
 
 -- What a number makes is read as if it were files: one of edits, and a trace for each port, which the port's number names.
@@ -67,6 +80,7 @@ abbrev pub made_sources : Sources
 made_sources = record {
   edits = codes "edits";
   steps = None;
+  mirrors = None;
   ports = made_trace 1 (codes "1") ∷ made_trace 2 (codes "2") ∷ made_trace 3 (codes "3") ∷ made_trace 4 (codes "4") ∷ [];
 }
 
@@ -75,12 +89,12 @@ made_list number =
     (made_sources.edits, edits_made number) ∷ map (λ (w : PortWord). (w.file, trace_made number w.port)) made_sources.ports
 
 abbrev pub sources_of : Input → Sources
-sources_of (FilesNamed edits steps out ports) = record { edits = edits; steps = steps; ports = ports }
+sources_of (Named f) = record { edits = f.edits; steps = f.steps; mirrors = f.mirrors; ports = f.ports }
 sources_of (Made number) = made_sources
 
 -- where it is read
 abbrev pub files_for : Files → Input → Files
-files_for files (FilesNamed edits steps out ports) = files
+files_for files (Named f) = files
 files_for files (Made number) = lookup_or_empty (made_list number)
 
 -- the bytes of a file that has to be there
@@ -134,6 +148,29 @@ steps_within ports name bytes =
 abbrev pub steps_in : Files → List ℕ → Option (List ℕ) → Result (List RunStep) Refusal
 steps_in files ports None = Ok []
 steps_in files ports (Some name) = bytes_in files name >>= steps_within ports name
+
+-- ---- the mirrors
+
+-- a mirrors file with this fault is refused
+abbrev pub refused_mirrors : List ℕ → MirrorFault → Refusal
+refused_mirrors name mirroring.LineTooLong = Limit Line
+refused_mirrors name mirroring.TooManyMirrors = Limit MirrorCount
+refused_mirrors name fault = Mirrors name fault
+
+abbrev pub mirrors_or_refusal : List ℕ → Result (List Mirror) MirrorFault → Result (List Mirror) Refusal
+mirrors_or_refusal name (Ok mirrors) = Ok mirrors
+mirrors_or_refusal name (Err fault) = Err (refused_mirrors name fault)
+
+-- a file of so many bytes at most, for a switch of these ports
+abbrev pub mirrors_within : List ℕ → List ℕ → List ℕ → Result (List Mirror) Refusal
+mirrors_within ports name bytes =
+    if nat_lt most_mirrors_bytes (length bytes) then Err (Limit MirrorsBytes)
+    else mirrors_or_refusal name (mirrors_file.mirrors_in ports bytes)
+
+-- there is no mirror where there is no file
+abbrev pub mirrors_in : Files → List ℕ → Option (List ℕ) → Result (List Mirror) Refusal
+mirrors_in files ports None = Ok []
+mirrors_in files ports (Some name) = bytes_in files name >>= mirrors_within ports name
 
 -- ---- the traces
 
@@ -193,19 +230,20 @@ run_of flow_limit sources script steps traces = record {
   steps = steps;
 }
 
--- the run that files give, where each port has at most so many megaflows
-unfoldable pub run_in : Files → ℕ → Sources → Result Run Refusal
+-- the run that files give, where each port has at most so many megaflows, and its mirrors
+unfoldable pub run_in : Files → ℕ → Sources → Result MirroredRun Refusal
 run_in files flow_limit sources =
     script_in files sources.edits
     >>= (λ script. steps_in files (ports_said sources.ports) sources.steps
-    >>= (λ steps. traces_in files sources.ports
-    >>= (λ traces. Ok (run_of flow_limit sources script steps traces))))
+    >>= (λ steps. mirrors_in files (ports_said sources.ports) sources.mirrors
+    >>= (λ mirrors. traces_in files sources.ports
+    >>= (λ traces. Ok (record { run = run_of flow_limit sources script steps traces; mirrors = mirrors })))))
 
 unfoldable pub verdict : List (List ℕ) → Files → Result Accepted Refusal
 verdict words files =
     command_in words
     >>= (λ command. run_in (files_for files command.input) command.flow_limit (sources_of command.input)
-    >>= (λ run. Ok (record { command = command; run = run })))
+    >>= (λ given. Ok (record { command = command; run = given.run; mirrors = given.mirrors })))
 
 -- ---- what is opened
 
@@ -214,10 +252,10 @@ abbrev pub if_passed : {A : Type 0} → Result A Refusal → (A → List (List �
 if_passed (Ok a) names = names a
 if_passed (Err e) names = []
 
--- the name of the steps file, where there is one
-abbrev pub steps_names : Option (List ℕ) → List (List ℕ)
-steps_names None = []
-steps_names (Some name) = name ∷ []
+-- the name of a file that may be left out, where there is one
+abbrev pub given_names : Option (List ℕ) → List (List ℕ)
+given_names None = []
+given_names (Some name) = name ∷ []
 
 -- the name of a port's trace, if it has one
 abbrev pub trace_names : PortWord → List (List ℕ)
@@ -230,18 +268,23 @@ traces_opened files bytes_left frames_left (w ∷ ws) =
     trace_names w
     ++ if_passed (trace_in files bytes_left frames_left w) (λ t. traces_opened files (bytes_left - t.size) (frames_left - length t.capture.frames) ws)
 
--- the steps file and the traces
+-- the mirrors file and the traces
+unfoldable pub last_opened : Files → Sources → List (List ℕ)
+last_opened files s =
+    given_names s.mirrors
+    ++ if_passed (mirrors_in files (ports_said s.ports) s.mirrors) (λ _. traces_opened files most_trace_bytes most_frames s.ports)
+
+-- the steps file, and what follows
 unfoldable pub later_opened : Files → Sources → List (List ℕ)
 later_opened files s =
-    steps_names s.steps
-    ++ if_passed (steps_in files (ports_said s.ports) s.steps) (λ _. traces_opened files most_trace_bytes most_frames s.ports)
+    given_names s.steps ++ if_passed (steps_in files (ports_said s.ports) s.steps) (λ _. last_opened files s)
 
 unfoldable pub sources_opened : Files → Sources → List (List ℕ)
 sources_opened files s = s.edits ∷ if_passed (script_in files s.edits) (λ _. later_opened files s)
 
 -- nothing is opened where a number makes what is read
 abbrev pub opened_for : Files → Input → List (List ℕ)
-opened_for files (FilesNamed edits steps out ports) = sources_opened files (sources_of (FilesNamed edits steps out ports))
+opened_for files (Named f) = sources_opened files (sources_of (Named f))
 opened_for files (Made number) = []
 
 -- the files that are opened in reading, each only where none before it is refused

@@ -4,6 +4,7 @@
 //! - `Verdict`: the first refusal in the order of reading, or the run that the words and the files give.
 //! - `Journals`: the journals of a run: those of its schedule, each of them legal and complete, and each frame decided
 //!   once, as a plain scan of one version of the tables decides it, within its window.
+//! - `Mirrored`: what the mirrors of a run copy, and the files of the copies.
 //! - `Outputs`: the files that a run writes, by name and byte, and the summary that it prints.
 //! - `CutShort`: how far they are written and printed where writing ends early.
 //! - `Statuses`: the exit statuses, the texts that go with them, and when a text is printed whole.

@@ -5,7 +5,9 @@ pub enum Quantity {
     EditsBytes,
     /// The bytes of the steps file.
     StepsBytes,
-    /// The bytes of a line of the file of edits or of the steps file, without its line feed.
+    /// The bytes of the mirrors file.
+    MirrorsBytes,
+    /// The bytes of a line of the file of edits, the steps file or the mirrors file, without its line feed.
     Line,
     /// The edits of the file.
     Edits,
@@ -15,6 +17,8 @@ pub enum Quantity {
     Actions,
     /// The steps of the steps file.
     Steps,
+    /// The mirrors of the mirrors file.
+    Mirrors,
     /// The rules that all edits together add, give actions to and remove.
     Changes,
     /// The bytes of all traces.

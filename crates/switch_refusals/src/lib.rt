@@ -3,8 +3,9 @@
 //! # What?
 //!
 //! Words and files can be refused, files can't be read or written, and memory may run out. `InputRefusal` is why
-//! nothing could be read; for the file of edits and the steps file it has the line and the column at which they are wrong. `spec_run` has a
-//! status and a text for each refusal; this crate gives the one and prints the other, to a sink.
+//! nothing could be read; for the file of edits, the steps file and the mirrors file it has the line and the column at which
+//! they are wrong. `spec_run` has a status and a text for each refusal; this crate gives the one and prints the other, to a
+//! sink.
 //!
 //! # What is promised
 //!
@@ -27,7 +28,10 @@ mod refusal;
 mod say;
 mod status;
 
-pub use limits::{MOST_CHANGES, MOST_EDITS_BYTES, MOST_FRAMES, MOST_STEPS_BYTES, MOST_TRACE_BYTES};
+pub use limits::{
+    MOST_CHANGES, MOST_EDITS_BYTES, MOST_FRAMES, MOST_MIRRORS_BYTES, MOST_STEPS_BYTES,
+    MOST_TRACE_BYTES,
+};
 pub use refusal::{InputFault, InputRefusal};
 pub use say::{say_input_refusal, say_out_of_memory, say_pieces, say_write_fault};
 pub use status::{

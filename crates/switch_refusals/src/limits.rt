@@ -10,7 +10,10 @@ pub const MOST_EDITS_BYTES: usize = 33_554_432;
 /// The most bytes of the steps file: 4 MiB.
 pub const MOST_STEPS_BYTES: usize = 4_194_304;
 
-/// The most bytes of a line of the file of edits or of the steps file, without its line feed.
+/// The most bytes of the mirrors file: 64 KiB.
+pub const MOST_MIRRORS_BYTES: usize = 65_536;
+
+/// The most bytes of a line of the file of edits, the steps file or the mirrors file, without its line feed.
 const MOST_LINE_BYTES: usize = 4_096;
 
 /// The most edits of their file.
@@ -24,6 +27,9 @@ const MOST_ACTIONS: usize = 64;
 
 /// The most steps of their file.
 const MOST_STEPS: usize = 131_072;
+
+/// The most mirrors of their file.
+const MOST_MIRRORS: usize = 16;
 
 /// The most rules that all edits together add, give actions to and remove.
 pub const MOST_CHANGES: u64 = 1_048_576;
@@ -41,11 +47,13 @@ pub(crate) fn limit_of(quantity: Quantity) -> usize
     match quantity {
         Quantity::EditsBytes => MOST_EDITS_BYTES,
         Quantity::StepsBytes => MOST_STEPS_BYTES,
+        Quantity::MirrorsBytes => MOST_MIRRORS_BYTES,
         Quantity::Line => MOST_LINE_BYTES,
         Quantity::Edits => MOST_EDITS,
         Quantity::Syncs => MOST_SYNCS,
         Quantity::Actions => MOST_ACTIONS,
         Quantity::Steps => MOST_STEPS,
+        Quantity::Mirrors => MOST_MIRRORS,
         Quantity::Changes => MOST_CHANGES as usize,
         Quantity::TraceBytes => MOST_TRACE_BYTES,
         Quantity::Frames => MOST_FRAMES,
@@ -59,11 +67,13 @@ pub(crate) fn quantity_name(quantity: Quantity) -> &'static str
     match quantity {
         Quantity::EditsBytes => "edits-bytes",
         Quantity::StepsBytes => "steps-bytes",
+        Quantity::MirrorsBytes => "mirrors-bytes",
         Quantity::Line => "line",
         Quantity::Edits => "edits",
         Quantity::Syncs => "syncs",
         Quantity::Actions => "actions",
         Quantity::Steps => "steps",
+        Quantity::Mirrors => "mirrors",
         Quantity::Changes => "changes",
         Quantity::TraceBytes => "trace-bytes",
         Quantity::Frames => "frames",

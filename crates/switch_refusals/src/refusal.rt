@@ -1,6 +1,7 @@
 ghost use Rattle.std.specs.Prelude.{◌≡◌};
 ghost use Rattle.switch_refusals.specs.declared.refusal.InputRefusal.TheVariants.{OutOfMemory};
 
+use spec_mirrors::MirrorFault;
 use spec_pcap::PcapFault;
 use spec_run::Quantity;
 use spec_script::ScriptFault;
@@ -16,6 +17,8 @@ pub enum InputFault<'a> {
     Text { name: &'a str, fault: ScriptFault },
     /// The steps file has a line that is wrong.
     Steps { name: &'a str, fault: StepsFault },
+    /// The mirrors file has a line that is wrong.
+    Mirrors { name: &'a str, fault: MirrorFault },
     /// A trace is no capture file that is read.
     Trace { name: &'a str, fault: PcapFault },
     /// A quantity is above its limit.

@@ -1,7 +1,7 @@
 //! The texts of refusals. They are printed piece by piece, so that none takes memory.
 ghost use Rattle.std.specs.Prelude.{◌≡◌, ◌++◌, IsTrue, codes};
 ghost use Rattle.std.specs.Fmt.{decimal};
-ghost use Rattle.spec_run.specs.Statuses.{Prints, line_reason, column_of, place_text, script_text, steps_text, trace_text, limit_text, text_of as refusal_text, usage_text, write_fault_text, out_of_memory_text};
+ghost use Rattle.spec_run.specs.Statuses.{Prints, line_reason, column_of, place_text, script_text, steps_text, mirrors_text, trace_text, limit_text, text_of as refusal_text, usage_text, write_fault_text, out_of_memory_text};
 ghost use Rattle.switch_refusals.specs.Refused.{fault_view};
 ghost use Rattle.switch_refusals.specs.Pieces.{joined};
 ghost use Rattle.switch_refusals.specs.Texts.{input_text};
@@ -11,6 +11,7 @@ use crate::refusal::{InputFault, InputRefusal};
 use edge_io::{Sink, say_all};
 use itoa::Buffer;
 use spec_flow_text::TextFault;
+use spec_mirrors::MirrorFault;
 use spec_pcap::PcapFault;
 use spec_run::Quantity;
 use spec_script::ScriptFault;
@@ -174,6 +175,18 @@ fn say_steps<K: Sink>(say: &mut K, name: &str, fault: StepsFault)
     }
 }
 
+fn say_mirrors<K: Sink>(say: &mut K, name: &str, fault: MirrorFault)
+    ensures { IsTrue K.tells → Prints K.needs_memory (K.faults say.old) (K.faults say.new) (K.written say.old)
+        (K.written say.new) (mirrors_text name.now fault) }
+{
+    match fault {
+        MirrorFault::Line { line, why } => say_line(say, name, line, why),
+        MirrorFault::LineTooLong => say_limit(say, Quantity::Line),
+        MirrorFault::TooManyMirrors => say_limit(say, Quantity::Mirrors),
+        MirrorFault::OutOfMemory => say_out_of_memory(say),
+    }
+}
+
 // Prints which words the program takes.
 fn say_usage<K: Sink>(say: &mut K)
     ensures { IsTrue K.tells → Prints K.needs_memory (K.faults say.old) (K.faults say.new)
@@ -181,7 +194,7 @@ fn say_usage<K: Sink>(say: &mut K)
 {
     let pieces = [
         "usage: megaswitch [--workers N] [--steps FILE] [--flow-limit N] ",
-        "EDITS OUT PORT=FILE...\n",
+        "[--netflow] [--mirrors FILE] EDITS OUT PORT=FILE...\n",
     ];
     say_pieces(say, &pieces);
 }
@@ -194,6 +207,7 @@ fn say_fault<K: Sink>(say: &mut K, fault: &InputFault<'_>)
         InputFault::Usage => say_usage(say),
         InputFault::Text { name, fault } => say_script(say, name, *fault),
         InputFault::Steps { name, fault } => say_steps(say, name, *fault),
+        InputFault::Mirrors { name, fault } => say_mirrors(say, name, *fault),
         InputFault::Trace { name, fault } => say_trace(say, name, *fault),
         InputFault::Limit(quantity) => say_limit(say, *quantity),
     }

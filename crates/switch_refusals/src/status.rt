@@ -10,7 +10,7 @@ pub const DONE: u8 = 0;
 /// The words are none that the program takes.
 pub const USAGE: u8 = 2;
 
-/// The file of edits or the steps file is wrong.
+/// The file of edits, the steps file or the mirrors file is wrong.
 pub const TEXT: u8 = 3;
 
 /// A trace is no capture file that is read.
@@ -34,7 +34,9 @@ pub fn input_status(refusal: &InputRefusal<'_>) -> u8
 {
     match refusal {
         InputRefusal::Input(InputFault::Usage) => USAGE,
-        InputRefusal::Input(InputFault::Text { .. } | InputFault::Steps { .. }) => TEXT,
+        InputRefusal::Input(
+            InputFault::Text { .. } | InputFault::Steps { .. } | InputFault::Mirrors { .. },
+        ) => TEXT,
         InputRefusal::Input(InputFault::Trace { .. }) => TRACE,
         InputRefusal::Input(InputFault::Limit(_)) => LIMIT,
         InputRefusal::ReadFault { .. } => READ_FAULT,
