@@ -1,0 +1,2 @@
+mod ItemSteps
+mod LineTexts
