@@ -1,4 +1,6 @@
 pub mod Prefixes
 mod Sends
 mod Written
+mod First
 mod Filters
+pub mod Unsent

@@ -12,6 +12,9 @@
 //! in. On a shelf that tells its bytes, a refused call leaves a prefix of that file after the files that were there
 //! before, or nothing of it.
 //!
+//! `send_first` writes a frame once, as it first goes out at one of some ports, or nothing: what else is written of frames,
+//! as the copies of mirrors, is made of it.
+//!
 //! # How
 //!
 //! The arrivals are there once for all ports, and so are their *filters*: a number for each, with a bit for each port
@@ -29,9 +32,11 @@
 //! files are written for all ports.
 #![tactic(auto)]
 
+mod first_sent;
 mod port_file;
 mod port_filter;
 mod sending;
 
+pub use first_sent::send_first;
 pub use port_file::write_port;
 pub use port_filter::{PortFilter, filters_of};

@@ -1,5 +1,5 @@
 //! Which ports actions may send to, told in a number, so that a port passes over the frames of others quickly.
-ghost use Rattle.std.specs.Prelude.{◌≡◌, ◌%◌, ℕ, false, IfOk};
+ghost use Rattle.std.specs.Prelude.{◌≡◌, ◌%◌, ℕ, false, All, IfOk};
 ghost use Rattle.std.specs.Int.{bit_at};
 ghost use Rattle.spec_case.specs.Arrivals.{in_order, arrivals as came_in};
 ghost use Rattle.egress_capture.specs.Sending.{sends_to};
@@ -51,6 +51,18 @@ impl PortFilter {
         ensures { result ≡ false → bit_at self.bits (bit_of port) ≡ 0 }
     {
         self.bits >> (port % BITS) & 1 == 1
+    }
+
+    /// Whether the bit of one of these ports is there.
+    pub fn may_send_to_one(self, ports: &[u16]) -> bool
+        ensures { result ≡ false → All (λ port. bit_at self.bits (bit_of port) ≡ 0) ports.now }
+    {
+        'ports: for port in ports {
+            if self.may_send_to(*port) {
+                return true;
+            }
+        }
+        false
     }
 }
 
