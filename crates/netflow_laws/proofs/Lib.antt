@@ -1,0 +1,5 @@
+mod EachPacket
+mod FlowSums
+mod ReadBack
+pub mod IcmpPorts
+mod RunWidths

@@ -1,0 +1,5 @@
+mod Packets
+mod NewestFlows
+mod OpenFlows
+mod DatagramWalk
+mod InDatagrams

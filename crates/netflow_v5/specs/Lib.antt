@@ -1,0 +1,4 @@
+pub mod Views
+pub mod Newest
+pub mod Joined
+pub mod Reading
