@@ -1,4 +1,4 @@
-//! The command `megaswitch [--flow-limit N] EDITS OUT PORT=FILE PORT=..`.
+//! The command `megaswitch [--workers N] [--steps FILE] [--flow-limit N] [--netflow] [--mirrors FILE] EDITS OUT PORT=FILE...`.
 //!
 //! All that it does is done by `run_switch`, whose contract says what a run reads, what it writes and which status it
 //! ends with, over any files and any standard output that keep to the traits of `edge_io`. This file hands it the

@@ -6,7 +6,7 @@ use Rattle.spec_board.specs.Texts.{Journal}
 use Rattle.spec_dumps.specs.Summary.{summary}
 use Rattle.spec_run.specs.Verdict.{Accepted, verdict, files_opened}
 use Rattle.spec_run.specs.Journals.{AreJournals}
-use Rattle.spec_run.specs.Outputs.{Decided, out_of, output_of, has_steps, ran_of}
+use Rattle.spec_run.specs.Outputs.{Decided, outlets_of, output_of, has_steps, ran_of}
 use Rattle.spec_run.specs.CutShort.{IsCutRun}
 use Rattle.edge_io.specs.declared.outside.Shelf as shelf
 use Rattle.edge_io.specs.declared.outside.Sink as sink
@@ -33,7 +33,7 @@ module _ {S K : Type 0} (g : shelf.Ghosts S) (h : sink.Ghosts K) (words : List (
     (more : IsTrue g.tells → (g.told new).opened ≡ (g.told mid).opened)
     (stood : g.counts mid ≡ g.counts old) where
   abbrev files : List Journal → List File
-  files journals = output_of (out_of accepted.command.input) accepted.run journals
+  files journals = output_of (outlets_of accepted.command.input accepted.mirrors) accepted.run journals
 
   abbrev text : List Journal → List ℕ
   text journals = summary accepted.run journals (ran_of (has_steps accepted.command.input) accepted.run)
@@ -47,7 +47,7 @@ module _ {S K : Type 0} (g : shelf.Ghosts S) (h : sink.Ghosts K) (words : List (
   opens : IsTrue g.tells → HasOpened (g.told old) (g.told new) (files_opened words (g.told old).holds)
   opens t = more t ∙ opened t
 
-  pub all_done : ByJournals accepted.command.workers accepted.run (λ journals. PutsWhole g h mid new said saying (output_of (out_of accepted.command.input) accepted.run journals) (summary accepted.run journals (ran_of (has_steps accepted.command.input) accepted.run)))
+  pub all_done : ByJournals accepted.command.workers accepted.run (λ journals. PutsWhole g h mid new said saying (output_of (outlets_of accepted.command.input accepted.mirrors) accepted.run journals) (summary accepted.run journals (ran_of (has_steps accepted.command.input) accepted.run)))
       → IsAllDone g h words old new said saying
   all_done by = record {
     run = λ t. record {
@@ -116,7 +116,7 @@ module _ {S K : Type 0} (g : shelf.Ghosts S) (h : sink.Ghosts K) (words : List (
 
   pub left : (r : OutputRefusal)
       → (r ≡ Files OutOfMemory) × IsUntouched g h mid new said saying
-      ⊎ ByJournals accepted.command.workers accepted.run (λ journals. CutsOut g h mid new said saying (output_of (out_of accepted.command.input) accepted.run journals) (summary accepted.run journals (ran_of (has_steps accepted.command.input) accepted.run)) r)
+      ⊎ ByJournals accepted.command.workers accepted.run (λ journals. CutsOut g h mid new said saying (output_of (outlets_of accepted.command.input accepted.mirrors) accepted.run journals) (summary accepted.run journals (ran_of (has_steps accepted.command.input) accepted.run)) r)
       → Leaves g h words old new said saying (Output r)
   left r (inl none) = subst (λ e. Leaves g h words old new said saying (Output e)) (sym (none.0)) (untouched (none.1))
   left r (inr by) = by_journals r by

@@ -1,7 +1,8 @@
 //! The switch over traces: what the program does, as one call.
 //!
-//! `run_switch` reads a file of edits, perhaps a steps file, and the traces of its ports, decides every frame, writes a
-//! capture file for each port and dumps of what stands then, and prints a summary. The outside is a *shelf* of files and
+//! `run_switch` reads a file of edits, perhaps a steps file and a mirrors file, and the traces of its ports, decides every frame,
+//! writes a capture file for each port, dumps of what stands then, and where they are asked for the flows of the frames and
+//! what mirrors copy of them, and prints a summary. The outside is a *shelf* of files and
 //! a *sink* for text, which the caller hands in: real ones in the program, and in tests ones in memory that fail when they
 //! are told to.
 //!
@@ -12,8 +13,9 @@
 //! where the shelf, or the sink, tells them.
 //!
 //! - Where all is done, the verdict accepts the words and the files, and the files written are exactly those of the
-//!   run: one for each port, in the order of the words, and after them its rules, its megaflows and its journals. Exactly
-//!   its summary is printed. Where a number makes what is read, the summary is all.
+//!   run: one for each port, in the order of the words, after them its rules, its megaflows and its journals, then its flows,
+//!   where they are asked for, and one for each mirror. Exactly its summary is printed. Where a number makes what is read,
+//!   the summary is all.
 //! - There is a journal for each port. Without workers they are those of the run's schedule: the given steps that are met, and
 //!   then what is left. With workers they are those that threads made. Each is legal and complete: each step is one that may be taken where it stands and has the result that it has there,
 //!   exactly one of them decides each frame of the port's trace, and at the end a sweep of the last version is completed.
@@ -23,12 +25,16 @@
 //!   and frames, it is the last of the frame's block, with any number of workers.
 //! - The bytes of a port's file are those of the frames that these decisions send there, in the order of time, ingress
 //!   port and place.
+//! - The flows are those of the IPv4 packets that came in, with the first port to which these decisions send each flow's first
+//!   packet. A mirror has of each frame, in the same order, the frame as it came in, or else the first of the bytes that the
+//!   decision sends to one of its ports, or nothing: at most one copy. Neither is a part of the run, so that no journal and no
+//!   decision is another for them.
 //! - Every other status has its cause. An input is refused as the verdict refuses it. A fault in reading is told only
 //!   where calls of reading failed, and one in writing only where exactly one call of writing, or of printing the summary,
 //!   did; with every other status the counts of the shelf stand. So no fault is passed over, and none is told where no
 //!   call failed. That memory ran out is no part of the proof.
-//! - Files are opened only to read the edits, the steps and then the traces, each once, and only where none before it is
-//!   refused.
+//! - Files are opened only to read the edits, the steps, the mirrors and then the traces, each once, and only where none before
+//!   it is refused.
 //! - Nothing is written before the run is accepted. Where writing fails or memory runs out, the files before are whole,
 //!   one has a prefix of its bytes, and none after it is written.
 //! - The text of the status is printed, and nothing else: all of it where the sink needs no memory and didn't fail, and

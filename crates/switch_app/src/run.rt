@@ -6,14 +6,15 @@ ghost use Rattle.spec_steps.specs.Steps.{most_steps};
 ghost use Rattle.spec_dumps.specs.Summary.{summary};
 ghost use Rattle.spec_run.specs.Verdict.{verdict};
 ghost use Rattle.spec_run.specs.Journals.{AreJournals};
-ghost use Rattle.spec_run.specs.Outputs.{out_of, output_of, has_steps, ran_of};
+ghost use Rattle.spec_run.specs.Outputs.{outlets_of, output_of, has_steps, ran_of};
 ghost use Rattle.spec_run.specs.Statuses.{done_status, read_fault_status, out_of_memory_status, status_of as refusal_status};
 ghost use Rattle.edge_io.specs.declared.outside.InUse.TheVariants.{Nothing};
 ghost use Rattle.command_words.specs.CommandViews.{texts, input_view, HasWorkers};
 ghost use Rattle.switch_input.specs.InputViews.{run_view, IsWithinLimits};
 ghost use Rattle.switch_output.specs.declared.refusal.OutputRefusal.TheVariants.{Files};
 ghost use Rattle.switch_output.specs.declared.refusal.WriteRefusal.TheVariants.{OutOfMemory};
-ghost use Rattle.switch_output.specs.Put.{name_in, PutsWhole, CutsOut};
+ghost use Rattle.switch_output.specs.OutletViews.{outlets_in};
+ghost use Rattle.switch_output.specs.Put.{PutsWhole, CutsOut};
 ghost use Rattle.switch_app.specs.Ends.{Ends, IsAllDone};
 ghost use Rattle.switch_app.specs.RunViews.{told_if, ByJournals, IsUntouched, Leaves};
 
@@ -31,17 +32,21 @@ use std::marker::Brand;
 use std::sync::Wait;
 use std::thread::Threads;
 use step_runner::Finished;
-use switch_input::{Command, Input, Inputs, read_inputs};
-use switch_output::{OutputRefusal, put_out};
+use switch_input::{Command, Input, Inputs, Mirror, read_inputs};
+use switch_output::{Outlets, OutputRefusal, put_out};
 use switch_refusals::DONE;
 use worker_phase::decide_by_workers;
 
-// The begin of the names of what is written, where something is.
-fn out_of<'a>(input: &Input<'a>) -> Option<&'a str>
-    ensures { name_in result ≡ out_of (input_view input.now) }
+// What is written, where something is.
+fn outlets_of<'m>(input: &'m Input<'_>, mirrors: &'m [Mirror]) -> Option<Outlets<'m>>
+    ensures { outlets_in result ≡ outlets_of (input_view input.now) mirrors.now }
 {
     match input {
-        Input::Files { out, .. } => Some(*out),
+        Input::Files(files) => Some(Outlets {
+            out: files.out,
+            netflow: files.netflow,
+            mirrors,
+        }),
         Input::Made { .. } => None,
     }
 }
@@ -51,7 +56,7 @@ fn told_of(input: &Input<'_>, ran: Ran) -> Option<Ran>
     ensures { result ≡ told_if (has_steps (input_view input.now)) ran }
 {
     match input {
-        Input::Files { steps, .. } => steps.map(|_| ran),
+        Input::Files(files) => files.steps.map(|_| ran),
         Input::Made { .. } => None,
     }
 }
@@ -125,14 +130,14 @@ fn decide_and_tell<
     ensures ok { let input = input_view inputs.entry.command.input in
         OnOk result (ByJournals inputs.entry.command.workers C.run (λ journals.
         PutsWhole S.Shelf K.Sink shelf.old shelf.new say.old say.new
-        (output_of (out_of input) C.run journals)
+        (output_of (outlets_of input inputs.entry.mirrors.items) C.run journals)
         (summary C.run journals (ran_of (has_steps input) C.run)))) }
     ensures err { let input = input_view inputs.entry.command.input in
         IfErr result (λ r. (r ≡ Files OutOfMemory)
         × IsUntouched S.Shelf K.Sink shelf.old shelf.new say.old say.new
         ⊎ ByJournals inputs.entry.command.workers C.run (λ journals.
         CutsOut S.Shelf K.Sink shelf.old shelf.new say.old say.new
-        (output_of (out_of input) C.run journals)
+        (output_of (outlets_of input inputs.entry.mirrors.items) C.run journals)
         (summary C.run journals (ran_of (has_steps input) C.run)) r)) }
     ensures opened { IsTrue S.tells → (S.told shelf.new).opened ≡ (S.told shelf.old).opened }
 {
@@ -142,13 +147,14 @@ fn decide_and_tell<
         script,
         rules,
         steps,
+        mirrors,
         traces,
     } = inputs;
     let edits = RunEdits::<C>::new(script.edits);
     let run = RunData::<C>::new(alloc, ports, edits.count(), script.syncs, traces)?;
     let (finished, told) = decide(rt, alloc, &run, &edits, &command, &steps, gate)?;
-    let out = out_of(&command.input);
-    put_out(alloc, shelf, say, out, &run, &rules, &finished, told)
+    let outlets = outlets_of(&command.input, &mirrors);
+    put_out(alloc, shelf, say, outlets, &run, &rules, &finished, told)
 }
 
 fn run<'a, R: Threads + Wait + Sync, S: Shelf, K: Sink, G: Gate + Sync>(
@@ -191,11 +197,12 @@ fn end<R: Threads + Wait + Sync, S: Shelf, K: Sink, G: Gate + Sync>(
     }
 }
 
-/// Runs the switch: reads what the words name, decides every frame once, writes a file for each port and the dumps of the
-/// run, and prints its summary.
+/// Runs the switch: reads what the words name, decides every frame once, writes a file for each port, the dumps of the run
+/// and what is asked for beside them, and prints its summary.
 ///
 /// The words are those after the program's name:
-/// `[--workers N] [--steps FILE] [--flow-limit N] EDITS OUT PORT=FILE..`, or `--generate N [--workers N] [--flow-limit N]`.
+/// `[--workers N] [--steps FILE] [--flow-limit N] [--netflow] [--mirrors FILE] EDITS OUT PORT=FILE..`, or
+/// `--generate N [--workers N] [--flow-limit N]`.
 /// Each port may have a trace; where nothing stands after its `=` no frame comes in there. A port keeps at most as many
 /// megaflows as the flow limit says, from 1 to 65,536, and 8,192 where none is given. With 1 to 16 workers threads decide
 /// the frames, beside a steps file never. Other words end with status 2.
@@ -212,9 +219,13 @@ fn end<R: Threads + Wait + Sync, S: Shelf, K: Sink, G: Gate + Sync>(
 /// The steps file has a step of a board a line, as `rx 1`, which are taken first, where they are met; then the run goes on
 /// to its end. With `--generate` the edits and the traces are those that the number makes, and nothing is written.
 ///
+/// The mirrors file has a mirror a line, of the items `select_src_port=P`, `select_dst_port=P` and `select_all`
+/// (ovs-vswitchd.conf.db(5), table Mirror). No frame is decided otherwise for a mirror or for `--netflow`.
+///
 /// `OUT.pN.pcap` has the frames that go out at port N, `OUT.rules` the rules with their counts, `OUT.megaflows` the
 /// megaflows that stand in the caches, and `OUT.journal` the steps of each port's board, in the order in which they were
-/// taken.
+/// taken. `OUT.netflow` has the flows of the IPv4 packets that came in, as datagrams of NetFlow version 5, and `OUT.mK.pcap` the
+/// frames that mirror K copies, each once.
 ///
 /// The answer is the exit status; `spec_run` has the statuses, and the text that is printed with each. Of a text a prefix
 /// may stand, where the sink fails or is out of memory.

@@ -4,9 +4,10 @@ use Rattle.std.specs.Prelude.{IsSomeAnd, nat_lt, Result, Ok, Err}
 use Rattle.std.proofs.lemmas.Bool.Decides.{nat_tests}
 use Rattle.spec_pcap.specs.Pcap.{Capture, capture_of}
 use Rattle.spec_pcap.specs.declared.fault.PcapFault.{PcapFault}
-use Rattle.spec_run.specs.declared.quantity.Quantity.TheVariants.{EditsBytes, StepsBytes, TraceBytes}
+use Rattle.spec_run.specs.declared.quantity.Quantity.TheVariants.{EditsBytes, StepsBytes, MirrorsBytes, TraceBytes}
+use Rattle.spec_mirrors.specs.Mirrors.{most_mirrors_bytes}
 use Rattle.spec_run.specs.Limits.{most_edits_bytes, most_steps_bytes}
-use Rattle.spec_run.specs.Verdict.{Files, Refusal, Limit, refused_trace, script_in, steps_within, steps_in, file_in}
+use Rattle.spec_run.specs.Verdict.{Files, Refusal, Limit, refused_trace, script_in, steps_within, steps_in, mirrors_within, mirrors_in, file_in}
 use Rattle.switch_refusals.specs.declared.refusal.InputFault.{InputFault}
 use Rattle.switch_refusals.specs.declared.refusal.InputRefusal.{InputRefusal}
 use Rattle.switch_refusals.specs.declared.refusal.InputRefusal.TheVariants.{Input, ReadFault, OutOfMemory}
@@ -47,6 +48,20 @@ steps_too_long files ports name long = over (files name) refl long
 -- the bytes of a file give what the file does
 pub steps_of_bytes : (files : Files) (ports name bytes : List ℕ) → files name ≡ Some bytes → steps_in files ports (Some name) ≡ steps_within ports name bytes
 steps_of_bytes files ports name bytes held = rw held refl
+
+-- ---- the mirrors
+
+pub mirrors_too_long : (files : Files) (ports name : List ℕ) → IsSomeAnd (files name) (λ b. most_mirrors_bytes < length b)
+    → mirrors_in files ports (Some name) ≡ Err (Limit MirrorsBytes)
+mirrors_too_long files ports name long = over (files name) refl long
+  where
+    over : (o : Option (List ℕ)) → files name ≡ o → IsSomeAnd o (λ b. most_mirrors_bytes < length b) → mirrors_in files ports (Some name) ≡ Err (Limit MirrorsBytes)
+    over None e long = absurd long
+    over (Some bytes) e long = rw (e, past (length bytes) most_mirrors_bytes long) refl
+
+-- the bytes of a file give what the file does
+pub mirrors_of_bytes : (files : Files) (ports name bytes : List ℕ) → files name ≡ Some bytes → mirrors_in files ports (Some name) ≡ mirrors_within ports name bytes
+mirrors_of_bytes files ports name bytes held = rw held refl
 
 -- ---- a trace
 

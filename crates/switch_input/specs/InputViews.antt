@@ -6,6 +6,7 @@ use Rattle.spec_case.specs.Run.{Run}
 use Rattle.spec_case.specs.Blocks.{AreInOrder}
 use Rattle.spec_script.specs.Script.{most_edits, most_syncs}
 use Rattle.spec_steps.specs.Steps.{most_steps}
+use Rattle.spec_mirrors.specs.Mirrors.{most_mirrors}
 use Rattle.spec_run.specs.Limits.{most_frames}
 use Rattle.spec_run.specs.Verdict as verdicts
 use Rattle.spec_tables.specs.Edits.{has_sound_actions}
@@ -27,9 +28,13 @@ sources_for c = verdicts.sources_of (input_view c.input)
 abbrev pub run_view : Inputs → Run
 run_view i = verdicts.run_of i.command.flow_limit (sources_for i.command) (script_view i.script) i.steps.items i.traces.items
 
--- the command, and the run that what it reads gives
+-- and its mirrors
+abbrev pub mirrored_view : Inputs → verdicts.MirroredRun
+mirrored_view i = record { run = run_view i; mirrors = i.mirrors.items }
+
+-- the command, and what is given by what it reads
 abbrev pub accepted_view : Inputs → verdicts.Accepted
-accepted_view i = record { command = command_view i.command; run = run_view i }
+accepted_view i = record { command = command_view i.command; run = run_view i; mirrors = i.mirrors.items }
 
 -- What was read is within its limits. The rules are those that the edits make.
 pub record IsWithinLimits (i : Inputs) : Type 0 where
@@ -42,4 +47,5 @@ pub record IsWithinLimits (i : Inputs) : Type 0 where
   pub few_syncs : length i.script.syncs.items ≤ most_syncs
   pub in_order : AreInOrder i.script.syncs.items (length i.script.edits.items)
   pub few_steps : length i.steps.items ≤ most_steps
+  pub few_mirrors : length i.mirrors.items ≤ most_mirrors
   pub rules : i.rules ≡ history_of i.script.edits.items

@@ -5,4 +5,4 @@ use Rattle.command_words.specs.CommandViews.{text_view}
 use Rattle.switch_input.specs.declared.sources.Sources.{Sources}
 
 abbrev pub sources_view : Sources → verdicts.Sources
-sources_view s = record { edits = s.edits.now; steps = text_view s.steps; ports = ports_view s.ports.now }
+sources_view s = record { edits = s.edits.now; steps = text_view s.steps; mirrors = text_view s.mirrors; ports = ports_view s.ports.now }

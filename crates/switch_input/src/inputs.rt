@@ -5,18 +5,20 @@ ghost use Rattle.spec_base.specs.Files.{lookup_or_empty};
 ghost use Rattle.spec_run.specs.Verdict.{verdict, run_in, files_for, made_list, sources_opened, opened_for, files_opened};
 ghost use Rattle.command_words.specs.PortViews.{ArePorts};
 ghost use Rattle.command_words.specs.CommandViews.{texts, input_view, IfFiles, HasWorkers};
-ghost use Rattle.switch_input.specs.InputViews.{sources_for, run_view, accepted_view, IsWithinLimits};
+ghost use Rattle.switch_input.specs.InputViews.{sources_for, mirrored_view, accepted_view, IsWithinLimits};
 ghost use Rattle.switch_refusals.specs.Refused.{IfReadFault, Explains, HasReadCause, OpensInTurn};
 
 use crate::command::read_command;
 use crate::edits::read_edits;
 use crate::made::made_shelf;
+use crate::mirrors::read_mirrors;
 use crate::reading::read_traces;
 use crate::sources::{ports_of, sources_of};
 use crate::steps::read_steps;
 use command_words::{Command, Input};
 use edge_io::Shelf;
 use edit_script::Script;
+use mirror_script::Mirror;
 use pcap_reader::Trace;
 use rule_tables::VersionedRules;
 use run_blocks::Ports;
@@ -35,12 +37,14 @@ pub struct Inputs<'a> {
     pub rules: VersionedRules,
     /// The given steps: none where there is no steps file.
     pub steps: Vec<RunStep>,
+    /// The mirrors: none where there is no mirrors file.
+    pub mirrors: Vec<Mirror>,
     /// A trace for each port, in their order.
     pub traces: Vec<Trace>,
 }
 
-// Reads what a command is run on from a shelf: the file of edits, then the steps file, and then the traces in the order of
-// the ports, up to the first that is refused.
+// Reads what a command is run on from a shelf: the file of edits, then the steps file, then the mirrors file, and then the
+// traces in the order of the ports, up to the first that is refused.
 fn read_sources<'a, S: Shelf>(
     alloc: Global,
     shelf: &mut S,
@@ -52,7 +56,7 @@ fn read_sources<'a, S: Shelf>(
     ensures in_use { OnOk result (S.in_use shelf.new ≡ Nothing) }
     ensures command { IfOk result (λ inputs. inputs.command ≡ command.entry) }
     ensures ok { let sources = sources_for command.entry in IsTrue S.tells → IfOk result
-        (λ inputs. run_in (S.told shelf.old).holds command.entry.flow_limit sources ≡ Ok (run_view inputs)) }
+        (λ inputs. run_in (S.told shelf.old).holds command.entry.flow_limit sources ≡ Ok (mirrored_view inputs)) }
     ensures within { IfOk result IsWithinLimits }
     ensures err { let sources = sources_for command.entry in IsTrue S.tells → IfErr result
         (Explains (run_in (S.told shelf.old).holds command.entry.flow_limit sources)) }
@@ -68,7 +72,9 @@ fn read_sources<'a, S: Shelf>(
     let sources = sources_of(&command.input);
     let ports = ports_of(alloc, sources.ports)?;
     let edits = read_edits(alloc, shelf, sources.edits)?;
-    let steps = read_steps(alloc, shelf, ports.as_slice(), sources.steps)?;
+    let numbers = ports.as_slice();
+    let steps = read_steps(alloc, shelf, numbers, sources.steps)?;
+    let mirrors = read_mirrors(alloc, shelf, numbers, sources.mirrors)?;
     let traces = read_traces(alloc, shelf, sources.ports)?;
     Ok(Inputs {
         command,
@@ -76,6 +82,7 @@ fn read_sources<'a, S: Shelf>(
         script: edits.script,
         rules: edits.rules,
         steps,
+        mirrors,
         traces,
     })
 }
@@ -90,7 +97,7 @@ fn read_made<'a>(
     requires workers { HasWorkers command }
     ensures command { IfOk result (λ inputs. inputs.command ≡ command.entry) }
     ensures ok { let files = lookup_or_empty (made_list number) in IfOk result
-        (λ inputs. run_in files command.entry.flow_limit (sources_for command.entry) ≡ Ok (run_view inputs)) }
+        (λ inputs. run_in files command.entry.flow_limit (sources_for command.entry) ≡ Ok (mirrored_view inputs)) }
     ensures within { IfOk result IsWithinLimits }
     ensures err { let files = lookup_or_empty (made_list number) in IfErr result
         (Explains (run_in files command.entry.flow_limit (sources_for command.entry))) }
@@ -113,7 +120,7 @@ fn read_run<'a, S: Shelf>(
     ensures command { IfOk result (λ inputs. inputs.command ≡ command.entry) }
     ensures ok { let files = files_for (S.told shelf.old).holds (input_view command.entry.input) in
         IsTrue S.tells → IfOk result
-        (λ inputs. run_in files command.entry.flow_limit (sources_for command.entry) ≡ Ok (run_view inputs)) }
+        (λ inputs. run_in files command.entry.flow_limit (sources_for command.entry) ≡ Ok (mirrored_view inputs)) }
     ensures within { IfOk result IsWithinLimits }
     ensures err { let files = files_for (S.told shelf.old).holds (input_view command.entry.input) in
         IsTrue S.tells → IfErr result
@@ -128,13 +135,14 @@ fn read_run<'a, S: Shelf>(
     ensures cause { IfErr result (HasReadCause (S.counts shelf.old) (S.counts shelf.new)) }
 {
     match command.input {
-        Input::Files { .. } => read_sources(alloc, shelf, command),
+        Input::Files(_) => read_sources(alloc, shelf, command),
         Input::Made { number } => read_made(alloc, number, command),
     }
 }
 
-/// Reads the words and what they are run on, up to the first that is refused: the file of edits, then the steps file, and
-/// then the traces in the order of the ports. What a number makes is read as if it were files, and the shelf isn't touched.
+/// Reads the words and what they are run on, up to the first that is refused: the file of edits, then the steps file, then the
+/// mirrors file, and then the traces in the order of the ports. What a number makes is read as if it were files, and the
+/// shelf isn't touched.
 pub fn read_inputs<'a, S: Shelf>(
     alloc: Global,
     words: &'a [String],

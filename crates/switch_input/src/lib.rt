@@ -2,20 +2,20 @@
 //!
 //! # What?
 //!
-//! The words of the command line name a file of edits, perhaps a steps file, and a trace for each port, or none; or they
-//! have a number that makes edits and traces. `read_inputs` reads the words, then the edits, the steps and the traces, from
-//! a shelf of files, up to the first that is refused. `read_edits` reads the edits alone, for whoever needs nothing else.
+//! The words of the command line name a file of edits, perhaps a steps file and a mirrors file, and a trace for each port, or
+//! none; or they have a number that makes edits and traces. `read_inputs` reads the words, then the edits, the steps, the
+//! mirrors and the traces, from a shelf of files, up to the first that is refused. `read_edits` reads the edits alone, for whoever needs nothing else.
 //!
 //! # What is promised
 //!
 //! `spec_run` has the verdict on words and files: the run that they give, or their first refusal in the order of reading.
 //! Where the shelf tells its bytes, `read_inputs` answers just that.
 //!
-//! - What was read is what the verdict accepts: the command, the edits and the sync points, the given steps, and a trace for
-//!   each port. All of it is within the limits. The actions of the edits are sound.
+//! - What was read is what the verdict accepts: the command, the edits and the sync points, the given steps, the mirrors, and
+//!   a trace for each port. All of it is within the limits. The actions of the edits are sound.
 //! - The rules of all versions that the edits make are handed on with it.
-//! - An input is refused only as the verdict refuses it: words that the program doesn't take, the edits, the steps or a trace
-//!   by the name and the first fault, or a quantity as above its limit.
+//! - An input is refused only as the verdict refuses it: words that the program doesn't take, the edits, the steps, the
+//!   mirrors or a trace by the name and the first fault, or a quantity as above its limit.
 //! - The files that are opened are those that the verdict opens, each once and in its order: all of them, or those up to the
 //!   one at which reading failed, or, out of memory, a prefix. So none is opened after one that is refused.
 //! - Where a number makes what is read, the shelf isn't touched.
@@ -26,8 +26,8 @@
 //!
 //! # How
 //!
-//! Each stage of the verdict has a function whose contract is that stage: `read_command`, `read_edits`, `read_steps`, and
-//! `read_traces`, which goes from port to port and gives each trace the room that those before it left. The whole is the
+//! Each stage of the verdict has a function whose contract is that stage: `read_command`, `read_edits`, `read_steps`,
+//! `read_mirrors`, and `read_traces`, which goes from port to port and gives each trace the room that those before it left. The whole is the
 //! chain of their answers, as the verdict is the chain of the stages. They meet the shelf in `read_file` alone. The bytes of
 //! a trace are read into the memory where they stay.
 //!
@@ -41,7 +41,7 @@
 //! # What is left to others
 //!
 //! What the words say to `command_words`, scripts to `edit_script`, what an edit does to `rule_tables`, steps files to
-//! `step_script`, capture files to `pcap_reader`, what a number makes to `trace_gen`, and all that touches the system to
+//! `step_script`, mirrors files to `mirror_script`, capture files to `pcap_reader`, what a number makes to `trace_gen`, and all that touches the system to
 //! `edge_io`. What refusals are told as is for `switch_refusals`, and what becomes of the run for `switch_app`. No board is
 //! known here, so that reading and deciding are proved side by side.
 #![tactic(auto)]
@@ -50,12 +50,14 @@ mod command;
 mod edits;
 mod inputs;
 mod made;
+mod mirrors;
 mod reading;
 mod rules;
 mod sources;
 mod steps;
 
-pub use command_words::{Command, Input, PortWord};
+pub use command_words::{Command, FilesNamed, Input, PortWord};
 pub use edits::{EditsFile, read_edits};
 pub use inputs::{Inputs, read_inputs};
+pub use mirror_script::Mirror;
 pub use switch_refusals::{InputFault, InputRefusal};

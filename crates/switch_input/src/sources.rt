@@ -9,11 +9,13 @@ use command_words::{Input, PortWord};
 use run_blocks::Ports;
 use std::alloc::{AllocError, Global};
 
-/// The names of what is read: the file of edits, the steps file where there is one, and the traces of the ports.
+/// The names of what is read: the file of edits, the steps file and the mirrors file where there are such, and the traces of
+/// the ports.
 #[derive(Clone, Copy, Debug)]
 pub struct Sources<'a, 'p> {
     pub edits: &'a str,
     pub steps: Option<&'a str>,
+    pub mirrors: Option<&'a str>,
     pub ports: &'p [PortWord<'a>],
 }
 
@@ -35,6 +37,7 @@ fn made_sources() -> Sources<'static, 'static>
     Sources {
         edits: MADE_EDITS,
         steps: None,
+        mirrors: None,
         ports: &MADE_PORTS,
     }
 }
@@ -46,15 +49,11 @@ pub fn sources_of<'a, 'p>(input: &'p Input<'a>) -> Sources<'a, 'p>
     ensures ports { ArePorts result.ports.now }
 {
     match input {
-        Input::Files {
-            edits,
-            steps,
-            ports,
-            ..
-        } => Sources {
-            edits: *edits,
-            steps: *steps,
-            ports: ports.as_slice(),
+        Input::Files(files) => Sources {
+            edits: files.edits,
+            steps: files.steps,
+            mirrors: files.mirrors,
+            ports: files.ports.as_slice(),
         },
         Input::Made { .. } => made_sources(),
     }

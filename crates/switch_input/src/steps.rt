@@ -3,7 +3,7 @@ ghost use Rattle.std.specs.Prelude.{◌≡◌, ◌≤◌, [], ◌∷◌, length,
 ghost use Rattle.edge_io.specs.declared.outside.InUse.TheVariants.{Nothing};
 ghost use Rattle.edge_io.specs.ReadAll.{OnlyRead};
 ghost use Rattle.spec_run.specs.Limits.{most_steps_bytes};
-ghost use Rattle.spec_run.specs.Verdict.{refused_steps, steps_within, steps_in, steps_names};
+ghost use Rattle.spec_run.specs.Verdict.{refused_steps, steps_within, steps_in, given_names};
 ghost use Rattle.spec_steps.specs.Steps.{most_steps};
 ghost use Rattle.spec_steps.specs.declared.fault.StepsFault.TheVariants as given;
 ghost use Rattle.command_words.specs.CommandViews.{text_view};
@@ -99,7 +99,7 @@ pub fn read_steps<'a, S: Shelf>(
         IfErr result (λ r. IfReadFault r (λ _. S.counts_at_last shelf.new ≡ S.counts shelf.old)) }
     ensures told { IsTrue S.tells → OnlyRead (S.told shelf.old) (S.told shelf.new) }
     ensures opened { IsTrue S.tells →
-        OpensInTurn (S.told shelf.old) (S.told shelf.new) (steps_names (text_view name.entry)) result }
+        OpensInTurn (S.told shelf.old) (S.told shelf.new) (given_names (text_view name.entry)) result }
     ensures counts { OnOk result (S.counts shelf.new ≡ S.counts shelf.old) }
     ensures cause { IfErr result (HasReadCause (S.counts shelf.old) (S.counts shelf.new)) }
 {

@@ -1,11 +1,14 @@
 -- The files of a run, one after the other, as they are written.
-use Rattle.std.proofs.Common.{◌≡◌, ℕ, zero, suc, ◌+◌, ◌<◌, List, [], ◌∷◌, ◌++◌, length, get_or, take, map, Some, refl, sym, ap, ◌∙◌, append_assoc, inl, arith}
+use Rattle.std.proofs.Common.{◌≡◌, ℕ, zero, suc, ◌+◌, ◌<◌, ◌≤◌, List, [], ◌∷◌, ◌++◌, length, get_or, take, map, Some, refl, sym, ap, ◌∙◌, append_assoc, inl, arith}
 use Rattle.std.specs.Prelude.{Result, Ok, Err, String, string_bytes, slice_get}
-use Rattle.std.proofs.lemmas.List.{take_more, map_push, length-map, append-nil}
+use Rattle.std.specs.List.{enumerate_from}
+use Rattle.std.proofs.lemmas.List.{length-map, take_all, append-nil}
+use Rattle.std.proofs.lemmas.List.FromFn.{length-enumerate_from, get_or-enumerate_from}
 use Rattle.std.proofs.lemmas.Option.{slice_get-get_or}
 use Rattle.std.proofs.Math.ListN.{get_or-map}
 use Rattle.std.specs.declared.alloc.Global.{Global}
 use Rattle.spec_base.specs.Files.{File, IsPrefixOf}
+use Rattle.spec_mirrors.specs.Mirrors.{Mirror}
 use Rattle.spec_run.specs.CutShort.{IsCutShort}
 use Rattle.edge_io.specs.Shelf.{Told}
 use Rattle.switch_output.specs.declared.refusal.WriteRefusal.{WriteRefusal}
@@ -17,28 +20,51 @@ use Rattle.edge_io.specs.Written.{WritesFile}
 use Rattle.switch_output.specs.declared.refusal.WriteRefusal.TheVariants.{OutOfMemory}
 use Rattle.switch_output.specs.Refused.{write_refusal, IfWriteFault, IsCutIn, WritesInTurn}
 
-pub files_more : (file : ℕ → File) (ports : List ℕ) (i : ℕ) (done before now : List File) → i < length ports
-    → before ≡ done ++ map file (take i ports) → now ≡ before ++ file (get_or ports i 0) ∷ [] → now ≡ done ++ map file (take (i + 1) ports)
-files_more file ports i done before now lt so_far grown =
-    let more : map file (take (i + 1) ports) ≡ map file (take i ports) ++ file (get_or ports i 0) ∷ [] =
-    ap (map file) (take_more ports i 0 lt) ∙ map_push file (take i ports) (get_or ports i 0) in
-    grown ∙ ap (λ fs. fs ++ file (get_or ports i 0) ∷ []) so_far ∙ append_assoc done (map file (take i ports)) (file (get_or ports i 0) ∷ []) ∙ ap (λ fs. done ++ fs) (sym more)
+-- one more of these files, after those before it
+pub one_more : (files : List File) (i : ℕ) (f : File) (done before now : List File) → slice_get files i ≡ Some f
+    → before ≡ done ++ take i files → now ≡ before ++ f ∷ [] → now ≡ done ++ take (i + 1) files
+one_more files i f done before now here so_far grown =
+    grown ∙ ap (λ fs. fs ++ f ∷ []) so_far ∙ append_assoc done (take i files) (f ∷ []) ∙ ap (λ fs. done ++ fs) (sym (take-next files i f here))
+  where
+    take-next : (fs : List File) (i : ℕ) (f : File) → slice_get fs i ≡ Some f → take (i + 1) fs ≡ take i fs ++ f ∷ []
+    take-next [] zero f is = cc is
+    take-next [] (suc i) f is = cc is
+    take-next (x ∷ fs) zero f is = let same : x ≡ f = cc is in ap (λ y. y ∷ []) same
+    take-next (x ∷ fs) (suc i) f is =
+        let e : suc i + 1 ≡ suc (i + 1) = omega arith in
+        ap (λ n. take n (x ∷ fs)) e ∙ ap (λ ys. x ∷ ys) (take-next fs i f is)
 
-take-map : {X Y : Type 0} (f : X → Y) (i : ℕ) (xs : List X) → take i (map f xs) ≡ map f (take i xs)
-take-map f zero xs = refl
-take-map f (suc i) [] = refl
-take-map f (suc i) (x ∷ xs) = ap (λ ys. f x ∷ ys) (take-map f i xs)
+-- it is cut short there
+cut_at : (files : List File) (i : ℕ) (f : File) (done before now : List File) → slice_get files i ≡ Some f
+    → before ≡ done ++ take i files → IsPrefixOf before f now → IsCutShort files f done now
+cut_at files i f done before now here so_far prefix = record { whole = i; next = here; prefix = rw (← so_far) prefix }
 
-cut_here : (file : ℕ → File) (ports : List ℕ) (i : ℕ) (done before now : List File) → i < length ports
-    → before ≡ done ++ map file (take i ports) → IsPrefixOf before (file (get_or ports i 0)) now → IsCutShort (map file ports) (file (get_or ports i 0)) done now
-cut_here file ports i done before now lt so_far prefix =
-    let firsts : take i (map file ports) ≡ map file (take i ports) = take-map file i ports in
+-- the file of the port that has this index
+pub port_at : (file : ℕ → File) (ports all : List ℕ) (i : ℕ) → ports ≡ all → i < length ports → slice_get (map file all) i ≡ Some (file (get_or ports i 0))
+port_at file ports all i same lt =
     let len : i < length (map file ports) = rw (length-map ports file) lt in
-    record {
-      whole = i;
-      next = slice_get-get_or (map file ports) i (file 0) len ∙ ap (λ f. Some f) (get_or-map file ports i 0);
-      prefix = rw (firsts, ← so_far) prefix;
-    }
+    rw (← same) (slice_get-get_or (map file ports) i (file 0) len ∙ ap (λ f. Some f) (get_or-map file ports i 0))
+
+-- the file of the mirror that has this index
+pub mirror_at : (file : ℕ → Mirror → File) (mirrors : List Mirror) (i : ℕ) (m : Mirror) → i < length mirrors → m ≡ get_or mirrors i m
+    → slice_get (map (λ (n : ℕ × Mirror). file n.0 n.1) (enumerate_from 1 mirrors)) i ≡ Some (file (i + 1) m)
+mirror_at file mirrors i m lt is =
+    let by : ℕ × Mirror → File = λ n. file n.0 n.1 in
+    let numbered : List (ℕ × Mirror) = enumerate_from 1 mirrors in
+    let len : i < length (map by numbered) = rw (length-map numbered by, length-enumerate_from 1 mirrors) lt in
+    let e : 1 + i ≡ i + 1 = omega arith in
+    slice_get-get_or (map by numbered) i (by (1, m)) len
+    ∙ ap (λ f. Some f) (get_or-map by numbered i (1, m) ∙ ap by (get_or-enumerate_from 1 mirrors i (1, m) lt) ∙ ap (λ n. file n (get_or mirrors i m)) e)
+    ∙ ap (λ x. Some (file (i + 1) x)) (sym is)
+
+-- all of them, where none is left
+pub all_mirrors : (file : ℕ → Mirror → File) (mirrors : List Mirror) (i : ℕ) (done now : List File) → length mirrors ≤ i
+    → now ≡ done ++ take i (map (λ (n : ℕ × Mirror). file n.0 n.1) (enumerate_from 1 mirrors)) → now ≡ done ++ map (λ (n : ℕ × Mirror). file n.0 n.1) (enumerate_from 1 mirrors)
+all_mirrors file mirrors i done now le so_far =
+    let by : ℕ × Mirror → File = λ n. file n.0 n.1 in
+    let numbered : List (ℕ × Mirror) = enumerate_from 1 mirrors in
+    let len : length (map by numbered) ≤ i = rw (length-map numbered by, length-enumerate_from 1 mirrors) le in
+    so_far ∙ ap (λ fs. done ++ fs) (take_all i (map by numbered) len)
 
 -- ---- more files, after these
 
@@ -87,11 +113,10 @@ cut_after files more file done now cut = record {
 
 -- ---- what a refusal says of it
 
-pub cut_in_at : (file : ℕ → File) (ports all : List ℕ) (i : ℕ) (done before now : List File) (r : WriteRefusal) → ports ≡ all → i < length ports
-    → before ≡ done ++ map file (take i ports) → IsPrefixOf before (file (get_or ports i 0)) now → IfWriteFault r (λ name. name ≡ (file (get_or ports i 0)).0)
-    → IsCutIn (map file all) done now r
-cut_in_at file ports all i done before now r same lt so_far prefix named =
-    rw (← same) (record { file = file (get_or ports i 0); cut = cut_here file ports i done before now lt so_far prefix; named = named })
+pub cut_in_at : (files : List File) (i : ℕ) (f : File) (done before now : List File) (r : WriteRefusal) → slice_get files i ≡ Some f
+    → before ≡ done ++ take i files → IsPrefixOf before f now → IfWriteFault r (λ name. name ≡ f.0) → IsCutIn files done now r
+cut_in_at files i f done before now r here so_far prefix named =
+    record { file = f; cut = cut_at files i f done before now here so_far prefix; named = named }
 
 cut_in_first : (files more : List File) (done now : List File) (r : WriteRefusal) → IsCutIn files done now r → IsCutIn (files ++ more) done now r
 cut_in_first files more done now r cut = record { file = cut.file; cut = cut_before files more cut.file done now cut.cut; named = cut.named }
@@ -155,6 +180,12 @@ module _ {S : Type 0} (g : shelf.Ghosts S) where
     counts = tt;
     cause = refl;
   }
+
+  -- nor is any of these, where one is sure to be among them
+  pub unwritten_before : {T : Type 0} (now : S) (first : List File) (file : File) (more : List File) → g.in_use now ≡ Nothing
+      → WritesInTurn g now now {T = T} (first ++ file ∷ more) (Err OutOfMemory)
+  unwritten_before now [] file more none = unwritten_in_turn now file more none
+  unwritten_before now (f ∷ first) file more none = unwritten_in_turn now f (first ++ file ∷ more) none
 
   -- one that is refused is cut short
   pub refused_in_turn : {T U : Type 0} (old new : S) (name : String Global) (given out text : List ℕ) (f : Failed) → given ≡ string_bytes name → string_bytes name ≡ out

@@ -1,3 +1,4 @@
 pub mod Refused
 pub mod Put
 pub mod Dumps
+pub mod OutletViews

@@ -1,7 +1,5 @@
 -- What is told of a run: files that are written, and then a text that is printed.
-use Rattle.std.specs.Prelude.{◌≡◌, ℕ, List, ◌++◌, take, Option, Result, IsTrue, OnOk, IfErr, IsErrOf, Ok, Err}
-use Rattle.std.specs.Option.{option_map}
-use Rattle.std.specs.Borrow.{Bor}
+use Rattle.std.specs.Prelude.{◌≡◌, ℕ, List, ◌++◌, take, Result, IsTrue, OnOk, IfErr, IsErrOf, Ok, Err}
 use Rattle.spec_base.specs.Files.{File}
 use Rattle.edge_io.specs.declared.outside.Failed.{Failed}
 use Rattle.edge_io.specs.declared.outside.InUse.TheVariants.{Nothing}
@@ -13,10 +11,6 @@ use Rattle.switch_output.specs.declared.refusal.WriteRefusal.{WriteRefusal}
 use Rattle.switch_output.specs.declared.refusal.OutputRefusal.{OutputRefusal}
 use Rattle.switch_output.specs.declared.refusal.OutputRefusal.TheVariants.{Files, Summary}
 use Rattle.switch_output.specs.Refused.{IfWriteFault, HasWriteCause, IsCutIn}
-
--- the bytes of a name, where there is one
-abbrev pub name_in : Option (Bor (List ℕ)) → Option (List ℕ)
-name_in name = option_map (λ (n : Bor (List ℕ)). n.now) name
 
 module _ {S K : Type 0} (g : shelf.Ghosts S) (h : sink.Ghosts K) (old new : S) (said saying : K) (files : List File) where
   -- The files are cut short at one of them, and nothing is printed.

@@ -3,12 +3,13 @@ ghost use Rattle.switch_output.specs.Dumps.{file_end, file_name};
 
 use std::alloc::{AllocError, Global};
 
-/// A dump of what a run's tables and boards hold, which has a file of its own.
+/// A dump of what a run's tables and boards hold, or of the flows of its frames, which has a file of its own.
 #[derive(Clone, Copy, Debug, PartialEq, Eq)]
 pub(crate) enum Dump {
     Rules,
     Megaflows,
     Journal,
+    Netflow,
 }
 
 impl Dump {
@@ -20,6 +21,7 @@ impl Dump {
             Dump::Rules => ".rules",
             Dump::Megaflows => ".megaflows",
             Dump::Journal => ".journal",
+            Dump::Netflow => ".netflow",
         }
     }
 

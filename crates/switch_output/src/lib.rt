@@ -3,8 +3,8 @@
 //! # What?
 //!
 //! Once every frame is decided, `put_out` writes what the ports send, in the order of the words, then the dumps of rules, of
-//! megaflows and of journals, and prints the summary. A run that has no name for files, since a number made it, has its
-//! summary alone.
+//! megaflows and of journals, then the flows, where they are asked for, and what the mirrors copy, and prints the summary. A
+//! run that has no outlets, since a number made it, has its summary alone.
 //!
 //! # What is promised
 //!
@@ -17,10 +17,10 @@
 //!
 //! # How
 //!
-//! Each file has a name and a call of `egress_capture` or `flow_dump`; the three dumps go through one function (`Dump`). The
-//! filters that tell a port which frames may be for it are made once, before the first file: 4 bytes for each frame. What
-//! was written before is a list of whole files, to which each call adds one, and the ways to be cut short go along
-//! (`proofs/Written`).
+//! Each file has a name and a call of `egress_capture`, `flow_dump`, `netflow_v5` or `port_mirror`; the three dumps and the
+//! flows go through one function (`Dump`). The filters that tell a port, or a mirror, which frames may be for it are made once,
+//! before the first file: 4 bytes for each frame. What was written before is a list of whole files, to which each call adds
+//! one, and the ways to be cut short go along (`proofs/Written`).
 //!
 //! # What is left to others
 //!
@@ -29,9 +29,11 @@
 #![tactic(auto)]
 
 mod dump;
+mod outlets;
 mod output;
 mod refusal;
 mod writing;
 
+pub use outlets::Outlets;
 pub use output::put_out;
 pub use refusal::{OutputRefusal, WriteRefusal};

@@ -5,8 +5,10 @@ ghost use Rattle.spec_run.specs.Outputs.{output_of};
 ghost use Rattle.spec_dumps.specs.Summary.{summary};
 ghost use Rattle.rule_tables.specs.History.{history_of};
 ghost use Rattle.edge_io.specs.declared.outside.InUse.TheVariants.{Nothing};
-ghost use Rattle.switch_output.specs.Put.{name_in, PutsOut};
+ghost use Rattle.switch_output.specs.OutletViews.{outlets_in};
+ghost use Rattle.switch_output.specs.Put.{PutsOut};
 
+use crate::outlets::Outlets;
 use crate::refusal::OutputRefusal;
 use crate::writing::write_out;
 use edge_io::{Shelf, Sink};
@@ -17,7 +19,7 @@ use spec_dumps::Ran;
 use std::alloc::Global;
 use step_runner::Finished;
 
-/// Tells what became of a run: its files are written, where they have a name, and then its summary is printed, with what is
+/// Tells what became of a run: its files are written, where it has outlets, and then its summary is printed, with what is
 /// told of given steps.
 ///
 /// Beside what the files take, it takes memory for the text of the summary.
@@ -25,7 +27,7 @@ pub fn put_out<C: Case, S: Shelf, K: Sink>(
     alloc: Global,
     shelf: &mut S,
     say: &mut K,
-    out: Option<&str>,
+    outlets: Option<Outlets<'_>>,
     run: &RunData<C>,
     rules: &VersionedRules,
     finished: &Finished<C>,
@@ -34,11 +36,11 @@ pub fn put_out<C: Case, S: Shelf, K: Sink>(
     requires in_use { S.in_use shelf.old ≡ Nothing }
     requires edits { rules.now ≡ history_of C.run.edits }
     requires sound { IsTrue (list_all has_sound_actions C.run.edits) }
-    ensures { let files = output_of (name_in out.entry) C.run finished.now in
+    ensures { let files = output_of (outlets_in outlets.entry) C.run finished.now in
         let text = summary C.run finished.now ran in
         PutsOut S.Shelf K.Sink shelf.old shelf.new say.old say.new files text result }
 {
-    write_out(alloc, shelf, out, run, rules, finished)?;
+    write_out(alloc, shelf, outlets, run, rules, finished)?;
     say_summary(alloc, say, run, finished, ran)?;
     Ok(())
 }

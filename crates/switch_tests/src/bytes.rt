@@ -117,5 +117,6 @@ pub fn bytes_of(alloc: Global, bytes: &Bytes) -> Result<Vec<u8>, AllocError> {
         Bytes::With(offset, bytes) => trace_with(alloc, *offset, bytes),
         Bytes::Headed(header, record) => headed(alloc, header, record),
         Bytes::Raw(bytes) => bytes.to_vec(alloc),
+        Bytes::Digits(digits) => frame_with(alloc, digits),
     }
 }

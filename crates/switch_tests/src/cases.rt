@@ -39,6 +39,8 @@ pub enum Bytes {
     /// One frame with these headers: the file's, and the record's.
     Headed(&'static [u8; 24], &'static [u8; 16]),
     Raw(&'static [u8]),
+    /// No capture file, but these bytes in hexadecimal digits.
+    Digits(Headers),
 }
 
 /// A trace without frames.
@@ -69,6 +71,16 @@ pub struct Given {
     pub run: Run<'static>,
 }
 
+/// The same, with what is written beside.
+#[derive(Drop)]
+pub struct Outlets {
+    /// The mirrors file, where there is one.
+    pub mirrors: Option<&'static str>,
+    pub run: Run<'static>,
+    /// The files that come after the dumps.
+    pub files: &'static [(&'static str, Bytes)],
+}
+
 pub const WORDS: &[&str] = &["edits", "out", "1=a.pcap", "2="];
 
 pub const THREE_PORTS: &[&str] = &["edits", "out", "1=a.pcap", "2=", "3="];
@@ -81,6 +93,9 @@ pub const STEPS_AT_THREE_PORTS: &[&str] = &[
     "--steps", "steps", "edits", "out", "1=a.pcap", "2=", "3=",
 ];
 
+pub const MIRRORS: &[&str] = &["--mirrors", "mirrors", "edits", "out", "1=a.pcap", "2="];
+
 /// Which words the program takes.
 pub const USAGE: &str =
-    "usage: megaswitch [--workers N] [--steps FILE] [--flow-limit N] EDITS OUT PORT=FILE...";
+    "usage: megaswitch [--workers N] [--steps FILE] [--flow-limit N] [--netflow] [--mirrors FILE] \
+    EDITS OUT PORT=FILE...";

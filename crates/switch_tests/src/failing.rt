@@ -61,3 +61,36 @@ pub static UNWRITTEN: [Unwritten; 6] = [
         )),
     },
 ];
+
+/// The same in the run `MIRRORED_FLOW`. Reading takes the calls 1 to 12, and the five files that come
+/// first those up to 39. The flows, one datagram, take those from 40 to 42.
+pub static UNWRITTEN_OUTLETS: [Unwritten; 4] = [
+    Unwritten {
+        shows: "where the file of flows isn't created, the journal is the last file",
+        failing_call: 40,
+        text: "write fault: out.netflow",
+        whole: 5,
+        in_use: None,
+    },
+    Unwritten {
+        shows: "a failed write of flows leaves the journal whole",
+        failing_call: 41,
+        text: "write fault: out.netflow",
+        whole: 5,
+        in_use: Some(("out.netflow", "")),
+    },
+    Unwritten {
+        shows: "where the file of a mirror isn't created, the flows are the last file",
+        failing_call: 43,
+        text: "write fault: out.m1.pcap",
+        whole: 6,
+        in_use: None,
+    },
+    Unwritten {
+        shows: "a failed write of copies leaves the flows whole",
+        failing_call: 44,
+        text: "write fault: out.m1.pcap",
+        whole: 6,
+        in_use: Some(("out.m1.pcap", "")),
+    },
+];

@@ -6,7 +6,7 @@
 //!
 //! Runs stand in tables, by what they show: what is sent (`sending`), which rules are told (`rules`), what caches decide
 //! (`caching`), how frames are rewritten (`rewrites`) and dropped (`limits`), which fields a megaflow is about
-//! (`matches`), given steps (`given`), refusals (`refusals`, `words`), and calls that fail in writing (`failing`). Each
+//! (`matches`), given steps (`given`), flows and mirrors (`outlets`), refusals (`refusals`, `words`), and calls that fail in writing (`failing`). Each
 //! run that is accepted has all its files and its summary. Their texts come from the formats' own page and from the
 //! switch's simulation, which shares nothing with the program. Great traces are made while they are read (`great`,
 //! `made`), and their files aren't compared. A test proves in a time that grows with its table, so no table is long.
@@ -34,6 +34,8 @@ mod limits;
 mod made;
 #[cfg(test)]
 mod matches;
+#[cfg(test)]
+mod outlets;
 #[cfg(test)]
 mod refusals;
 #[cfg(test)]

@@ -1,6 +1,6 @@
 //! Runs that are refused, by their files or since reading fails.
 
-use crate::cases::{Bytes, STEPS, TWO_TRACES, Trace, WORDS};
+use crate::cases::{Bytes, MIRRORS, STEPS, TWO_TRACES, Trace, WORDS};
 
 /// A rule that sends the frames of port 1 to port 2.
 pub const FORWARD: &str = "in_port=1,actions=2";
@@ -19,6 +19,22 @@ const MANY_ACTIONS: &str =
     "actions=1,1,1,1,1,1,1,1,1,1,1,1,1,1,1,1,1,1,1,1,1,1,1,1,1,1,1,1,1,1,1,1,\
     1,1,1,1,1,1,1,1,1,1,1,1,1,1,1,1,1,1,1,1,1,1,1,1,1,1,1,1,1,1,1,1,1";
 
+const STEPS_AND_MIRRORS: &[&str] = &[
+    "--steps",
+    "steps",
+    "--mirrors",
+    "mirrors",
+    "edits",
+    "out",
+    "1=a.pcap",
+    "2=",
+];
+
+// 17 mirrors, one more than a file may have.
+const MANY_MIRRORS: &str =
+    "select_all|select_all|select_all|select_all|select_all|select_all|select_all|select_all|select_all|\
+    select_all|select_all|select_all|select_all|select_all|select_all|select_all|select_all";
+
 /// A run that is refused.
 #[derive(Drop)]
 pub struct Refused<'a> {
@@ -26,6 +42,7 @@ pub struct Refused<'a> {
     pub words: &'static [&'static str],
     pub edits: &'a str,
     pub steps: &'a str,
+    pub mirrors: &'a str,
     pub traces: &'static [Trace],
     /// The number of the call of the shelf that fails, or 0 where none does.
     pub failing_call: u64,
@@ -154,6 +171,71 @@ pub static STEPS_FAULTS: [Fault; 8] = [
     },
 ];
 
+/// Mirrors files that are refused, at a switch with the ports 1 and 2.
+pub static MIRROR_FAULTS: [Fault; 10] = [
+    Fault {
+        shows: "a mirror of a port that the switch hasn't",
+        file: "select_src_port=9",
+        status: 3,
+        text: "mirrors:1:17: bad value",
+    },
+    Fault {
+        shows: "a word that selects nothing",
+        file: "select_all|select_vlan=5",
+        status: 3,
+        text: "mirrors:2:1: unknown name",
+    },
+    Fault {
+        shows: "a selection without its port",
+        file: "select_all,select_dst_port",
+        status: 3,
+        text: "mirrors:1:12: syntax",
+    },
+    Fault {
+        shows: "a port for what selects all",
+        file: "select_all=1",
+        status: 3,
+        text: "mirrors:1:1: syntax",
+    },
+    Fault {
+        shows: "a byte that isn't ASCII",
+        file: "select_all é",
+        status: 3,
+        text: "mirrors:1:12: syntax",
+    },
+    Fault {
+        shows: "a port that is selected twice",
+        file: "select_dst_port=2,select_src_port=2,select_dst_port=2",
+        status: 3,
+        text: "mirrors:1:37: repeated",
+    },
+    Fault {
+        shows: "all that is selected twice",
+        file: "select_all select_all",
+        status: 3,
+        text: "mirrors:1:12: repeated",
+    },
+    Fault {
+        shows: "17 mirrors",
+        file: MANY_MIRRORS,
+        status: 7,
+        text: "limit: mirrors 16",
+    },
+    Fault {
+        shows: "the items of a 17th mirror aren't looked at",
+        file: "select_all|select_all|select_all|select_all|select_all|select_all|select_all|select_all|select_all|\
+            select_all|select_all|select_all|select_all|select_all|select_all|select_all|select",
+        status: 7,
+        text: "limit: mirrors 16",
+    },
+    Fault {
+        shows: "the first faulty mirror decides",
+        file: "select_all|select_src_port=3|select",
+        status: 3,
+        text: "mirrors:2:17: bad value",
+    },
+];
+
 /// A trace that is refused, and what is told of it.
 #[derive(Drop)]
 pub struct TraceFault {
@@ -208,12 +290,13 @@ pub static TRACE_FAULTS: [TraceFault; 8] = [
 
 /// Runs that show which refusal comes first, and what is opened then. The edits are read by the calls 1 to 4 of the
 /// shelf, and what comes next by those from 5 to 8.
-pub static REFUSED: [Refused<'static>; 11] = [
+pub static REFUSED: [Refused<'static>; 15] = [
     Refused {
         shows: "faulty edits come before faulty steps",
         words: STEPS,
         edits: "actions",
         steps: "rx 9",
+        mirrors: "",
         traces: ONE_FRAME,
         failing_call: 0,
         status: 3,
@@ -225,6 +308,7 @@ pub static REFUSED: [Refused<'static>; 11] = [
         words: STEPS,
         edits: FORWARD,
         steps: "rx 9",
+        mirrors: "",
         traces: TWO_FAULTY_TRACES,
         failing_call: 0,
         status: 3,
@@ -236,6 +320,7 @@ pub static REFUSED: [Refused<'static>; 11] = [
         words: STEPS,
         edits: FORWARD,
         steps: "edit",
+        mirrors: "",
         traces: TWO_FAULTY_TRACES,
         failing_call: 0,
         status: 4,
@@ -247,6 +332,7 @@ pub static REFUSED: [Refused<'static>; 11] = [
         words: TWO_TRACES,
         edits: FORWARD,
         steps: "",
+        mirrors: "",
         traces: TWO_FAULTY_TRACES,
         failing_call: 0,
         status: 4,
@@ -258,6 +344,7 @@ pub static REFUSED: [Refused<'static>; 11] = [
         words: &["edits", "out", "2=b.pcap", "1=a.pcap"],
         edits: FORWARD,
         steps: "",
+        mirrors: "",
         traces: TWO_FAULTY_TRACES,
         failing_call: 0,
         status: 4,
@@ -269,6 +356,7 @@ pub static REFUSED: [Refused<'static>; 11] = [
         words: &["missing", "out", "1=a.pcap"],
         edits: FORWARD,
         steps: "",
+        mirrors: "",
         traces: ONE_FRAME,
         failing_call: 0,
         status: 5,
@@ -280,6 +368,7 @@ pub static REFUSED: [Refused<'static>; 11] = [
         words: &["--steps", "missing", "edits", "out", "1=a.pcap"],
         edits: FORWARD,
         steps: "",
+        mirrors: "",
         traces: ONE_FRAME,
         failing_call: 0,
         status: 5,
@@ -291,6 +380,7 @@ pub static REFUSED: [Refused<'static>; 11] = [
         words: &["edits", "out", "1=a.pcap", "2=missing"],
         edits: FORWARD,
         steps: "",
+        mirrors: "",
         traces: ONE_FRAME,
         failing_call: 0,
         status: 5,
@@ -302,6 +392,7 @@ pub static REFUSED: [Refused<'static>; 11] = [
         words: WORDS,
         edits: FORWARD,
         steps: "",
+        mirrors: "",
         traces: ONE_FRAME,
         failing_call: 2,
         status: 5,
@@ -313,6 +404,7 @@ pub static REFUSED: [Refused<'static>; 11] = [
         words: STEPS,
         edits: FORWARD,
         steps: "edit",
+        mirrors: "",
         traces: ONE_FRAME,
         failing_call: 6,
         status: 5,
@@ -324,10 +416,59 @@ pub static REFUSED: [Refused<'static>; 11] = [
         words: WORDS,
         edits: FORWARD,
         steps: "",
+        mirrors: "",
         traces: ONE_FRAME,
         failing_call: 7,
         status: 5,
         text: "read fault: a.pcap",
         opened: &["edits", "a.pcap"],
+    },
+    Refused {
+        shows: "faulty steps come before faulty mirrors",
+        words: STEPS_AND_MIRRORS,
+        edits: FORWARD,
+        steps: "rx 9",
+        mirrors: "select_src_port=9",
+        traces: ONE_FRAME,
+        failing_call: 0,
+        status: 3,
+        text: "steps:1:4: bad value",
+        opened: &["edits", "steps"],
+    },
+    Refused {
+        shows: "faulty mirrors come after good steps and before a trace with a fault",
+        words: STEPS_AND_MIRRORS,
+        edits: FORWARD,
+        steps: "edit",
+        mirrors: "select_src_port=9",
+        traces: TWO_FAULTY_TRACES,
+        failing_call: 0,
+        status: 3,
+        text: "mirrors:1:17: bad value",
+        opened: &["edits", "steps", "mirrors"],
+    },
+    Refused {
+        shows: "a mirrors file that isn't there",
+        words: &["--mirrors", "missing", "edits", "out", "1=a.pcap"],
+        edits: FORWARD,
+        steps: "",
+        mirrors: "",
+        traces: ONE_FRAME,
+        failing_call: 0,
+        status: 5,
+        text: "read fault: missing",
+        opened: &["edits", "missing"],
+    },
+    Refused {
+        shows: "a failed read of a mirrors file",
+        words: MIRRORS,
+        edits: FORWARD,
+        steps: "",
+        mirrors: "select_all",
+        traces: ONE_FRAME,
+        failing_call: 6,
+        status: 5,
+        text: "read fault: mirrors",
+        opened: &["edits", "mirrors"],
     },
 ];

@@ -3,7 +3,7 @@ ghost use Rattle.std.specs.Prelude.{◌≡◌, IfOk};
 ghost use Rattle.edge_io.specs.declared.outside.InUse.TheVariants.{Nothing};
 
 use crate::bytes::{bytes_of, text_of};
-use crate::cases::{Run, Trace};
+use crate::cases::{Outlets, Run, Trace};
 use edge_io::{OpenGate, Shelf};
 use edge_memory::{MemoryShelf, MemorySink};
 use std::alloc::{AllocError, Global};
@@ -22,6 +22,7 @@ pub type File = (String, Vec<u8>);
 pub struct Inputs<'a> {
     pub edits: &'a str,
     pub steps: &'a str,
+    pub mirrors: &'a str,
     pub traces: &'static [Trace],
 }
 
@@ -34,7 +35,11 @@ pub fn shelf_of(
     ensures { IfOk result (λ shelf. ⟦<MemoryShelf as Shelf>⟧.in_use shelf ≡ Nothing) }
 {
     let mut files = Vec::new(alloc);
-    for (name, text) in [("edits", inputs.edits), ("steps", inputs.steps)] {
+    for (name, text) in [
+        ("edits", inputs.edits),
+        ("steps", inputs.steps),
+        ("mirrors", inputs.mirrors),
+    ] {
         files.push((String::from_str(alloc, name)?, text_of(alloc, text)?))?;
     }
     for (name, bytes) in inputs.traces {
@@ -74,6 +79,15 @@ pub fn files_of(alloc: Global, run: &Run<'_>) -> Result<Vec<File>, AllocError> {
         ("out.journal", run.journal),
     ] {
         files.push((String::from_str(alloc, name)?, text_of(alloc, text)?))?;
+    }
+    Ok(files)
+}
+
+/// The files that a run writes, with those that come after its dumps.
+pub fn files_with_outlets(alloc: Global, outlets: &Outlets) -> Result<Vec<File>, AllocError> {
+    let mut files = files_of(alloc, &outlets.run)?;
+    for (name, bytes) in outlets.files {
+        files.push((String::from_str(alloc, name)?, bytes_of(alloc, bytes)?))?;
     }
     Ok(files)
 }
@@ -135,12 +149,12 @@ impl Ended {
 // The names of the files that a run reads, in order.
 fn names_read(
     alloc: Global,
-    steps: Option<&str>,
+    given: Option<&'static str>,
     traces: &[Trace],
 ) -> Result<Vec<&'static str>, AllocError> {
     let mut names = vec![in alloc; "edits"]?;
-    if steps.is_some() {
-        names.push("steps")?;
+    if let Some(name) = given {
+        names.push(name)?;
     }
     for (name, _) in traces {
         names.push(*name)?;
@@ -148,19 +162,32 @@ fn names_read(
     Ok(names)
 }
 
-fn leaves_its_files(alloc: Global, ended: &Ended, run: &Run<'_>) -> Result<bool, AllocError> {
-    let files = files_of(alloc, run)?;
-    Ok(ended.leaves(&files))
-}
-
 fn has_opened_its_files(
     alloc: Global,
     ended: &Ended,
+    given: Option<&'static str>,
     run: &Run<'_>,
-    steps: Option<&str>,
 ) -> Result<bool, AllocError> {
-    let names = names_read(alloc, steps, run.traces)?;
+    let names = names_read(alloc, given, run.traces)?;
     Ok(ended.has_opened(&names))
+}
+
+// Runs the switch over what it reads, without a fault.
+fn run_of<R: Threads + Wait + Sync>(
+    rt: &R,
+    alloc: Global,
+    run: &Run<'_>,
+    steps: &str,
+    mirrors: &str,
+) -> Result<Ended, AllocError> {
+    let inputs = Inputs {
+        edits: run.edits,
+        steps,
+        mirrors,
+        traces: run.traces,
+    };
+    let shelf = shelf_of(alloc, &inputs, 0)?;
+    run_over(rt, alloc, run.words, shelf, Vec::new(alloc))
 }
 
 /// Whether a run, perhaps with given steps, is done, prints its summary, and leaves its files; and whether it opened all
@@ -171,14 +198,27 @@ pub fn ends_as_shown<R: Threads + Wait + Sync>(
     run: &Run<'_>,
     steps: Option<&str>,
 ) -> Result<bool, AllocError> {
-    let inputs = Inputs {
-        edits: run.edits,
-        steps: steps.unwrap_or(""),
-        traces: run.traces,
-    };
-    let shelf = shelf_of(alloc, &inputs, 0)?;
-    let ended = run_over(rt, alloc, run.words, shelf, Vec::new(alloc))?;
+    let ended = run_of(rt, alloc, run, steps.unwrap_or(""), "")?;
     let told = ended.tells(alloc, DONE, run.summary)?;
-    let written = leaves_its_files(alloc, &ended, run)?;
-    Ok(told && written && has_opened_its_files(alloc, &ended, run, steps)?)
+    let files = files_of(alloc, run)?;
+    let given = if steps.is_some() { Some("steps") } else { None };
+    Ok(told && ended.leaves(&files) && has_opened_its_files(alloc, &ended, given, run)?)
+}
+
+/// The same of a run with what is written beside.
+pub fn ends_with_outlets<R: Threads + Wait + Sync>(
+    rt: &R,
+    alloc: Global,
+    outlets: &Outlets,
+) -> Result<bool, AllocError> {
+    let run = &outlets.run;
+    let ended = run_of(rt, alloc, run, "", outlets.mirrors.unwrap_or(""))?;
+    let told = ended.tells(alloc, DONE, run.summary)?;
+    let files = files_with_outlets(alloc, outlets)?;
+    let given = if outlets.mirrors.is_some() {
+        Some("mirrors")
+    } else {
+        None
+    };
+    Ok(told && ended.leaves(&files) && has_opened_its_files(alloc, &ended, given, run)?)
 }

@@ -3,20 +3,22 @@ ghost use Rattle.edge_io.specs.declared.outside.InUse.TheVariants.{Nothing};
 
 use crate::bytes::text_of;
 use crate::caching::CACHING;
-use crate::cases::{Run, STEPS, WORDS};
-use crate::failing::{UNWRITTEN, Unwritten};
+use crate::cases::{MIRRORS, Outlets, Run, STEPS, WORDS};
+use crate::failing::{UNWRITTEN, UNWRITTEN_OUTLETS, Unwritten};
 use crate::given::GIVEN;
 use crate::limits::LIMITS;
 use crate::made::MadeShelf;
 use crate::matches::MATCHES;
+use crate::outlets::{MIRRORED_FLOW, OUTLETS};
 use crate::refusals::{
-    EDITS_FAULTS, FORWARD, Fault, ONE_FRAME, REFUSED, Refused, STEPS_FAULTS, TRACE_FAULTS,
-    TraceFault,
+    EDITS_FAULTS, FORWARD, Fault, MIRROR_FAULTS, ONE_FRAME, REFUSED, Refused, STEPS_FAULTS,
+    TRACE_FAULTS, TraceFault,
 };
 use crate::rewrites::REWRITES;
 use crate::rules::RULES;
 use crate::running::{
-    DONE, File, Inputs, are_files, ends_as_shown, files_of, run_over, shelf_of, status_of,
+    DONE, File, Inputs, are_files, ends_as_shown, ends_with_outlets, files_of, files_with_outlets,
+    run_over, shelf_of, status_of,
 };
 use crate::sending::{FORWARDED, IN_NANOSECONDS, SENDING};
 use edge_io::Shelf;
@@ -35,6 +37,9 @@ const WRITE_FAULT: u8 = 6;
 
 // The most bytes of a line.
 const MOST_BYTES: usize = 4_096;
+
+// The most bytes of a mirrors file.
+const MOST_MIRRORS_BYTES: usize = 65_536;
 
 // What the first run of a table shows that ends otherwise.
 fn first_that_differs<R: Threads + Wait + Sync>(
@@ -106,6 +111,19 @@ fn given_steps_are_taken_first(rt: HostRuntime) -> Result<(), Fail> {
     Ok(())
 }
 
+#[test]
+fn flows_and_copies_are_written_where_they_are_asked_for(rt: HostRuntime) -> Result<(), Fail> {
+    let alloc = rt.alloc();
+    for outlets in &OUTLETS {
+        assert!(rt;
+            ends_with_outlets(&rt, alloc, outlets)?,
+            "{}",
+            outlets.run.shows
+        );
+    }
+    Ok(())
+}
+
 // Whether a run is refused so, and leaves no file.
 fn is_refused_as_shown<R: Threads + Wait + Sync>(
     rt: &R,
@@ -115,6 +133,7 @@ fn is_refused_as_shown<R: Threads + Wait + Sync>(
     let inputs = Inputs {
         edits: run.edits,
         steps: run.steps,
+        mirrors: run.mirrors,
         traces: run.traces,
     };
     let shelf = shelf_of(alloc, &inputs, run.failing_call)?;
@@ -130,6 +149,7 @@ fn with_edits(fault: &Fault) -> Refused<'static> {
         words: WORDS,
         edits: fault.file,
         steps: "",
+        mirrors: "",
         traces: ONE_FRAME,
         failing_call: 0,
         status: fault.status,
@@ -145,11 +165,28 @@ fn with_steps(fault: &Fault) -> Refused<'static> {
         words: STEPS,
         edits: FORWARD,
         steps: fault.file,
+        mirrors: "",
         traces: ONE_FRAME,
         failing_call: 0,
         status: fault.status,
         text: fault.text,
         opened: &["edits", "steps"],
+    }
+}
+
+// The run whose mirrors file has this fault.
+fn with_mirrors(fault: &Fault) -> Refused<'static> {
+    Refused {
+        shows: fault.shows,
+        words: MIRRORS,
+        edits: FORWARD,
+        steps: "",
+        mirrors: fault.file,
+        traces: ONE_FRAME,
+        failing_call: 0,
+        status: fault.status,
+        text: fault.text,
+        opened: &["edits", "mirrors"],
     }
 }
 
@@ -160,6 +197,7 @@ fn with_trace(fault: &TraceFault) -> Refused<'static> {
         words: WORDS,
         edits: FORWARD,
         steps: "",
+        mirrors: "",
         traces: fault.traces,
         failing_call: 0,
         status: 4,
@@ -173,8 +211,9 @@ fn faulty_files_are_refused(rt: HostRuntime) -> Result<(), Fail> {
     let alloc = rt.alloc();
     let edits = EDITS_FAULTS.iter().map(with_edits);
     let steps = STEPS_FAULTS.iter().map(with_steps);
+    let mirrors = MIRROR_FAULTS.iter().map(with_mirrors);
     let traces = TRACE_FAULTS.iter().map(with_trace);
-    for run in edits.chain(steps).chain(traces) {
+    for run in edits.chain(steps).chain(mirrors).chain(traces) {
         assert!(rt; is_refused_as_shown(&rt, alloc, &run)?, "{}", run.shows);
     }
     Ok(())
@@ -209,6 +248,7 @@ fn with_long_line<'a>(
         words: STEPS,
         edits,
         steps,
+        mirrors: "",
         traces: ONE_FRAME,
         failing_call: 0,
         status: 7,
@@ -235,6 +275,34 @@ fn a_line_has_at_most_4096_bytes(rt: HostRuntime) -> Result<(), Fail> {
     Ok(())
 }
 
+// A run with this mirrors file, which passes a limit.
+fn with_long_mirrors<'a>(mirrors: &'a str, text: &'static str) -> Refused<'a> {
+    Refused {
+        shows: "a mirrors file that is too long",
+        words: MIRRORS,
+        edits: FORWARD,
+        steps: "",
+        mirrors,
+        traces: ONE_FRAME,
+        failing_call: 0,
+        status: 7,
+        text,
+        opened: &["edits", "mirrors"],
+    }
+}
+
+#[test]
+fn mirrors_have_at_most_65536_bytes_and_4096_in_a_line(rt: HostRuntime) -> Result<(), Fail> {
+    let alloc = rt.alloc();
+    let line = padded(alloc, "select_all", MOST_BYTES + 1)?;
+    let run = with_long_mirrors(line.as_str(), "limit: line 4096");
+    assert!(rt; is_refused_as_shown(&rt, alloc, &run)?, "line");
+    let file = padded(alloc, "select_all", MOST_MIRRORS_BYTES)?;
+    let run = with_long_mirrors(file.as_str(), "limit: mirrors-bytes 65536");
+    assert!(rt; is_refused_as_shown(&rt, alloc, &run)?, "file");
+    Ok(())
+}
+
 // The shelf of the run `FORWARDED`, whose call of this number fails.
 fn shelf_of_one_frame(alloc: Global, failing_call: u64) -> Result<MemoryShelf, AllocError>
     ensures { IfOk result (λ shelf. ⟦<MemoryShelf as Shelf>⟧.in_use shelf ≡ Nothing) }
@@ -242,6 +310,7 @@ fn shelf_of_one_frame(alloc: Global, failing_call: u64) -> Result<MemoryShelf, A
     let inputs = Inputs {
         edits: FORWARDED.edits,
         steps: "",
+        mirrors: "",
         traces: FORWARDED.traces,
     };
     shelf_of(alloc, &inputs, failing_call)
@@ -262,11 +331,10 @@ fn is_file_in_use(
     }
 }
 
-// Whether these are as many of the files of the run `FORWARDED`.
-fn are_first_files(alloc: Global, files: &[File], count: usize) -> Result<bool, AllocError> {
-    let mut wanted = files_of(alloc, &FORWARDED)?;
+// Whether these are as many of the wanted files.
+fn are_first_files(files: &[File], mut wanted: Vec<File>, count: usize) -> bool {
     wanted.truncate(count);
-    Ok(are_files(files, &wanted))
+    are_files(files, &wanted)
 }
 
 // Whether a call that fails in writing is told, and leaves what it is to leave.
@@ -278,7 +346,30 @@ fn is_cut_as_shown<R: Threads + Wait + Sync>(
     let shelf = shelf_of_one_frame(alloc, unwritten.failing_call)?;
     let ended = run_over(rt, alloc, FORWARDED.words, shelf, Vec::new(alloc))?;
     let told = ended.tells(alloc, WRITE_FAULT, unwritten.text)?;
-    let whole = are_first_files(alloc, ended.shelf.made(), unwritten.whole)?;
+    let wanted = files_of(alloc, &FORWARDED)?;
+    let whole = are_first_files(ended.shelf.made(), wanted, unwritten.whole);
+    Ok(told && whole && is_file_in_use(alloc, ended.shelf.current(), unwritten.in_use)?)
+}
+
+// The same in a run with flows and a mirror.
+fn is_cut_beside<R: Threads + Wait + Sync>(
+    rt: &R,
+    alloc: Global,
+    outlets: &Outlets,
+    unwritten: &Unwritten,
+) -> Result<bool, AllocError> {
+    let run = &outlets.run;
+    let inputs = Inputs {
+        edits: run.edits,
+        steps: "",
+        mirrors: outlets.mirrors.unwrap_or(""),
+        traces: run.traces,
+    };
+    let shelf = shelf_of(alloc, &inputs, unwritten.failing_call)?;
+    let ended = run_over(rt, alloc, run.words, shelf, Vec::new(alloc))?;
+    let told = ended.tells(alloc, WRITE_FAULT, unwritten.text)?;
+    let wanted = files_with_outlets(alloc, outlets)?;
+    let whole = are_first_files(ended.shelf.made(), wanted, unwritten.whole);
     Ok(told && whole && is_file_in_use(alloc, ended.shelf.current(), unwritten.in_use)?)
 }
 
@@ -288,6 +379,13 @@ fn failed_writes_are_told(rt: HostRuntime) -> Result<(), Fail> {
     for unwritten in &UNWRITTEN {
         assert!(rt;
             is_cut_as_shown(&rt, alloc, unwritten)?,
+            "{}",
+            unwritten.shows
+        );
+    }
+    for unwritten in &UNWRITTEN_OUTLETS {
+        assert!(rt;
+            is_cut_beside(&rt, alloc, &MIRRORED_FLOW, unwritten)?,
             "{}",
             unwritten.shows
         );

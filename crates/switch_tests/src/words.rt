@@ -16,7 +16,7 @@ struct Refused {
     text: &'static str,
 }
 
-static REFUSED: [Refused; 10] = [
+static REFUSED: [Refused; 14] = [
     Refused {
         shows: "no words",
         words: &[],
@@ -74,6 +74,30 @@ static REFUSED: [Refused; 10] = [
     Refused {
         shows: "a number with a leading zero",
         words: &["--generate", "07"],
+        status: 2,
+        text: USAGE,
+    },
+    Refused {
+        shows: "mirrors without a name",
+        words: &["--mirrors=", "edits", "out", "1="],
+        status: 2,
+        text: USAGE,
+    },
+    Refused {
+        shows: "flows with a value",
+        words: &["--netflow=x", "edits", "out", "1="],
+        status: 2,
+        text: USAGE,
+    },
+    Refused {
+        shows: "flows that are asked for twice",
+        words: &["--netflow", "edits", "out", "1=", "--netflow"],
+        status: 2,
+        text: USAGE,
+    },
+    Refused {
+        shows: "flows of what a number makes",
+        words: &["--generate", "7", "--netflow"],
         status: 2,
         text: USAGE,
     },

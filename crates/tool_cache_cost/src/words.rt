@@ -34,7 +34,7 @@ pub fn read_command<'a>(rt: &HostRuntime, words: &'a [String]) -> Result<Command
     let (words, rounds) = split_rounds(words)?;
     let inputs = inputs_of(rt, words)?;
     let flow_limit = match &inputs.command.input {
-        Input::Files { out, .. } => number_of("megaflows", *out)?,
+        Input::Files(files) => number_of("megaflows", files.out)?,
         Input::Made { .. } => inputs.command.flow_limit,
     };
     Ok(Command {

@@ -26,6 +26,7 @@ is_turned_down : (f : InputFault) → IsTrue (is_refusal (run_status (fault_view
 is_turned_down fault.Usage = refl
 is_turned_down (fault.Text name why) = refl
 is_turned_down (fault.Steps name why) = refl
+is_turned_down (fault.Mirrors name why) = refl
 is_turned_down (fault.Trace name why) = refl
 is_turned_down (fault.Limit q) = refl
 

@@ -5,7 +5,7 @@ use Rattle.edit_script.specs.ScriptViews.{script_view}
 use Rattle.switch_input.specs.SourceViews.{sources_view}
 use Rattle.switch_input.proofs.Lists.{count_said}
 use Rattle.switch_input.proofs.Walk.{holds_kept, only_read-trans}
-use Rattle.switch_input.proofs.Verdicts.{none_yet, script_explains, edits_opened, steps_explain, steps_opened, traces_explain, traces_until, gives_run_of, all_opened}
+use Rattle.switch_input.proofs.Verdicts.{none_yet, script_explains, edits_opened, steps_explain, steps_opened, mirrors_explain, mirrors_opened, traces_explain, traces_until, gives_run_of, all_opened}
 use Rattle.switch_input.proofs.inputs.read_sources.Goals as goal
 
 -- ---- memory for the ports
@@ -35,7 +35,7 @@ returns-in_err-steps-clause-err g c = λ t.
     let p = err_from_is_err_and c.from_residual-in_err-steps.result c.from_residual-in_err-steps.ensures.1 in
     let same = holds_kept (g.S.Shelf.told c.args.shelf.now) (g.S.Shelf.told c.read_edits.new.shelf) (c.in_ok-edits.ensures.told t) in
     rw (p.1, p.2) (rw c.sources_of-sources.ensures.sources at (steps_explain (g.S.Shelf.told c.args.shelf.now).holds c.args.command.flow_limit (sources_view c.sources_of-sources.result) (script_view c.in_ok-edits.edits.script) (c.in_ok-edits.ensures.ok t)
-    c.in_err-steps.field-0.0 (rw (c.as_slice.ensures.list, c.in_ok-ports.ensures, same) at c.in_err-steps.ensures.err t)))
+    c.in_err-steps.field-0.0 (rw (c.as_slice-numbers.ensures.list, c.in_ok-ports.ensures, same) at c.in_err-steps.ensures.err t)))
 
 pub returns-in_err-steps-clause-opened : goal.returns-in_err-steps-clause-opened
 returns-in_err-steps-clause-opened g c = λ t.
@@ -43,11 +43,38 @@ returns-in_err-steps-clause-opened g c = λ t.
     let same = holds_kept (g.S.Shelf.told c.args.shelf.now) (g.S.Shelf.told c.read_edits.new.shelf) (c.in_ok-edits.ensures.told t) in
     rw (p.1, p.2) (rw c.sources_of-sources.ensures.sources at (steps_opened (g.S.Shelf.told c.args.shelf.now).holds c.args.command.flow_limit (sources_view c.sources_of-sources.result) (script_view c.in_ok-edits.edits.script) (c.in_ok-edits.ensures.ok t)
     (g.S.Shelf.told c.args.shelf.now) (g.S.Shelf.told c.read_edits.new.shelf) (c.in_ok-edits.ensures.opened t) (g.S.Shelf.told c.read_steps.new.shelf)
-    c.in_err-steps.field-0.0 (rw (c.as_slice.ensures.list, c.in_ok-ports.ensures, same) at c.in_err-steps.ensures.err t) (c.in_err-steps.ensures.opened t)))
+    c.in_err-steps.field-0.0 (rw (c.as_slice-numbers.ensures.list, c.in_ok-ports.ensures, same) at c.in_err-steps.ensures.err t) (c.in_err-steps.ensures.opened t)))
 
 pub returns-in_err-steps-clause-told : goal.returns-in_err-steps-clause-told
 returns-in_err-steps-clause-told g c = λ t.
     only_read-trans (g.S.Shelf.told c.args.shelf.now) (g.S.Shelf.told c.read_edits.new.shelf) (g.S.Shelf.told c.read_steps.new.shelf) (c.in_ok-edits.ensures.told t) (c.in_err-steps.ensures.told t)
+
+-- ---- the mirrors
+
+pub returns-in_err-mirrors-clause-err : goal.returns-in_err-mirrors-clause-err
+returns-in_err-mirrors-clause-err g c = λ t.
+    let p = err_from_is_err_and c.from_residual-in_err-mirrors.result c.from_residual-in_err-mirrors.ensures.1 in
+    let same = holds_kept (g.S.Shelf.told c.args.shelf.now) (g.S.Shelf.told c.read_edits.new.shelf) (c.in_ok-edits.ensures.told t) in
+    let later = holds_kept (g.S.Shelf.told c.read_edits.new.shelf) (g.S.Shelf.told c.read_steps.new.shelf) (c.in_ok-steps.ensures.told t) in
+    rw (p.1, p.2) (rw c.sources_of-sources.ensures.sources at (mirrors_explain (g.S.Shelf.told c.args.shelf.now).holds c.args.command.flow_limit (sources_view c.sources_of-sources.result) (script_view c.in_ok-edits.edits.script) (c.in_ok-edits.ensures.ok t)
+    c.in_ok-steps.steps.items (rw (c.as_slice-numbers.ensures.list, c.in_ok-ports.ensures, same) at c.in_ok-steps.ensures.ok t)
+    c.in_err-mirrors.field-0.0 (rw (c.as_slice-numbers.ensures.list, c.in_ok-ports.ensures, later, same) at c.in_err-mirrors.ensures.err t)))
+
+pub returns-in_err-mirrors-clause-opened : goal.returns-in_err-mirrors-clause-opened
+returns-in_err-mirrors-clause-opened g c = λ t.
+    let p = err_from_is_err_and c.from_residual-in_err-mirrors.result c.from_residual-in_err-mirrors.ensures.1 in
+    let same = holds_kept (g.S.Shelf.told c.args.shelf.now) (g.S.Shelf.told c.read_edits.new.shelf) (c.in_ok-edits.ensures.told t) in
+    let later = holds_kept (g.S.Shelf.told c.read_edits.new.shelf) (g.S.Shelf.told c.read_steps.new.shelf) (c.in_ok-steps.ensures.told t) in
+    rw (p.1, p.2) (rw c.sources_of-sources.ensures.sources at (mirrors_opened (g.S.Shelf.told c.args.shelf.now).holds c.args.command.flow_limit (sources_view c.sources_of-sources.result) (script_view c.in_ok-edits.edits.script) (c.in_ok-edits.ensures.ok t)
+    c.in_ok-steps.steps.items (rw (c.as_slice-numbers.ensures.list, c.in_ok-ports.ensures, same) at c.in_ok-steps.ensures.ok t)
+    (g.S.Shelf.told c.args.shelf.now) (g.S.Shelf.told c.read_edits.new.shelf) (g.S.Shelf.told c.read_steps.new.shelf) (c.in_ok-edits.ensures.opened t) (c.in_ok-steps.ensures.opened t) (g.S.Shelf.told c.read_mirrors.new.shelf)
+    c.in_err-mirrors.field-0.0 (rw (c.as_slice-numbers.ensures.list, c.in_ok-ports.ensures, later, same) at c.in_err-mirrors.ensures.err t) (c.in_err-mirrors.ensures.opened t)))
+
+pub returns-in_err-mirrors-clause-told : goal.returns-in_err-mirrors-clause-told
+returns-in_err-mirrors-clause-told g c = λ t.
+    only_read-trans (g.S.Shelf.told c.args.shelf.now) (g.S.Shelf.told c.read_steps.new.shelf) (g.S.Shelf.told c.read_mirrors.new.shelf)
+    (only_read-trans (g.S.Shelf.told c.args.shelf.now) (g.S.Shelf.told c.read_edits.new.shelf) (g.S.Shelf.told c.read_steps.new.shelf) (c.in_ok-edits.ensures.told t) (c.in_ok-steps.ensures.told t))
+    (c.in_err-mirrors.ensures.told t)
 
 -- ---- the traces
 
@@ -56,24 +83,30 @@ returns-in_err-traces-clause-err g c = λ t.
     let p = err_from_is_err_and c.from_residual-in_err-traces.result c.from_residual-in_err-traces.ensures.1 in
     let same = holds_kept (g.S.Shelf.told c.args.shelf.now) (g.S.Shelf.told c.read_edits.new.shelf) (c.in_ok-edits.ensures.told t) in
     let later = holds_kept (g.S.Shelf.told c.read_edits.new.shelf) (g.S.Shelf.told c.read_steps.new.shelf) (c.in_ok-steps.ensures.told t) in
+    let last = holds_kept (g.S.Shelf.told c.read_steps.new.shelf) (g.S.Shelf.told c.read_mirrors.new.shelf) (c.in_ok-mirrors.ensures.told t) in
     rw (p.1, p.2) (rw c.sources_of-sources.ensures.sources at (traces_explain (g.S.Shelf.told c.args.shelf.now).holds c.args.command.flow_limit (sources_view c.sources_of-sources.result) (script_view c.in_ok-edits.edits.script) (c.in_ok-edits.ensures.ok t)
-    c.in_ok-steps.steps.items (rw (c.as_slice.ensures.list, c.in_ok-ports.ensures, same) at c.in_ok-steps.ensures.ok t)
-    c.in_err-traces.field-0.0 (rw (later, same) at c.in_err-traces.ensures.err t)))
+    c.in_ok-steps.steps.items (rw (c.as_slice-numbers.ensures.list, c.in_ok-ports.ensures, same) at c.in_ok-steps.ensures.ok t)
+    c.in_ok-mirrors.mirrors.items (rw (c.as_slice-numbers.ensures.list, c.in_ok-ports.ensures, later, same) at c.in_ok-mirrors.ensures.ok t)
+    c.in_err-traces.field-0.0 (rw (last, later, same) at c.in_err-traces.ensures.err t)))
 
 pub returns-in_err-traces-clause-opened : goal.returns-in_err-traces-clause-opened
 returns-in_err-traces-clause-opened g c = λ t.
     let p = err_from_is_err_and c.from_residual-in_err-traces.result c.from_residual-in_err-traces.ensures.1 in
     let same = holds_kept (g.S.Shelf.told c.args.shelf.now) (g.S.Shelf.told c.read_edits.new.shelf) (c.in_ok-edits.ensures.told t) in
     let later = holds_kept (g.S.Shelf.told c.read_edits.new.shelf) (g.S.Shelf.told c.read_steps.new.shelf) (c.in_ok-steps.ensures.told t) in
+    let last = holds_kept (g.S.Shelf.told c.read_steps.new.shelf) (g.S.Shelf.told c.read_mirrors.new.shelf) (c.in_ok-mirrors.ensures.told t) in
     rw (p.1, p.2) (rw c.sources_of-sources.ensures.sources at (traces_until (g.S.Shelf.told c.args.shelf.now).holds c.args.command.flow_limit (sources_view c.sources_of-sources.result) (script_view c.in_ok-edits.edits.script) (c.in_ok-edits.ensures.ok t)
-    c.in_ok-steps.steps.items (rw (c.as_slice.ensures.list, c.in_ok-ports.ensures, same) at c.in_ok-steps.ensures.ok t)
-    (g.S.Shelf.told c.args.shelf.now) (g.S.Shelf.told c.read_edits.new.shelf) (g.S.Shelf.told c.read_steps.new.shelf) (c.in_ok-edits.ensures.opened t) (c.in_ok-steps.ensures.opened t)
-    (g.S.Shelf.told c.read_traces.new.shelf) c.in_err-traces.field-0.0 (rw (later, same) at c.in_err-traces.ensures.opened t)))
+    c.in_ok-steps.steps.items (rw (c.as_slice-numbers.ensures.list, c.in_ok-ports.ensures, same) at c.in_ok-steps.ensures.ok t)
+    c.in_ok-mirrors.mirrors.items (rw (c.as_slice-numbers.ensures.list, c.in_ok-ports.ensures, later, same) at c.in_ok-mirrors.ensures.ok t)
+    (g.S.Shelf.told c.args.shelf.now) (g.S.Shelf.told c.read_edits.new.shelf) (g.S.Shelf.told c.read_steps.new.shelf) (g.S.Shelf.told c.read_mirrors.new.shelf) (c.in_ok-edits.ensures.opened t) (c.in_ok-steps.ensures.opened t) (c.in_ok-mirrors.ensures.opened t)
+    (g.S.Shelf.told c.read_traces.new.shelf) c.in_err-traces.field-0.0 (rw (last, later, same) at c.in_err-traces.ensures.opened t)))
 
 pub returns-in_err-traces-clause-told : goal.returns-in_err-traces-clause-told
 returns-in_err-traces-clause-told g c = λ t.
-    only_read-trans (g.S.Shelf.told c.args.shelf.now) (g.S.Shelf.told c.read_steps.new.shelf) (g.S.Shelf.told c.read_traces.new.shelf)
+    only_read-trans (g.S.Shelf.told c.args.shelf.now) (g.S.Shelf.told c.read_mirrors.new.shelf) (g.S.Shelf.told c.read_traces.new.shelf)
+    (only_read-trans (g.S.Shelf.told c.args.shelf.now) (g.S.Shelf.told c.read_steps.new.shelf) (g.S.Shelf.told c.read_mirrors.new.shelf)
     (only_read-trans (g.S.Shelf.told c.args.shelf.now) (g.S.Shelf.told c.read_edits.new.shelf) (g.S.Shelf.told c.read_steps.new.shelf) (c.in_ok-edits.ensures.told t) (c.in_ok-steps.ensures.told t))
+    (c.in_ok-mirrors.ensures.told t))
     (c.in_err-traces.ensures.told t)
 
 -- ---- all is read
@@ -82,9 +115,11 @@ pub returns-clause-ok : goal.returns-clause-ok
 returns-clause-ok g c = λ t.
     let same = holds_kept (g.S.Shelf.told c.args.shelf.now) (g.S.Shelf.told c.read_edits.new.shelf) (c.in_ok-edits.ensures.told t) in
     let later = holds_kept (g.S.Shelf.told c.read_edits.new.shelf) (g.S.Shelf.told c.read_steps.new.shelf) (c.in_ok-steps.ensures.told t) in
+    let last = holds_kept (g.S.Shelf.told c.read_steps.new.shelf) (g.S.Shelf.told c.read_mirrors.new.shelf) (c.in_ok-mirrors.ensures.told t) in
     gives_run_of (g.S.Shelf.told c.args.shelf.now).holds c.args.command.flow_limit (sources_view c.sources_of-sources.result) (script_view c.in_ok-edits.edits.script) (c.in_ok-edits.ensures.ok t)
-    c.in_ok-steps.steps.items (rw (c.as_slice.ensures.list, c.in_ok-ports.ensures, same) at c.in_ok-steps.ensures.ok t)
-    _ c.sources_of-sources.ensures.sources c.in_ok-traces.traces.items (rw (later, same) at c.in_ok-traces.ensures.ok t)
+    c.in_ok-steps.steps.items (rw (c.as_slice-numbers.ensures.list, c.in_ok-ports.ensures, same) at c.in_ok-steps.ensures.ok t)
+    c.in_ok-mirrors.mirrors.items (rw (c.as_slice-numbers.ensures.list, c.in_ok-ports.ensures, later, same) at c.in_ok-mirrors.ensures.ok t)
+    _ c.sources_of-sources.ensures.sources c.in_ok-traces.traces.items (rw (last, later, same) at c.in_ok-traces.ensures.ok t)
 
 pub returns-clause-within : goal.returns-clause-within
 returns-clause-within g c =
@@ -98,20 +133,25 @@ returns-clause-within g c =
       few_syncs = script.few_syncs;
       in_order = script.in_order;
       few_steps = c.in_ok-steps.ensures.few_steps;
+      few_mirrors = c.in_ok-mirrors.ensures.few_mirrors;
       rules = script.rules;
     }
 
 pub returns-clause-told : goal.returns-clause-told
 returns-clause-told g c = λ t.
-    only_read-trans (g.S.Shelf.told c.args.shelf.now) (g.S.Shelf.told c.read_steps.new.shelf) (g.S.Shelf.told c.read_traces.new.shelf)
+    only_read-trans (g.S.Shelf.told c.args.shelf.now) (g.S.Shelf.told c.read_mirrors.new.shelf) (g.S.Shelf.told c.read_traces.new.shelf)
+    (only_read-trans (g.S.Shelf.told c.args.shelf.now) (g.S.Shelf.told c.read_steps.new.shelf) (g.S.Shelf.told c.read_mirrors.new.shelf)
     (only_read-trans (g.S.Shelf.told c.args.shelf.now) (g.S.Shelf.told c.read_edits.new.shelf) (g.S.Shelf.told c.read_steps.new.shelf) (c.in_ok-edits.ensures.told t) (c.in_ok-steps.ensures.told t))
+    (c.in_ok-mirrors.ensures.told t))
     (c.in_ok-traces.ensures.told t)
 
 pub returns-clause-opened : goal.returns-clause-opened
 returns-clause-opened g c = λ t.
     let same = holds_kept (g.S.Shelf.told c.args.shelf.now) (g.S.Shelf.told c.read_edits.new.shelf) (c.in_ok-edits.ensures.told t) in
     let later = holds_kept (g.S.Shelf.told c.read_edits.new.shelf) (g.S.Shelf.told c.read_steps.new.shelf) (c.in_ok-steps.ensures.told t) in
+    let last = holds_kept (g.S.Shelf.told c.read_steps.new.shelf) (g.S.Shelf.told c.read_mirrors.new.shelf) (c.in_ok-mirrors.ensures.told t) in
     rw c.sources_of-sources.ensures.sources at (all_opened (g.S.Shelf.told c.args.shelf.now).holds c.args.command.flow_limit (sources_view c.sources_of-sources.result) (script_view c.in_ok-edits.edits.script) (c.in_ok-edits.ensures.ok t)
-    c.in_ok-steps.steps.items (rw (c.as_slice.ensures.list, c.in_ok-ports.ensures, same) at c.in_ok-steps.ensures.ok t)
-    (g.S.Shelf.told c.args.shelf.now) (g.S.Shelf.told c.read_edits.new.shelf) (g.S.Shelf.told c.read_steps.new.shelf) (c.in_ok-edits.ensures.opened t) (c.in_ok-steps.ensures.opened t)
-    (g.S.Shelf.told c.read_traces.new.shelf) (rw (later, same) at c.in_ok-traces.ensures.opened t))
+    c.in_ok-steps.steps.items (rw (c.as_slice-numbers.ensures.list, c.in_ok-ports.ensures, same) at c.in_ok-steps.ensures.ok t)
+    c.in_ok-mirrors.mirrors.items (rw (c.as_slice-numbers.ensures.list, c.in_ok-ports.ensures, later, same) at c.in_ok-mirrors.ensures.ok t)
+    (g.S.Shelf.told c.args.shelf.now) (g.S.Shelf.told c.read_edits.new.shelf) (g.S.Shelf.told c.read_steps.new.shelf) (g.S.Shelf.told c.read_mirrors.new.shelf) (c.in_ok-edits.ensures.opened t) (c.in_ok-steps.ensures.opened t) (c.in_ok-mirrors.ensures.opened t)
+    (g.S.Shelf.told c.read_traces.new.shelf) (rw (last, later, same) at c.in_ok-traces.ensures.opened t))

@@ -1,26 +1,30 @@
-use Rattle.std.specs.Prelude.{[], ◌∷◌, map}
 use Rattle.std.proofs.lemmas.Result.{err_from_is_err_and}
-use Rattle.switch_output.proofs.Written.{stopped_in_turn, then_in_turn}
+use Rattle.switch_output.proofs.Written.{stopped_in_turn, then_in_turn, unwritten_before}
 use Rattle.switch_output.proofs.writing.write_files.Goals as goal
+
+pub returns-in_err-filters : goal.returns-in_err-filters
+returns-in_err-filters g c =
+    let p = err_from_is_err_and c.from_residual.result c.from_residual.ensures.1 in
+    rw (p.1, p.2) (unwritten_before g.S.Shelf c.args.shelf.now _ _ _ c.requires.in_use)
 
 pub returns-in_err-write_port_files : goal.returns-in_err-write_port_files
 returns-in_err-write_port_files g c =
-    let p = err_from_is_err_and c.from_residual.result c.from_residual.ensures.1 in
+    let p = err_from_is_err_and c.from_residual-in_err-write_port_files.result c.from_residual-in_err-write_port_files.ensures.1 in
     rw (p.1, p.2) (stopped_in_turn g.S.Shelf _ _ _ _ _ c.in_err-write_port_files.ensures)
 
-pub returns-in_err-write_dump : goal.returns-in_err-write_dump
-returns-in_err-write_dump g c =
-    let p = err_from_is_err_and c.from_residual-in_err-write_dump.result c.from_residual-in_err-write_dump.ensures.1 in
-    rw (p.1, p.2) (then_in_turn g.S.Shelf _ _ _ _ _ _ _ c.in_ok-write_port_files.ensures (stopped_in_turn g.S.Shelf _ _ _ _ _ c.in_err-write_dump.ensures))
+pub returns-in_err-write_dumps : goal.returns-in_err-write_dumps
+returns-in_err-write_dumps g c =
+    let p = err_from_is_err_and c.from_residual-in_err-write_dumps.result c.from_residual-in_err-write_dumps.ensures.1 in
+    rw (p.1, p.2) (then_in_turn g.S.Shelf _ _ _ _ _ _ _ c.in_ok-write_port_files.ensures (stopped_in_turn g.S.Shelf _ _ _ _ _ c.in_err-write_dumps.ensures))
 
-pub returns-in_err-write_dump-2 : goal.returns-in_err-write_dump-2
-returns-in_err-write_dump-2 g c =
-    let p = err_from_is_err_and c.from_residual-in_err-write_dump-2.result c.from_residual-in_err-write_dump-2.ensures.1 in
+pub returns-in_err-write_flows : goal.returns-in_err-write_flows
+returns-in_err-write_flows g c =
+    let p = err_from_is_err_and c.from_residual-in_err-write_flows.result c.from_residual-in_err-write_flows.ensures.1 in
     rw (p.1, p.2) (then_in_turn g.S.Shelf _ _ _ _ _ _ _ c.in_ok-write_port_files.ensures
-    (then_in_turn g.S.Shelf _ _ _ _ _ _ _ c.in_ok-write_dump.ensures (stopped_in_turn g.S.Shelf _ _ _ _ _ c.in_err-write_dump-2.ensures)))
+    (then_in_turn g.S.Shelf _ _ _ _ _ _ _ c.in_ok-write_dumps.ensures (stopped_in_turn g.S.Shelf _ _ _ _ _ c.in_err-write_flows.ensures)))
 
 pub returns : goal.returns
 returns g c =
     then_in_turn g.S.Shelf _ _ _ _ _ _ _ c.in_ok-write_port_files.ensures
-    (then_in_turn g.S.Shelf _ _ _ _ _ _ _ c.in_ok-write_dump.ensures
-    (then_in_turn g.S.Shelf _ _ _ _ _ _ _ c.in_ok-write_dump-2.ensures c.write_dump-3.ensures))
+    (then_in_turn g.S.Shelf _ _ _ _ _ _ _ c.in_ok-write_dumps.ensures
+    (then_in_turn g.S.Shelf _ _ _ _ _ _ _ c.in_ok-write_flows.ensures c.write_mirror_files.ensures))

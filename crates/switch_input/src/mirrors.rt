@@ -1,0 +1,109 @@
+//! The mirrors file: its bytes, and the mirrors that they say.
+ghost use Rattle.std.specs.Prelude.{◌≡◌, ◌≤◌, [], ◌∷◌, length, Ok, IsTrue, OnOk, IfOk, IfErr, Some};
+ghost use Rattle.edge_io.specs.declared.outside.InUse.TheVariants.{Nothing};
+ghost use Rattle.edge_io.specs.ReadAll.{OnlyRead};
+ghost use Rattle.spec_run.specs.Verdict.{refused_mirrors, mirrors_within, mirrors_in, given_names};
+ghost use Rattle.spec_mirrors.specs.Mirrors.{most_mirrors_bytes, most_mirrors};
+ghost use Rattle.spec_mirrors.specs.declared.fault.MirrorFault.TheVariants as mirroring;
+ghost use Rattle.command_words.specs.CommandViews.{text_view};
+ghost use Rattle.switch_refusals.specs.Refused.{fault_view, IfInput, IfReadFault, Explains, HasReadCause, OpensInTurn};
+
+use crate::reading::read_file;
+use edge_io::Shelf;
+use mirror_script::{Mirror, MirrorFault, read_mirrors as read_mirror_script};
+use spec_run::Quantity;
+use std::alloc::Global;
+use switch_refusals::{InputFault, InputRefusal, MOST_MIRRORS_BYTES};
+
+// What becomes of a run whose mirrors file has this fault.
+fn refused(name: &str, fault: MirrorFault) -> InputRefusal<'_>
+    ensures input { IfInput result (λ told. fault_view told ≡ refused_mirrors name.now fault) }
+    ensures no_fault { IfReadFault result (λ _. ⊥) }
+    ensures no_memory { fault ≡ mirroring.OutOfMemory → result ≡ InputRefusal.OutOfMemory }
+{
+    let limit = match fault {
+        MirrorFault::OutOfMemory => return InputRefusal::OutOfMemory,
+        MirrorFault::LineTooLong => Quantity::Line,
+        MirrorFault::TooManyMirrors => Quantity::Mirrors,
+        fault => return InputRefusal::Input(InputFault::Mirrors { name, fault }),
+    };
+    InputRefusal::Input(InputFault::Limit(limit))
+}
+
+// The mirrors of the bytes of a file, for a switch of these ports.
+fn mirrors_of<'a>(
+    alloc: Global,
+    ports: &[u16],
+    name: &'a str,
+    bytes: &[u8],
+) -> Result<Vec<Mirror>, InputRefusal<'a>>
+    requires { length bytes.now ≤ most_mirrors_bytes }
+    ensures ok { IfOk result (λ v. mirrors_within ports.now name.now bytes.now ≡ Ok v.items) }
+    ensures few_mirrors { IfOk result (λ v. length v.items ≤ most_mirrors) }
+    ensures err { IfErr result (Explains (mirrors_within ports.now name.now bytes.now)) }
+    ensures no_fault { IfErr result (λ r. IfReadFault r (λ _. ⊥)) }
+{
+    match read_mirror_script(alloc, bytes, ports) {
+        Ok(mirrors) => Ok(mirrors),
+        Err(fault) => Err(refused(name, fault)),
+    }
+}
+
+// Reads the mirrors file of a name, for a switch of these ports.
+fn read_mirrors_file<'a, S: Shelf>(
+    alloc: Global,
+    shelf: &mut S,
+    ports: &[u16],
+    name: &'a str,
+) -> Result<Vec<Mirror>, InputRefusal<'a>>
+    requires { S.in_use shelf.old ≡ Nothing }
+    ensures in_use { OnOk result (S.in_use shelf.new ≡ Nothing) }
+    ensures ok { IsTrue S.tells → IfOk result
+        (λ v. mirrors_in (S.told shelf.old).holds ports.now (Some name.now) ≡ Ok v.items) }
+    ensures few_mirrors { IfOk result (λ v. length v.items ≤ most_mirrors) }
+    ensures err { IsTrue S.tells → IfErr result
+        (Explains (mirrors_in (S.told shelf.old).holds ports.now (Some name.now))) }
+    ensures fault { IfErr result (λ r. IfReadFault r (λ n. n ≡ name.now)) }
+    ensures named { IsTrue S.tells → IfErr result (λ r. IfReadFault r (λ n. (S.told shelf.new).last ≡ n)) }
+    ensures since { IsTrue S.tells →
+        IfErr result (λ r. IfReadFault r (λ _. S.counts_at_last shelf.new ≡ S.counts shelf.old)) }
+    ensures told { IsTrue S.tells → OnlyRead (S.told shelf.old) (S.told shelf.new) }
+    ensures opened { IsTrue S.tells →
+        OpensInTurn (S.told shelf.old) (S.told shelf.new) (name.now ∷ []) result }
+    ensures counts { OnOk result (S.counts shelf.new ≡ S.counts shelf.old) }
+    ensures cause { IfErr result (HasReadCause (S.counts shelf.old) (S.counts shelf.new)) }
+{
+    let too_long = InputFault::Limit(Quantity::MirrorsBytes);
+    let bytes = read_file(alloc, shelf, name, MOST_MIRRORS_BYTES, too_long)?;
+    mirrors_of(alloc, ports, name, &bytes)
+}
+
+/// Reads the mirrors file, where there is one, for a switch of these ports. Without one there is no mirror.
+pub fn read_mirrors<'a, S: Shelf>(
+    alloc: Global,
+    shelf: &mut S,
+    ports: &[u16],
+    name: Option<&'a str>,
+) -> Result<Vec<Mirror>, InputRefusal<'a>>
+    requires { S.in_use shelf.old ≡ Nothing }
+    ensures in_use { OnOk result (S.in_use shelf.new ≡ Nothing) }
+    ensures ok { IsTrue S.tells → IfOk result
+        (λ v. mirrors_in (S.told shelf.old).holds ports.now (text_view name.entry) ≡ Ok v.items) }
+    ensures few_mirrors { IfOk result (λ v. length v.items ≤ most_mirrors) }
+    ensures err { IsTrue S.tells → IfErr result
+        (Explains (mirrors_in (S.told shelf.old).holds ports.now (text_view name.entry))) }
+    ensures fault { IfErr result (λ r. IfReadFault r (λ n. text_view name.entry ≡ Some n)) }
+    ensures named { IsTrue S.tells → IfErr result (λ r. IfReadFault r (λ n. (S.told shelf.new).last ≡ n)) }
+    ensures since { IsTrue S.tells →
+        IfErr result (λ r. IfReadFault r (λ _. S.counts_at_last shelf.new ≡ S.counts shelf.old)) }
+    ensures told { IsTrue S.tells → OnlyRead (S.told shelf.old) (S.told shelf.new) }
+    ensures opened { IsTrue S.tells →
+        OpensInTurn (S.told shelf.old) (S.told shelf.new) (given_names (text_view name.entry)) result }
+    ensures counts { OnOk result (S.counts shelf.new ≡ S.counts shelf.old) }
+    ensures cause { IfErr result (HasReadCause (S.counts shelf.old) (S.counts shelf.new)) }
+{
+    match name {
+        None => Ok(Vec::new(alloc)),
+        Some(name) => read_mirrors_file(alloc, shelf, ports, name),
+    }
+}
