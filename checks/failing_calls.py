@@ -3,7 +3,7 @@
 
     failing_calls.py PROGRAM
 
-A run with given steps opens, reads and writes the files of a small switch. Each of its calls of openat, read and write
+A run with given steps, flows and mirrors opens, reads and writes the files of a small switch. Each of its calls of openat, read and write
 is made to fail with each error of ERRORS, alone. The status, the text and the files have to be those that docs/FORMATS.md
 says: a call that a signal interrupted is made again, every other failure is a fault of the file in use, a fault in
 printing the summary is told by the status alone, and one in printing a refusal leaves its status.
@@ -18,10 +18,10 @@ import tempfile
 ERRORS = ("EIO", "ENOSPC", "EACCES", "EINTR", "EAGAIN")
 CALLS = ("openat", "read", "write")
 HERE = os.path.dirname(os.path.realpath(__file__))
-WORDS = ["--steps", "steps", "edits", "out", "1=small.pcap", "2=large.pcap"]
+WORDS = ["--steps", "steps", "--netflow", "--mirrors", "mirrors", "edits", "out", "1=small.pcap", "2=large.pcap"]
 # In the order in which they are read, and written.
-READ = ["edits", "steps", "small.pcap", "large.pcap"]
-WRITTEN = ["out.p1.pcap", "out.p2.pcap", "out.rules", "out.megaflows", "out.journal"]
+READ = ["edits", "steps", "mirrors", "small.pcap", "large.pcap"]
+WRITTEN = ["out.p1.pcap", "out.p2.pcap", "out.rules", "out.megaflows", "out.journal", "out.netflow", "out.m1.pcap", "out.m2.pcap"]
 STDOUT = 1
 DONE, READ_FAULT, WRITE_FAULT = 0, 5, 6
 
@@ -43,6 +43,8 @@ def make_inputs():
         file.write("in_port=1,actions=2\nin_port=2,actions=1\n")
     with open("steps", "w") as file:
         file.write("edit\nrx 1\nsnap 1 1\nedit\nsettle 1 1\n")
+    with open("mirrors", "w") as file:
+        file.write("select_src_port=1\nselect_dst_port=2\n")
     for name, frames in (("small.pcap", 1), ("large.pcap", 2000)):
         subprocess.run([sys.executable, f"{HERE}/make_trace.py", name, str(frames), "60"], check=True)
 

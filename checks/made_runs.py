@@ -1,5 +1,5 @@
 #!/usr/bin/env python3
-"""Made-up runs, some of them out of form: words, edits, traces and steps.
+"""Made-up runs, some of them out of form: words, edits, traces, steps and mirrors.
 
 Their traces are of all four formats, mixed in a run: both orders of bytes, microseconds and nanoseconds. Their frames
 are of all protocols, some of them cut anywhere. Their rules are in several tables, match bits of frames that are in the
@@ -51,6 +51,9 @@ TRANSPORT = ("tp_src", "tp_dst")
 ODD_WORDS = ["", "-", "--", "1", "=", "0=", "01=", "65280=", "1=", "1=a.pcap", "1=none", "none"]
 ODD_WORDS += ["-1=", "--workers", "--workers=0", "--workers=1", "--workers=17", "--steps=a.pcap", "--generate=7"]
 ODD_WORDS += ["--flow-limit=0", "--flow-limit=1", "--flow-limit=1", "--flow-limit=2", "--flow-limit=65537", "--limit=1"]
+ODD_WORDS += ["--netflow", "--netflow=x", "--mirrors="]
+ODD_MIRROR_ITEMS = ["select_src_port", "select_dst_port=", "select_all=", "select_all=1", "select_src_port=01"]
+ODD_MIRROR_ITEMS += ["select_src_port=5", "select_dst_port=70000", "select_vlan=1", "Select_all", "=1", "\x80"]
 TRACES = ["a.pcap", "b.pcap", "c.pcap"]
 FRAME_LENGTHS = [0, 6, 13, 14, 60, 61, 200]
 # In nanoseconds, and sync times at them and round them, in order. A trace in microseconds has no finer ones.
@@ -257,6 +260,30 @@ class Maker(Picker):
         return words, {"steps": StepMaker(self.pick, self.ports).text().encode()}
 
 
+    def mirror_item(self):
+        port = self.one(*self.ports)
+        if self.chance(0.03):
+            return self.one(*ODD_MIRROR_ITEMS)
+        return self.one(f"select_src_port={port}", f"select_dst_port={port}", f"select_dst_port={port}", "select_all")
+
+    def mirror_line(self):
+        """A mirror, of which mostly no item stands twice; or no mirror."""
+        items = [self.mirror_item() for _ in range(self.pick.randrange(1, 4))]
+        if self.chance(0.95):
+            items = dict.fromkeys(items)
+        return self.one("", " # none", ",") if self.rarely() else self.one(",", " ", "\t,").join(items)
+
+    def outlets(self, words):
+        """The words with the flag for flows, or with mirrors, or both, and the mirrors file."""
+        if self.chance(0.4):
+            words = ["--netflow", *words]
+        if self.chance(0.6):
+            return words, {}
+        words = [f"--mirrors={self.one('mirrors', 'mirrors', 'mirrors', 'none')}", *words]
+        lines = [self.mirror_line() for _ in range(self.one(1, 2, 3, 3, 4, 17))]
+        return words, {"mirrors": "\n".join(lines).encode()}
+
+
 class CacheMaker(Maker):
     """Makes runs whose frames come again, before and after the rules have changed."""
 
@@ -355,7 +382,8 @@ def made_run(number):
     maker = (CacheMaker if number % 2 else Maker)(number)
     words, given = maker.words(), {"edits": maker.edits(), **{name: maker.trace() for name in TRACES}}
     words, steps = maker.steps(words, given)
-    return words, given | steps
+    words, mirrors = maker.outlets(words)
+    return words, given | steps | mirrors
 
 
 def results_of(journal):

@@ -21,7 +21,7 @@ from workers import PATIENCE, without_steps, wrong_in
 # The calls by which the system makes a thread.
 CALLS = ("clone", "clone3")
 # A run of made_runs.py whose rules change from block to block.
-ROUND = 11
+ROUND = 17
 # The first of the threads that are refused. A run with four workers asks for ten in each block.
 FIRST = [1, 2, 5, 6, 7, 10, 11, 16]
 

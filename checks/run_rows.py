@@ -1,5 +1,5 @@
 #!/usr/bin/env python3
-"""Worked rows of whole runs, each named by what it shows: files and steps in, and dumps, journal and summary out.
+"""Worked rows of whole runs, each named by what it shows: files, steps and mirrors in, and dumps, journal and summary out.
 
     python3 run_rows.py [PROGRAM]
 
@@ -17,7 +17,7 @@ from simulation.captures import MICROSECOND, SECOND, Frame, read_format, read_fr
 from whole_run import ended
 
 # The edits, the frames in the trace of port 1, and what is wanted of the run: see `seen`.
-Row = namedtuple("Row", "edits frames wanted words steps traces", defaults=["edits out 1=a.pcap 2=", None, {}])
+Row = namedtuple("Row", "edits frames wanted words steps traces mirrors", defaults=["edits out 1=a.pcap 2=", None, {}, None])
 STEPS_WORDS = "--steps steps edits out 1=a.pcap 2="
 
 # ---- frames
@@ -305,6 +305,59 @@ GIVEN = {
     }, STEPS_WORDS, "snap 1 4294967295|settle 1 1|check 2 1|put 2 4294967295|swept 1|open 2"),
 }
 
+# ---- flows and mirrors
+
+NETFLOW_WORDS = "--netflow edits out 1=a.pcap 2="
+MIRRORS_WORDS = "--mirrors mirrors edits out 1=a.pcap 2="
+SEND_OTHERWISE = "in_port=1,actions=2,mod_dl_dst:00:00:00:00:00:07,2"
+
+
+def datagram_from(port):
+    """The datagram from another port."""
+    return ipv4_frame(DATAGRAM_HEADER, f"{port:04x}003500080000")
+
+
+OUTLETS = {
+    "packets of a class are one flow": Row("in_port=1,actions=mod_nw_src:10.0.0.9,2", [DATAGRAM, (3 * SECOND, DATAGRAM)], {
+        "out.netflow": bytes.fromhex(
+            "00050001 000007d0 00000003 00000000 00000000 00000000"
+            "0a000001 0a000002 00000000 00010002 00000002 00000038 00000000 000007d0 03e80035 00001100 00000000 00000000"
+        ),
+    }, NETFLOW_WORDS),
+    "a datagram has 30 flows at most": Row(FROM_1, [(SECOND, datagram_from(port)) for port in range(1000, 1031)], {
+        "bytes of out.netflow": 1536,
+        "bytes 1464 to 1488 of out.netflow": bytes.fromhex("00050001 00000000 00000001 00000000 0000001e 00000000"),
+    }, NETFLOW_WORDS),
+    "without IPv4 there is no flow": Row(FROM_1, [F], {"out.netflow": b""}, NETFLOW_WORDS),
+    "what is dropped is in a flow": Row("actions=drop", [DATAGRAM], {
+        "bytes 36 to 40 of out.netflow": bytes.fromhex("00010000"),
+    }, NETFLOW_WORDS),
+    "mirrors copy what comes in, what goes out, or either": Row(WEB_TABLES, [QUESTION, WEB, WEB], {
+        "copied by 1": [QUESTION, WEB, WEB],
+        "copied by 2": [QUESTION, WEB_LOWERED, WEB_LOWERED],
+        "copied by 3": [QUESTION, WEB_ANSWER, WEB_LOWERED, WEB_LOWERED],
+    }, "--mirrors mirrors edits out 1=a.pcap 2=b.pcap", traces={"b.pcap": trace([WEB_ANSWER])},
+        mirrors="select_src_port=1|select_dst_port=2|select_src_port=2,select_dst_port=2"),
+    "a frame that is sent twice is copied once": Row(SEND_OTHERWISE, [F], {
+        "sent by 2": [F, F7], "copied by 1": [F],
+    }, MIRRORS_WORDS, mirrors="select_dst_port=2"),
+    "a mirror of all copies what is dropped": Row("actions=drop", [F, F7], {"copied by 1": [F, F7]}, MIRRORS_WORDS, mirrors="select_all"),
+}
+
+MIRROR_FAULTS = {
+    "another port": ("select_src_port=9", "mirrors:1:17: bad value"),
+    "a port with a leading zero": ("select_dst_port=01", "mirrors:1:17: bad value"),
+    "another name": ("select_all|select_vlan=5", "mirrors:2:1: unknown name"),
+    "a selection without a port": ("select_all,select_dst_port", "mirrors:1:12: syntax"),
+    "a value after what takes none": ("select_all=", "mirrors:1:1: syntax"),
+    "a byte above 127": ("select_all \xff", "mirrors:1:12: syntax"),
+    "a port twice": ("select_src_port=1 select_src_port=1", "mirrors:1:19: repeated"),
+    "all twice": ("select_all,select_all", "mirrors:1:12: repeated"),
+    "a mirror too many": ("|".join(["select_all"] * 17), "limit: mirrors 16"),
+    "a line that is too long": ("select_all" + " " * 4087, "limit: line 4096"),
+    "a file that is too long": ("|" * 65537, "limit: mirrors-bytes 65536"),
+}
+
 # ---- steps files with a fault: what they show, the file, and what is told
 
 STEPS_FAULTS = {
@@ -331,9 +384,11 @@ STEPS_FAULTS = {
     "also in a comment, after good lines and before bad ones": ("edit|#" + " " * 4096 + "|foo", "limit: line 4096"),
 }
 
-USAGE = "usage: megaswitch [--workers N] [--steps FILE] [--flow-limit N] EDITS OUT PORT=FILE..."
-GOOD = {"edits": b"actions=2", "steps": b"edit", "a.pcap": trace([F])}
-BAD = {"edits": b"actions", "steps": b"rx 3", "a.pcap": b""}
+USAGE = (
+    "usage: megaswitch [--workers N] [--steps FILE] [--flow-limit N] [--netflow] [--mirrors FILE] EDITS OUT PORT=FILE..."
+)
+GOOD = {"edits": b"actions=2", "steps": b"edit", "mirrors": b"select_all", "a.pcap": trace([F])}
+BAD = {"edits": b"actions", "steps": b"rx 3", "mirrors": b"select_src_port=3", "a.pcap": b""}
 
 # What a row shows, the words, which of the files are bad or none, the status and the text.
 REFUSALS = {
@@ -351,6 +406,14 @@ REFUSALS = {
     "a number above 32 bits": ("--generate 4294967296", "", "", 2, USAGE),
     "a number with a leading zero": ("--generate 07", "", "", 2, USAGE),
     "a flow limit of none for what a number makes": ("--generate 7 --flow-limit 0", "", "", 2, USAGE),
+    "flows of what a number makes": ("--generate 7 --netflow", "", "", 2, USAGE),
+    "mirrors of what a number makes": ("--generate 7 --mirrors mirrors", "", "", 2, USAGE),
+    "mirrors without a name": ("--mirrors= edits out 1=a.pcap 2=", "", "", 2, USAGE),
+    "a value of the flag": ("--netflow=x edits out 1=a.pcap 2=", "", "", 2, USAGE),
+    "the flag twice": ("--netflow --netflow edits out 1=a.pcap 2=", "", "", 2, USAGE),
+    "the steps are refused before the mirrors": (f"--mirrors mirrors {STEPS_WORDS}", "steps mirrors", "", 3, "steps:1:4: bad value"),
+    "and the mirrors before the traces": (f"--mirrors mirrors {STEPS_WORDS}", "mirrors a.pcap", "", 3, "mirrors:1:17: bad value"),
+    "there are no mirrors": (MIRRORS_WORDS, "a.pcap", "mirrors", 5, "read fault: mirrors"),
 }
 
 
@@ -385,17 +448,25 @@ def seen(what, end):
         return lines_of(end.text.encode())
     if found := re.fullmatch(r"sent by (\d+)", what):
         return frames_in(end.files[f"out.p{found[1]}.pcap"])
+    if found := re.fullmatch(r"copied by (\d+)", what):
+        return frames_in(end.files[f"out.m{found[1]}.pcap"])
+    if found := re.fullmatch(r"bytes of (\S+)", what):
+        return len(end.files[found[1]])
+    if found := re.fullmatch(r"bytes (\d+) to (\d+) of (\S+)", what):
+        return end.files[found[3]][int(found[1]):int(found[2])]
     if found := re.fullmatch(r"journal of (\d+)", what):
         return journal_of(found[1], lines_of(end.files["out.journal"]))
     if found := re.fullmatch(r"(\w+) in (\S+)", what):
         return values_of(found[1], lines_of(end.files[found[2]]))
-    return end.files[what] if what.endswith(".pcap") else lines_of(end.files[what])
+    return end.files[what] if what.endswith((".pcap", ".netflow")) else lines_of(end.files[what])
 
 
 def run_row(program, row):
     given = {"edits": row.edits.encode(), "a.pcap": trace(row.frames), **row.traces}
     if row.steps is not None:
         given["steps"] = row.steps.replace("|", "\n").encode()
+    if row.mirrors is not None:
+        given["mirrors"] = row.mirrors.replace("|", "\n").encode()
     return ended(program, row.words.split(), given)
 
 
@@ -405,11 +476,17 @@ def refused(program, words, given):
     return end.status, lines_of(end.text.encode()), end.files
 
 
-def refusal_rows(program):
-    for name, (text, wanted) in STEPS_FAULTS.items():
-        given = GOOD | {"steps": text.replace("|", "\n").encode("latin-1")}
+def fault_rows(program, words, file, faults):
+    """A row for each fault of one file."""
+    for name, (text, wanted) in faults.items():
+        given = GOOD | {file: text.replace("|", "\n").encode("latin-1")}
         status = 7 if wanted.startswith("limit") else 3
-        yield name, refused(program, STEPS_WORDS, given), (status, wanted, {})
+        yield name, refused(program, words, given), (status, wanted, {})
+
+
+def refusal_rows(program):
+    yield from fault_rows(program, STEPS_WORDS, "steps", STEPS_FAULTS)
+    yield from fault_rows(program, MIRRORS_WORDS, "mirrors", MIRROR_FAULTS)
     for name, (words, bad, missing, status, text) in REFUSALS.items():
         given = {it: (BAD if it in bad.split() else GOOD)[it] for it in GOOD if it not in missing.split()}
         yield name, refused(program, words, given), (status, text, {})
@@ -417,7 +494,7 @@ def refusal_rows(program):
 
 def all_rows(program):
     """Each row: its name, what is given, and what is wanted."""
-    for name, row in {**RUNS, **GIVEN}.items():
+    for name, row in {**RUNS, **GIVEN, **OUTLETS}.items():
         end = run_row(program, row)
         yield f"{name}: the status", end.status, 0
         for what, wanted in row.wanted.items() if end.status == 0 else []:

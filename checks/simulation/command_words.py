@@ -6,7 +6,8 @@ from .caches import FLOW_LIMIT
 from .flow_text import LAST_PORT
 from .refusals import check_words
 
-OPTIONS = ["workers", "steps", "flow-limit", "generate"]
+OPTIONS = ["workers", "steps", "flow-limit", "mirrors", "generate"]
+FLAGS = ["netflow"]
 MOST_WORKERS = 16
 MOST_FLOWS = 65536
 # The greatest number that makes an input.
@@ -17,8 +18,9 @@ NUMBER = re.compile(r"0|[1-9][0-9]*")
 PORT_WORD = re.compile(r"([1-9][0-9]{0,4})=(.*)", re.DOTALL)
 
 # How many workers there are and the most entries of a port. Then the name of the edits, the start of the names of outputs,
-# the name of each port's trace, and the name of the steps file or None; or the number that makes the input.
-Command = namedtuple("Command", "workers flow_limit edits out traces steps number", defaults=[None] * 5)
+# the name of each port's trace, the names of the steps file and of the mirrors file or None, and whether the flows are
+# written; or the number that makes the input.
+Command = namedtuple("Command", "workers flow_limit edits out traces steps mirrors netflow number", defaults=[None] * 7)
 
 
 def is_text(word):
@@ -32,7 +34,7 @@ def is_plain(word):
 
 
 def split_words(words):
-    """The values of options, and the other words. After `--` each word is one of these."""
+    """The values of options, or None for those that take none, and the other words. After `--` each word is one of these."""
     options, plain, rest = {}, [], iter(words)
     for word in rest:
         if word == "--":
@@ -41,10 +43,13 @@ def split_words(words):
             plain.append(word)
         else:
             name, has_value, value = word[2:].partition("=")
-            if not has_value:
+            if name in FLAGS:
+                check_words(not has_value)
+                value = None
+            elif not has_value:
                 value = next(rest, "--")
                 check_words(is_plain(value))
-            check_words(word.startswith("--") and name in OPTIONS and name not in options)
+            check_words(word.startswith("--") and name in OPTIONS + FLAGS and name not in options)
             options[name] = value
     return options, plain
 
@@ -79,7 +84,7 @@ def read_words(words):
 def read_made_words(options, plain, command):
     """What a number makes takes the place of all files."""
     number = read_number(options["generate"], MOST_MADE)
-    check_words(not plain and "steps" not in options)
+    check_words(not plain and not options.keys() & {"steps", "mirrors", "netflow"})
     return command._replace(number=number)
 
 
@@ -87,5 +92,12 @@ def read_file_words(options, plain, command):
     """Steps aren't given to workers."""
     check_words(len(plain) >= 2 and plain[0] and plain[1])
     check_words("steps" not in options or (options["steps"] and not command.workers))
-    traces = read_ports(plain[2:])
-    return command._replace(edits=plain[0], out=plain[1], traces=traces, steps=options.get("steps"))
+    check_words(options.get("mirrors") != "")
+    return command._replace(
+        edits=plain[0],
+        out=plain[1],
+        traces=read_ports(plain[2:]),
+        steps=options.get("steps"),
+        mirrors=options.get("mirrors"),
+        netflow="netflow" in options,
+    )

@@ -13,7 +13,7 @@ from .flow_fields import (
 
 LIMITS = {
     "edits-bytes": 33554432, "line": 4096, "edits": 32768, "syncs": 63, "actions": 64, "changes": 1048576,
-    "steps-bytes": 4194304, "steps": 131072,
+    "steps-bytes": 4194304, "steps": 131072, "mirrors-bytes": 65536, "mirrors": 16,
 }
 
 SYNTAX, UNKNOWN_NAME, UNSUPPORTED, BAD_VALUE = "syntax", "unknown name", "unsupported", "bad value"
@@ -125,16 +125,22 @@ def read_script(data):
     """The edits and sync points of a file. Raises its first fault, or what is above its limit."""
     refuse_over(len(data), "edits-bytes")
     edits, syncs = [], []
-    for number, line in enumerate(data.split(b"\n"), 1):
-        try:
-            read_line(line.decode("latin-1"), edits, syncs)
-        except TextFault as fault:
-            raise TextFault(fault.reason, fault.column, number) from None
+    read_lines(data, read_line, edits, syncs)
     return Script(edits, syncs)
 
 
+def read_lines(data, read, *arguments):
+    """Hands the lines of a file to a reader, and tells the number of the first that has a fault. The length of each is tested
+    before it is read."""
+    for number, line in enumerate(data.split(b"\n"), 1):
+        refuse_over(len(line), "line")
+        try:
+            read(line.decode("latin-1"), *arguments)
+        except TextFault as fault:
+            raise TextFault(fault.reason, fault.column, number) from None
+
+
 def read_line(line, edits, syncs):
-    refuse_over(len(line), "line")
     text = line.partition("#")[0]
     words = parts_of(text, WHITE)
     if not words:

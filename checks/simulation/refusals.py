@@ -2,7 +2,9 @@
 
 DONE, USAGE, BAD_TEXT, BAD_TRACE, READ_FAULT, WRITE_FAULT, LIMIT = 0, 2, 3, 4, 5, 6, 7
 
-USAGE_TEXT = "usage: megaswitch [--workers N] [--steps FILE] [--flow-limit N] EDITS OUT PORT=FILE..."
+USAGE_TEXT = (
+    "usage: megaswitch [--workers N] [--steps FILE] [--flow-limit N] [--netflow] [--mirrors FILE] EDITS OUT PORT=FILE..."
+)
 
 
 class Refused(Exception):

@@ -2,7 +2,7 @@
 import re
 from collections import namedtuple
 
-from .flow_text import BAD_VALUE, SYNTAX, UNKNOWN_NAME, TextFault, parts_of, refuse_over, require
+from .flow_text import BAD_VALUE, SYNTAX, UNKNOWN_NAME, parts_of, read_lines, refuse_over, require
 
 GAPS = " \t"
 LAST_NUMBER = 4294967295
@@ -20,17 +20,12 @@ def read_steps(data, ports):
     """The steps of a file, for a switch of these ports. Raises its first fault, or what is above its limit."""
     refuse_over(len(data), "steps-bytes")
     steps = []
-    for number, line in enumerate(data.split(b"\n"), 1):
-        try:
-            read_line(line.decode("latin-1"), ports, steps)
-        except TextFault as fault:
-            raise TextFault(fault.reason, fault.column, number) from None
+    read_lines(data, read_line, ports, steps)
     return steps
 
 
 def read_line(line, ports, steps):
     """Adds the step of a line, where one stands in it."""
-    refuse_over(len(line), "line")
     words = parts_of(line.partition("#")[0], GAPS)
     if words:
         refuse_over(len(steps) + 1, "steps")

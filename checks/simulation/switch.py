@@ -8,6 +8,8 @@ from .dumps import journal_text, megaflows_text, rules_text, summary_text
 from .flow_rules import last_version
 from .flow_text import OverLimit, TextFault, read_script
 from .generator import EDITS, PORTS, generate, trace_name
+from .mirrors import copied_frames, read_mirrors
+from .netflow import netflow_bytes
 from .refusals import BAD_TEXT, DONE, LIMIT, READ_FAULT, Refused
 from .replay import replayed
 from .rewriting import sent
@@ -15,8 +17,8 @@ from .schedule import Schedule
 from .steps import read_steps
 
 # What a run is made of: its edits and sync points, the rules that all of them make, the frames of each port, the unit of
-# the files that are written, and the steps, or None where none are given.
-Input = namedtuple("Input", "script rules frames unit steps")
+# the files that are written, and the steps, or None where none are given. And its mirrors.
+Input = namedtuple("Input", "script rules frames unit steps mirrors", defaults=[()])
 # How many steps were given, and how many of these weren't met.
 Given = namedtuple("Given", "steps unmet")
 Result = namedtuple("Result", "status text files")
@@ -44,12 +46,15 @@ def read_edits(data):
 
 
 def read_input(command, read):
-    """Reads the edits, then the steps, then the traces in the order of the words."""
+    """Reads the edits, then the steps, then the mirrors, then the traces in the order of the words."""
     script, rules = read_text(read_edits, read(command.edits), command.edits)
     steps = None
     if command.steps is not None:
         steps = read_text(lambda data: read_steps(data, command.traces), read(command.steps), command.steps)
-    return Input(script, rules, *read_traces(command.traces, read), steps)
+    mirrors = []
+    if command.mirrors is not None:
+        mirrors = read_text(lambda data: read_mirrors(data, command.traces), read(command.mirrors), command.mirrors)
+    return Input(script, rules, *read_traces(command.traces, read), steps, mirrors)
 
 
 def made_input(number):
@@ -62,11 +67,15 @@ def made_input(number):
 # ---- the switch
 
 
+def decided_frames(boards):
+    """The frames of all ports with their actions, in the order of time, ingress port and place."""
+    return sorted((pair for board in boards for pair in board.decided), key=lambda pair: pair[0][:3])
+
+
 def sent_frames(boards):
-    """What leaves by each port, in the order of time, ingress port, place and position in the actions."""
-    decided = [pair for board in boards for pair in board.decided]
+    """What leaves by each port, in the order of the decided frames and of the position in the actions."""
     leaving = {board.port: [] for board in boards}
-    for frame, actions in sorted(decided, key=lambda pair: pair[0][:3]):
+    for frame, actions in decided_frames(boards):
         for port, data in sent(actions, frame.bytes):
             leaving[port].append(frame._replace(bytes=data))
     return leaving
@@ -80,15 +89,21 @@ def run(given, flow_limit):
     return list(schedule.boards.values()), taken
 
 
-def files_of(out, given, boards, leaving):
+def files_of(command, given, boards, leaving):
     """The files of a run, in the order in which they are written."""
+    out, decided = command.out, decided_frames(boards)
     ports = [(f"{out}.p{port}.pcap", write_trace(frames, given.unit)) for port, frames in leaving.items()]
     dumps = {
         "rules": rules_text(given.rules, boards),
         "megaflows": megaflows_text(boards),
         "journal": journal_text(boards),
     }
-    return ports + [(f"{out}.{name}", text.encode()) for name, text in dumps.items()]
+    flows = [(f"{out}.netflow", netflow_bytes(boards))] if command.netflow else []
+    copies = [
+        (f"{out}.m{number}.pcap", write_trace(copied_frames(mirror, decided), given.unit))
+        for number, mirror in enumerate(given.mirrors, 1)
+    ]
+    return ports + [(f"{out}.{name}", text.encode()) for name, text in dumps.items()] + flows + copies
 
 
 def simulate(words, contents, journal=None):
@@ -112,5 +127,5 @@ def simulate(words, contents, journal=None):
         boards, steps = run(given, command.flow_limit)
     leaving = sent_frames(boards)
     summary = summary_text(given.script, boards, sum(map(len, leaving.values())), steps)
-    files = [] if command.out is None else files_of(command.out, given, boards, leaving)
+    files = [] if command.out is None else files_of(command, given, boards, leaving)
     return Result(DONE, summary, files)
