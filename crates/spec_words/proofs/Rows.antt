@@ -4,9 +4,11 @@ use Rattle.std.specs.List.{range_with_len}
 use Rattle.std.specs.Option.{option_map}
 use Rattle.std.specs.Fmt.{digits, decimal}
 use Rattle.clap.specs.Faults.{is_simple_and_free}
+use Rattle.clap.specs.declared.builder.value_parser.Reading.{Reading}
+use Rattle.clap.specs.declared.parser.matches.ValueSource.{ValueSource}
 use Rattle.clap.proofs.OnLiterals.{clap_on_literals}
 use Rattle.spec_numbers.specs.Numbers.{digits_upto, decimal_upto}
-use Rattle.spec_words.specs.Words.{Command, Input, FilesNamed, Files, Made, PortWord, app, port_number, port_word, new_port, port_words, files_in, command_in, command_of}
+use Rattle.spec_words.specs.Words.{Command, Input, FilesNamed, Files, Made, PortWord, app, port_number, port_word, new_port, port_words, ports_of, files_in, command_in, command_of}
 
 -- of this command `clap` says exactly which words it takes, and what they say
 the_command_is_simple : is_simple_and_free app ≡ true
@@ -115,6 +117,12 @@ a_switch_has_at_most_32_ports :
     × (refused (codes "e" ∷ codes "o" ∷ ports_upto 33))
 unfolding command_of command_in files_in digits port_words new_port port_word port_number decimal_upto digits_upto clap_on_literals
 a_switch_has_at_most_32_ports = (refl, refl)
+
+-- a TRACE without a word is no port, whatever stands beside it
+a_switch_has_a_port : (source : Option ValueSource) (reading : Reading)
+    → ports_of (record { id = codes "TRACE"; values = []; count = None; source = source; reading = reading } ∷ []) ≡ None
+unfolding clap_on_literals
+a_switch_has_a_port source reading = refl
 
 -- a port is a decimal number from 1 to 65279, without zeros before other digits
 abbrev ports_and_what_they_are : List (List ℕ × Option ℕ)
