@@ -4,8 +4,9 @@ use Rattle.spec_frames.specs.declared.layout.L3.TheVariants.{Ipv4}
 use Rattle.spec_frames.specs.Key.{key_of}
 use Rattle.spec_frames.specs.Layout.{layout_of}
 use Rattle.spec_netflow.specs.Flows.{class_of}
+use Rattle.netflow_laws.proofs.IcmpPorts.{type_and_code}
 use Rattle.netflow_v5.specs.Views.{class_view}
-use Rattle.netflow_v5.proofs.Packets.{some_octets, type_and_code}
+use Rattle.netflow_v5.proofs.Packets.{some_octets}
 use Rattle.netflow_v5.proofs.flow.alone.Goals as goal
 
 pub told_destination-requires : goal.told_destination-requires
