@@ -1,7 +1,8 @@
 pub mod Alike
-pub mod Difference
-pub mod Deciding
-pub mod Times
 pub mod AlikeLists
-pub mod Nodes
+pub mod Crossing
+pub mod Deciding
+pub mod Difference
 pub mod LookLaws
+pub mod Nodes
+pub mod Times

@@ -115,7 +115,7 @@ split_at q [] m = absurd m
 split_at q (p ∷ ps) (inl e) = record { before = []; after = ps; is = ap (λ (r : Prefix). r ∷ ps) (sym e) }
 split_at q (p ∷ ps) (inr m) = let s = split_at q ps m in record { before = p ∷ s.before; after = s.after; is = ap (λ (rs : List Prefix). p ∷ rs) s.is }
 
-as_long : (xs ys : List Prefix) → ((q : Prefix) → times q xs ≡ times q ys) → length xs ≡ length ys
+pub as_long : (xs ys : List Prefix) → ((q : Prefix) → times q xs ≡ times q ys) → length xs ≡ length ys
 as_long [] [] same = refl
 as_long [] (y ∷ ys) same =
     let s = stands y (y ∷ ys) (inl refl) in

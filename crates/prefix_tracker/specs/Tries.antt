@@ -14,7 +14,7 @@ own_prefixes width bits length count = replicate count (prefix_at width bits len
 -- the prefixes of a trie
 abbrev pub prefixes_in : ℕ → Trie → List Prefix
 prefixes_in width Empty = []
-prefixes_in width (Fork' p bits length count like unlike) = own_prefixes width bits length count ++ (prefixes_in width like ++ prefixes_in width unlike)
+prefixes_in width (Fork' p like unlike bits length count) = own_prefixes width bits length count ++ (prefixes_in width like ++ prefixes_in width unlike)
 
 -- and those of a node
 abbrev pub node_prefixes : ℕ → Node → List Prefix
@@ -53,9 +53,9 @@ pub record IsNode (width : ℕ) (n : Node) : Type 0 where
 -- each node of a trie has prefixes, and those below it stand where its number says
 abbrev pub IsTrie : ℕ → Trie → Type 0
 IsTrie width Empty = Unit {0}
-IsTrie width (Fork' p bits length count like unlike) = IsNode width (record { bits = bits; length = length; count = count; like = like; unlike = unlike }) × IsTrie width like × IsTrie width unlike
+IsTrie width (Fork' p like unlike bits length count) = IsNode width (record { bits = bits; length = length; count = count; like = like; unlike = unlike }) × IsTrie width like × IsTrie width unlike
 
 -- but that the first node may have none
 abbrev pub IsNearlyTrie : ℕ → Trie → Type 0
 IsNearlyTrie width Empty = Unit {0}
-IsNearlyTrie width (Fork' p bits length count like unlike) = IsSplit width (record { bits = bits; length = length; count = count; like = like; unlike = unlike }) × IsTrie width like × IsTrie width unlike
+IsNearlyTrie width (Fork' p like unlike bits length count) = IsSplit width (record { bits = bits; length = length; count = count; like = like; unlike = unlike }) × IsTrie width like × IsTrie width unlike

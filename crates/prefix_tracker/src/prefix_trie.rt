@@ -15,9 +15,9 @@ use std::marker::Model;
 /// A list of prefixes of numbers of one width, in which each may stand often.
 #[derive(Drop)]
 pub struct PrefixTrie {
-    alloc: Global,
-    width: u32,
     root: Trie,
+    width: u32,
+    alloc: Global,
 }
 
 impl Model for PrefixTrie {

@@ -1,4 +1,5 @@
 pub mod AlikeRules
+pub mod Crossing
 pub mod KeyLaws
 pub mod Members
 pub mod OnlyCount

@@ -55,11 +55,11 @@ fn kind_of(before: &Mask, part: &Mask, mask: &Mask) -> StageKind
 /// stage tests them.
 #[derive(Drop)]
 pub(crate) struct Stage {
-    pub(crate) kind: StageKind,
+    pub(crate) counts: KeyCounts,
     pub(crate) part: Mask,
     /// The part, as it masks keys.
     pub(crate) key_mask: KeyMask,
-    pub(crate) counts: KeyCounts,
+    pub(crate) kind: StageKind,
 }
 
 impl Stage {

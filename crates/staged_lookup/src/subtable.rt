@@ -24,17 +24,18 @@ use std::alloc::{AllocError, Global};
 /// The rules of one mask.
 #[derive(Drop)]
 pub struct Subtable {
-    pub(crate) alloc: Global,
-    pub(crate) mask: Mask,
-    /// The mask, as it masks keys.
-    pub(crate) key_mask: KeyMask,
-    /// The keys of the rules by their numbers.
-    pub(crate) keys: IndexMap<u32, Key>,
-    /// The ranks of the rules with each key.
-    pub(crate) buckets: Buckets,
+    // The maps stand first: the search for `Send` goes a step deeper with each field before them.
     pub(crate) metadata: Stage,
     pub(crate) ethernet: Stage,
     pub(crate) network: Stage,
+    /// The ranks of the rules with each key.
+    pub(crate) buckets: Buckets,
+    /// The keys of the rules by their numbers.
+    pub(crate) keys: IndexMap<u32, Key>,
+    pub(crate) mask: Mask,
+    /// The mask, as it masks keys.
+    pub(crate) key_mask: KeyMask,
+    pub(crate) alloc: Global,
 }
 
 impl Subtable {

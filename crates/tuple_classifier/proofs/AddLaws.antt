@@ -1,11 +1,9 @@
 -- What an add does to the live rules is what it does to the rules of a version.
-use Rattle.std.proofs.Common.{◌≡◌, ℕ, suc, ◌+◌, ◌^◌, ◌<◌, ◌≤◌, Bool, true, false, ◌&&◌, ◌==◌, not, if◌then◌else◌, List, [], ◌∷◌, ◌++◌, length, filter, get_or, Vec, inl, inr, ◌⊎◌, refl, sym, ap, ap₂, ◌∙◌, subst, arith, eq-eqb}
-use Rattle.std.specs.declared.alloc.Global.{Global}
+use Rattle.std.proofs.Common.{◌≡◌, ℕ, ◌+◌, ◌<◌, ◌≤◌, Bool, true, ◌&&◌, ◌==◌, not, List, [], ◌∷◌, ◌++◌, length, filter, get_or, inl, inr, ◌⊎◌, refl, sym, ap, ap₂, ◌∙◌, subst, arith, eq-eqb}
 use Rattle.std.proofs.lemmas.Bool.{false≢true, and_parts}
-use Rattle.std.proofs.lemmas.List.{map-append, length-append, length-map}
-use Rattle.std.proofs.lemmas.List.Sums.{count_by-le-length}
+use Rattle.std.proofs.lemmas.List.{map-append, length-append}
 use Rattle.spec_actions.specs.declared.action.OfAction.{OfAction}
-use Rattle.spec_keys.specs.Keys.{same, masked}
+use Rattle.spec_keys.specs.Keys.{same}
 use Rattle.spec_tables.specs.declared.edit_word.EditWord.{EditWord}
 use Rattle.spec_tables.specs.declared.edit_word.EditWord.TheVariants.{Add}
 use Rattle.spec_tables.specs.Rules.{Match, Rule, is_same_match, rules_in}
@@ -14,60 +12,57 @@ use Rattle.translation_laws.proofs.MemberLaws.{Among, Among_in-map, Among-filter
 use Rattle.ovs_fields.specs.Packed.{bits}
 use Rattle.rule_tables.specs.Views.{match_view, rule_view}
 use Rattle.tuple_classifier.specs.declared.live.LiveRule.{LiveRule}
-use Rattle.tuple_classifier.specs.declared.stage.Stage.{Stage}
-use Rattle.tuple_classifier.specs.declared.subtable.Subtable.{Subtable}
-use Rattle.tuple_classifier.specs.ByTable.{AreClassified, CountMoreRules}
-use Rattle.tuple_classifier.specs.Live.{live_view, live_rules, plain_rule, plain_rules, IsRising, AreIdentified}
+use Rattle.tuple_classifier.specs.declared.table.Table.{Table}
+use Rattle.tuple_classifier.specs.ByTable.{AreClassified, HaveNoRule}
+use Rattle.tuple_classifier.specs.Live.{live_view, live_rules, plain_rule, plain_rules, IsRising, AreIdentified, ArePlaced}
 use Rattle.tuple_classifier.specs.Parts.{of_mask}
 use Rattle.tuple_classifier.specs.Held.{AreTablesOf}
-use Rattle.tuple_classifier.specs.Stages.{IsStage, CountsFewer}
 use Rattle.tuple_classifier.proofs.EditLaws.{is_unnamed, unnamed_rules, last_list, more_lists}
 use Rattle.tuple_classifier.proofs.LiveLaws.{plain_rising, seen_rising, rising_kept}
-use Rattle.tuple_classifier.proofs.Members.{among_map}
+use Rattle.staged_lookup.proofs.Members.{among_map}
 use Rattle.tuple_classifier.proofs.Places.{turned}
+use Rattle.tuple_classifier.proofs.TablesLaws.{rules_of}
 
--- ---- there are so few rules that one more can be counted
+-- ---- no rule has the number of the next version
 
-few_from : (rs : List Rule) (b v : ℕ) → b ≤ v + 1 → IsRising rs → ((r : Rule) → Among r rs → b ≤ r.number) → ((r : Rule) → Among r rs → r.number ≤ v) → b + length rs ≤ v + 1
-few_from [] b v le rising from to = omega arith
-few_from (r ∷ rs) b v le rising from to =
-    let h = from r (inl refl) in
-    let t = to r (inl refl) in
-    let more = few_from rs (r.number + 1) v (omega (arith, t)) rising.1 (λ s m. (let lt = rising.0 s m in omega (arith, lt))) (λ s m. to s (inr m)) in
-    omega (arith, h, more)
-
-shorter : (p : Rule → Bool) (rs : List Rule) → length (filter p rs) ≤ length rs
-shorter p [] = omega arith
-shorter p (r ∷ rs) = at (p r) (shorter p rs)
+pub have_no_rule : (version number : ℕ) (live : List LiveRule) (lists : List (List OfAction)) (ts : List Table) → AreTablesOf version live lists ts → number ≡ version + 1 → HaveNoRule number ts
+have_no_rule version number live lists ts is next table i t s at_t at =
+    let rules = rules_of ts table t (rules_in table (plain_rules live)) at_t (is.classified table) in
+    (of_mask (bits s.staged.mask) (rules_in table (plain_rules live)), (rules.ranked.subtables.each i s at).staged, fresh)
   where
-    at : (t : Bool) → length (filter p rs) ≤ length rs → length (if t then r ∷ filter p rs else filter p rs) ≤ suc (length rs)
-    at true le = omega (arith, le)
-    at false le = omega (arith, le)
+    fresh : (r : Rule) → Among r (of_mask (bits s.staged.mask) (rules_in table (plain_rules live))) → r.number ≡ number → ⊥
+    fresh r m e =
+        let a = Among-filter (λ (x : Rule). same x.matching.mask (bits s.staged.mask)) r (rules_in table (plain_rules live)) m in
+        let b = Among-filter (λ (x : Rule). x.table == table) r (plain_rules live) a.0 in
+        let l = among_map plain_rule r live b.0 in
+        let old = is.of_version.numbered (live_view lists l.0) (Among_in-map (live_view lists) l.0 live l.1) in
+        let same_number = ap (λ (x : Rule). x.number) l.2 in
+        omega (arith, old, same_number, e, next)
 
-counts_fewer : (s : Stage) (before part mask : List ℕ) (rs : List Rule) → IsStage s before part mask rs → length rs < 2 ^ 63 → CountsFewer s
-counts_fewer s before part mask rs is few tested key =
-    let c = is.counted tested key in
-    let le = count_by-le-length (λ (r : Rule). same key (masked r.matching.key part)) rs in
-    omega (arith, c, le, few)
+-- ---- there are no more rules than versions
 
-pub counts_more : (rules : List Rule) (ts : List (Vec Subtable Global)) → AreClassified ts rules → length rules < 2 ^ 63 → CountMoreRules ts
-counts_more rules ts is few table i s at =
-    let of = (is table).each i s at in
-    let a = shorter (λ (r : Rule). same r.matching.mask (bits s.mask)) (rules_in table rules) in
-    let b = shorter (λ (r : Rule). r.table == table) rules in
-    let fewer : length (of_mask (bits s.mask) (rules_in table rules)) < 2 ^ 63 = omega (arith, a, b, few) in
-    record {
-      metadata = counts_fewer s.indexes.metadata _ _ _ _ of.indexed.metadata fewer;
-      ethernet = counts_fewer s.indexes.ethernet _ _ _ _ of.indexed.ethernet fewer;
-      network = counts_fewer s.indexes.network _ _ _ _ of.indexed.network fewer;
-    }
+few_from : (first last : ℕ) (rs : List Rule) → IsRising rs → ((r : Rule) → Among r rs → (first ≤ r.number) × (r.number ≤ last)) → first ≤ last + 1 → first + length rs ≤ last + 1
+few_from first last [] rising within le = omega (arith, le)
+few_from first last (r ∷ rs) rising within le =
+    let own = within r (inl refl) in
+    let low = own.0 in
+    let high = own.1 in
+    let rest = few_from (r.number + 1) last rs rising.1 (λ s m. let up = rising.0 s m in (omega (arith, up), (within s (inr m)).1)) (omega (arith, high)) in
+    omega (arith, low, rest)
 
-pub few_rules : (version : ℕ) (live : List LiveRule) (lists : List (List OfAction)) (ts : List (Vec Subtable Global)) → AreTablesOf version live lists ts → version + 1 < 2 ^ 32 → length (plain_rules live) < 2 ^ 63
-few_rules version live lists ts is room =
-    let few = few_from (live_rules lists live) 0 version (omega arith) is.of_version.rising (λ r m. omega arith) is.of_version.numbered in
-    let a = length-map live (live_view lists) in
-    let b = length-map live plain_rule in
-    omega (arith, few, a, b, room)
+pub few_rules : (version : ℕ) (live : List LiveRule) (lists : List (List OfAction)) (ts : List Table) (places : List ℕ) → AreTablesOf version live lists ts → ArePlaced live places
+    → length (plain_rules live) ≤ version
+few_rules version live lists ts places is placed =
+    let few = few_from 1 version (plain_rules live) (plain_rising lists live is.of_version.rising) within (omega arith) in
+    omega (arith, few)
+  where
+    within : (r : Rule) → Among r (plain_rules live) → (1 ≤ r.number) × (r.number ≤ version)
+    within r m =
+        let l = among_map plain_rule r live m in
+        let is_number = ap (λ (x : Rule). x.number) l.2 in
+        let low = (placed l.0 l.1).within.positive in
+        let high = is.of_version.numbered (live_view lists l.0) (Among_in-map (live_view lists) l.0 live l.1) in
+        (omega (arith, is_number, low), omega (arith, is_number, high))
 
 -- ---- one rule more
 
@@ -88,7 +83,7 @@ match_turned m n is =
 pub plain_more : (live : List LiveRule) (l : LiveRule) → plain_rules (live ++ l ∷ []) ≡ plain_rules live ++ plain_rule l ∷ []
 plain_more live l = map-append plain_rule live (l ∷ [])
 
-module _ (e : Edit) (version : ℕ) (live : List LiveRule) (lists : List (List OfAction)) (ts : List (Vec Subtable Global)) (is : AreTablesOf version live lists ts) (l : LiveRule)
+module _ (e : Edit) (version : ℕ) (live : List LiveRule) (lists : List (List OfAction)) (ts : List Table) (is : AreTablesOf version live lists ts) (l : LiveRule)
     (view : (actions : List OfAction) → rule_view l.rule actions ≡ record (rule_of (version + 1) e) { actions = actions }) where
   pub number_is : l.rule.number ≡ version + 1
   number_is = ap (λ (r : Rule). r.number) (view [])
@@ -140,7 +135,7 @@ module _ (e : Edit) (version : ℕ) (live : List LiveRule) (lists : List (List O
       at (inr p) (inr q) a b d = ap (λ (y : LiveRule). y.rule.number) (p ∙ sym q)
 
   module _ (x : List OfAction) (given : l.given ≡ length lists) where
-    pub sound_added : (live' : List LiveRule) (lists' : List (List OfAction)) (ts' : List (Vec Subtable Global)) → live' ≡ filter (is_unnamed e) live ++ l ∷ [] → lists' ≡ lists ++ x ∷ []
+    pub sound_added : (live' : List LiveRule) (lists' : List (List OfAction)) (ts' : List Table) → live' ≡ filter (is_unnamed e) live ++ l ∷ [] → lists' ≡ lists ++ x ∷ []
         → AreClassified ts' (plain_rules live') → AreTablesOf (version + 1) live' lists' ts'
     sound_added live' lists' ts' is_live is_lists classified =
         subst (λ (k : List LiveRule). AreClassified ts' (plain_rules k) → AreTablesOf (version + 1) k lists' ts') (sym is_live)

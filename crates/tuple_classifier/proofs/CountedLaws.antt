@@ -1,5 +1,5 @@
 -- Numbers kept with their counts, and the list of numbers that these stand for.
-use Rattle.std.proofs.Common.{◌≡◌, ℕ, zero, suc, ◌+◌, ◌*◌, ◌<◌, ◌≤◌, Bool, true, false, ◌||◌, ◌==◌, if◌then◌else◌, List, [], ◌∷◌, length, get_or, set, replicate, All, refl, sym, ap, ap₂, inl, inr, ◌⊎◌, ◌-◌, ◌&&◌, nat_lt, ◌∙◌, subst, arith, eqb-true, eq-eqb}
+use Rattle.std.proofs.Common.{◌≡◌, ℕ, zero, suc, ◌+◌, ◌*◌, ◌<◌, ◌≤◌, Bool, true, false, ◌||◌, ◌==◌, if◌then◌else◌, List, [], ◌∷◌, length, get_or, set, replicate, All, refl, sym, ap, ap₂, inl, inr, ◌⊎◌, ◌-◌, ◌∙◌, subst, arith, eqb-true, eq-eqb}
 use Rattle.std.specs.List.{list_any, insert, remove, sum_by}
 use Rattle.std.specs.List.Sorted.{IsNonDecreasing, IsNonDecreasingBy}
 use Rattle.std.proofs.lemmas.List.{get_or-map, length-map}
@@ -7,15 +7,15 @@ use Rattle.std.proofs.lemmas.List.Elements.{All-replicate}
 use Rattle.std.proofs.lemmas.Bool.{cases_lt}
 use Rattle.std.proofs.lemmas.List.Edits.{get_or-insert_above, get_or-insert_at, get_or-insert_below, length-insert}
 use Rattle.std.proofs.lemmas.List.Sorted.{IsNonDecreasingBy-insert}
-use Rattle.spec_xlate.specs.Lookup.{starts_alike}
 use Rattle.std.proofs.lemmas.List.Folds.{list_any_none, sum_by-replicate}
 use Rattle.std.proofs.lemmas.List.Sums.{sum_by-append, sum_by-cons, sum_by-insert, sum_by-remove, sum_by-set}
-use Rattle.translation_laws.proofs.MemberLaws.{Among, All-Among, All_from-Among}
+use Rattle.translation_laws.proofs.MemberLaws.{Among, list_any_from-Among}
 use Rattle.tuple_classifier.specs.declared.sorted.Counted.{Counted}
 use Rattle.tuple_classifier.specs.Numbers.{times, numbers_in, entry_numbers, entry_counts}
-use Rattle.tuple_classifier.proofs.FieldLaws.{stands, stood}
+use Rattle.tuple_classifier.proofs.Times.{stands, stood}
 use Rattle.tuple_classifier.proofs.Nearest.{IsBeyond, stands_before}
-use Rattle.tuple_classifier.proofs.Members.{any-append, any_among, any_from}
+use Rattle.staged_lookup.proofs.Members.{any_among}
+use Rattle.std.proofs.lemmas.List.Folds.{list_any-append}
 
 -- ---- how often a number stands among them
 
@@ -80,20 +80,12 @@ pub any_numbers : (p : ℕ → Bool) (cs : List Counted) → All (λ (c : Counte
 unfolding numbers_in
 any_numbers p [] counted = refl
 any_numbers p (c ∷ cs) counted =
-    any-append p (replicate c.count c.number) (numbers_in cs)
+    list_any-append p (replicate c.count c.number) (numbers_in cs)
     ∙ ap₂ (λ (a b : Bool). a || b) (any_replicate p c.count c.number (counted 0 c (omega arith))) (any_numbers p cs (λ k d lt. counted (suc k) d (omega arith)))
-
-among_numbers : (v : ℕ) (cs : List Counted) → All (λ (c : Counted). 0 < c.count) cs → Among v (entry_numbers cs) → Among v (numbers_in cs)
-among_numbers v cs counted m =
-    let h = any_among (λ x. x == v) (numbers_in cs) (any_numbers (λ x. x == v) cs counted ∙ any_from (λ x. x == v) v (entry_numbers cs) m (eq-eqb v v refl)) in
-    subst (λ (u : ℕ). Among u (numbers_in cs)) (eqb-true h.0 v h.2) h.1
-
-pub all_entries : (P : ℕ → Type 0) (cs : List Counted) → All (λ (c : Counted). 0 < c.count) cs → All P (numbers_in cs) → All P (entry_numbers cs)
-all_entries P cs counted all = All_from-Among P (entry_numbers cs) (λ v m. All-Among P (numbers_in cs) all v (among_numbers v cs counted m))
 
 entry_stands : (v : ℕ) (cs : List Counted) → All (λ (c : Counted). 0 < c.count) cs → 0 < times v (numbers_in cs) → 0 < times v (entry_numbers cs)
 entry_stands v cs counted some =
-    let h = any_among (λ x. x == v) (entry_numbers cs) (sym (any_numbers (λ x. x == v) cs counted) ∙ any_from (λ x. x == v) v (numbers_in cs) (stood v (numbers_in cs) some) (eq-eqb v v refl)) in
+    let h = any_among (λ x. x == v) (entry_numbers cs) (sym (any_numbers (λ x. x == v) cs counted) ∙ list_any_from-Among (λ x. x == v) v (numbers_in cs) (stood v (numbers_in cs) some) (eq-eqb v v refl)) in
     stands v (entry_numbers cs) (subst (λ (u : ℕ). Among u (entry_numbers cs)) (eqb-true h.0 v h.2) h.1)
 
 -- ---- their order
@@ -153,8 +145,3 @@ entry_before x cs i is rising counted some =
     let l = length-map cs (λ (c : Counted). c.number) in
     let low = h.1 in
     (h.0, omega (arith, l, low), h.2)
-
-pub alike_at : (cs ds : List Counted) (place w x n : ℕ) (s : Bool) → ds ≡ cs → (nat_lt place (length ds) && starts_alike w x (get_or (entry_numbers ds) place 0) n) ≡ s
-    → (nat_lt place (length (entry_numbers cs)) && starts_alike w x (get_or (entry_numbers cs) place 0) n) ≡ s
-alike_at cs ds place w x n s same h =
-    ap₂ (λ (l : ℕ) (es : List ℕ). nat_lt place l && starts_alike w x (get_or es place 0) n) (length-map cs (λ (c : Counted). c.number) ∙ sym (ap length same)) (sym (ap entry_numbers same)) ∙ h

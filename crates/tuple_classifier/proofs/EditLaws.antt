@@ -1,8 +1,7 @@
 -- What edits do to the live rules is what they do to the rules of a version.
-use Rattle.std.proofs.Common.{◌≡◌, ℕ, zero, suc, ◌+◌, ◌<◌, ◌≤◌, Bool, true, false, ◌&&◌, ◌==◌, not, if◌then◌else◌, List, [], ◌∷◌, ◌++◌, append-nil, length, map, filter, get_or, Option, Some, None, Vec, inl, inr, refl, sym, ap, ap₂, ◌∙◌, subst, arith, eqb-true, eq-eqb, unwrap_or}
+use Rattle.std.proofs.Common.{◌≡◌, ℕ, zero, suc, ◌+◌, ◌<◌, ◌≤◌, Bool, true, false, ◌&&◌, ◌==◌, not, if◌then◌else◌, List, [], ◌∷◌, ◌++◌, append-nil, length, map, filter, get_or, Option, Some, None, inl, inr, refl, sym, ap, ap₂, ◌∙◌, subst, arith, eqb-true, eq-eqb, unwrap_or}
 use Rattle.std.specs.List.{find}
 use Rattle.std.specs.Option.{option_map, option_map_or}
-use Rattle.std.specs.declared.alloc.Global.{Global}
 use Rattle.std.proofs.lemmas.Bool.{cond-true, cond-false, false≢true, and_parts}
 use Rattle.std.proofs.Common.{take, drop}
 use Rattle.std.proofs.lemmas.List.{length-append, drop_all, take_all}
@@ -19,18 +18,19 @@ use Rattle.ovs_fields.specs.Equality.{equal_from_same, same_from_equal}
 use Rattle.rule_tables.specs.Views.{rule_view}
 use Rattle.rule_tables.specs.Stored.{picks, is_picked_by, is_modify}
 use Rattle.tuple_classifier.specs.declared.live.LiveRule.{LiveRule}
-use Rattle.tuple_classifier.specs.declared.subtable.Subtable.{Subtable}
+use Rattle.tuple_classifier.specs.declared.table.Table.{Table}
 use Rattle.tuple_classifier.specs.ByTable.{AreClassified}
 use Rattle.tuple_classifier.specs.Live.{live_view, live_rules, plain_rule, plain_rules, is_kept, is_unlike, given_by, IsRising, AreIdentified, AreOfVersion}
 use Rattle.tuple_classifier.specs.Held.{AreTablesOf}
 use Rattle.tuple_classifier.proofs.Lengths.{not_equal}
 use Rattle.tuple_classifier.proofs.LiveLaws.{rising_kept, plain_rising, seen_rising, map_filter, rising_distinct}
-use Rattle.tuple_classifier.proofs.Members.{among_map, same_tests}
+use Rattle.staged_lookup.proofs.Members.{among_map}
+use Rattle.std.proofs.lemmas.Bool.Decides.{same_from_decides}
 use Rattle.tuple_classifier.proofs.WinnerLaws.{one_of_number}
 
 -- ---- the parts moved
 
-pub sound_moved : (version : ℕ) (live live' : List LiveRule) (lists lists' : List (List OfAction)) (ts ts' : List (Vec Subtable Global)) → live' ≡ live → lists' ≡ lists
+pub sound_moved : (version : ℕ) (live live' : List LiveRule) (lists lists' : List (List OfAction)) (ts ts' : List Table) → live' ≡ live → lists' ≡ lists
     → AreClassified ts' (plain_rules live) → AreTablesOf version live lists ts → AreTablesOf version live' lists' ts'
 sound_moved version live live' lists lists' ts ts' is_live is_lists classified is =
     subst (λ (k : List LiveRule). AreTablesOf version k lists' ts') (sym is_live) (subst (λ (k : List (List OfAction)). AreTablesOf version live k ts') (sym is_lists)
@@ -57,7 +57,7 @@ of_version_filter lists p live version is = record {
 later_version : (rs : List Rule) (version : ℕ) → AreOfVersion rs version → AreOfVersion rs (version + 1)
 later_version rs version is = record { rising = is.rising; numbered = λ r m. (let h = is.numbered r m in omega (arith, h)); identified = is.identified }
 
-pub sound_filter : (version : ℕ) (live live' : List LiveRule) (lists : List (List OfAction)) (ts ts' : List (Vec Subtable Global)) (p : LiveRule → Bool) → live' ≡ filter p live
+pub sound_filter : (version : ℕ) (live live' : List LiveRule) (lists : List (List OfAction)) (ts ts' : List Table) (p : LiveRule → Bool) → live' ≡ filter p live
     → AreClassified ts' (plain_rules live') → AreTablesOf version live lists ts → AreTablesOf (version + 1) live' lists ts'
 sound_filter version live live' lists ts ts' p is_live classified is =
     subst (λ (k : List LiveRule). AreClassified ts' (plain_rules k) → AreTablesOf (version + 1) k lists ts') (sym is_live)
@@ -148,9 +148,11 @@ module _ (e : Edit) (lists : List (List OfAction)) (live : List LiveRule) (versi
       let f = find_some (is_named_by e) (plain_rules live) r h in
       let k = among_map plain_rule r live f.0 in
       let named : is_named_by e (plain_rule k.0) ≡ true = sym (ap (is_named_by e) k.2) ∙ f.1 in
-      same_tests (l.rule.number == r.number) (is_named_by e (plain_rule l))
-      (λ q. ap (is_named_by e) (same_of_number l k.0 m k.1 (eqb-true l.rule.number r.number q ∙ ap (λ (x : Rule). x.number) k.2)) ∙ named)
-      (λ q. eq-eqb l.rule.number r.number (one_named l k.0 m k.1 q named ∙ sym (ap (λ (x : Rule). x.number) k.2)))
+      same_from_decides {P = is_named_by e (plain_rule l) ≡ true} (l.rule.number == r.number) (is_named_by e (plain_rule l)) (
+        (λ q. ap (is_named_by e) (same_of_number l k.0 m k.1 (eqb-true l.rule.number r.number q ∙ ap (λ (x : Rule). x.number) k.2)) ∙ named),
+        (λ q. eq-eqb l.rule.number r.number (one_named l k.0 m k.1 q named ∙ sym (ap (λ (x : Rule). x.number) k.2))),
+      )
+      (λ e. e, λ e. e)
 
   pub none_named : find (is_named_by e) (plain_rules live) ≡ None → (l : LiveRule) → Among l live → is_named_by e (plain_rule l) ≡ false
   none_named h l m = find_none_of (is_named_by e) (plain_rules live) h (plain_rule l) (Among_in-map plain_rule l live m)
@@ -247,7 +249,7 @@ pub modified_all : (e : Edit) (lists lists' : List (List OfAction)) (x : List Of
 modified_all e lists lists' x live live' number word is given is_lists is_live =
     ap₂ live_rules is_lists is_live ∙ modified_rules e lists x live is given ∙ modifies e.word e number (live_rules lists live) word
 
-pub sound_modified : (e : Edit) (version : ℕ) (live live' : List LiveRule) (lists lists' : List (List OfAction)) (x : List OfAction) (ts : List (Vec Subtable Global))
+pub sound_modified : (e : Edit) (version : ℕ) (live live' : List LiveRule) (lists lists' : List (List OfAction)) (x : List OfAction) (ts : List Table)
     → lists' ≡ lists ++ x ∷ [] → live' ≡ map (given_by e (length lists)) live → AreTablesOf version live lists ts → AreTablesOf (version + 1) live' lists' ts
 sound_modified e version live live' lists lists' x ts is_lists is_live is =
     subst (λ (k : List LiveRule). AreTablesOf (version + 1) k lists' ts) (sym is_live) (subst (λ (k : List (List OfAction)). AreTablesOf (version + 1) (map (given_by e (length lists)) live) k ts) (sym is_lists)

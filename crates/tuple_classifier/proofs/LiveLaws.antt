@@ -5,30 +5,26 @@ use Rattle.std.specs.List.Sorted.{IsNonDecreasingBy}
 use Rattle.std.proofs.lemmas.Bool.{cond-true, cond-false}
 use Rattle.std.proofs.lemmas.Option.{same_Some}
 use Rattle.spec_actions.specs.declared.action.OfAction.{OfAction}
-use Rattle.spec_tables.specs.Rules.{Rule, winner, rules_in}
+use Rattle.spec_tables.specs.Rules.{Rule, winner}
 use Rattle.spec_tables.specs.Live.{rule_numbered, is_live}
 use Rattle.spec_xlate.specs.Lookup.{consults}
-use Rattle.translation_laws.proofs.MemberLaws.{Among, Among_in-map, Among_in-filter, Among-filter, Among-append, Among-append_left, Among-append_right}
-use Rattle.std.proofs.Common.{Vec, ⊎_elim, take, drop, append_assoc, append-nil}
+use Rattle.translation_laws.proofs.MemberLaws.{Among, Among_in-map, Among-filter, Among-append, Among-append_left, Among-append_right}
+use Rattle.std.proofs.Common.{⊎_elim, take, drop, append_assoc, append-nil}
 use Rattle.std.proofs.lemmas.List.{drop_more, drop_all, take_more, take_all, take-append-drop}
 use Rattle.std.proofs.lemmas.List.Elements.{filter-append}
-use Rattle.std.specs.declared.alloc.Global.{Global}
 use Rattle.std.proofs.lemmas.Bool.{cases_lt}
-use Rattle.spec_keys.specs.Keys.{same}
-use Rattle.ovs_fields.specs.Packed.{numbers, bits}
-use Rattle.tuple_classifier.specs.declared.subtable.Subtable.{Subtable}
-use Rattle.tuple_classifier.specs.ByTable.{subtables_at, AreClassified}
-use Rattle.tuple_classifier.specs.Indexes.{HaveRule}
-use Rattle.tuple_classifier.specs.Parts.{of_mask}
+use Rattle.rule_tables.specs.Views.{match_view}
+use Rattle.tuple_classifier.specs.declared.table.Table.{Table}
+use Rattle.tuple_classifier.specs.ByTable.{AreClassified, HaveRuleOf}
+use Rattle.staged_lookup.specs.declared.rank.Rank.{Rank}
 use Rattle.tuple_classifier.specs.Ranks.{rank_of}
 use Rattle.tuple_classifier.specs.declared.live.LiveRule.{LiveRule}
 use Rattle.tuple_classifier.specs.Live.{live_view, live_rules, plain_rule, plain_rules, is_unlike, IsRising}
-use Rattle.tuple_classifier.specs.Numbered.{AreDistinct, without}
+use Rattle.staged_lookup.specs.Numbered.{AreDistinct, without}
 use Rattle.tuple_classifier.proofs.Lengths.{not_equal}
-use Rattle.tuple_classifier.proofs.Members.{any_among, among_map, among_at, place_of_among, count-cons, counted_among}
+use Rattle.staged_lookup.proofs.Members.{any_among, among_map, count-cons, counted_among}
+use Rattle.tuple_classifier.proofs.Members.{among_at, place_of_among}
 use Rattle.tuple_classifier.proofs.PartLaws.{among_from_place}
-use Rattle.tuple_classifier.proofs.Places.{turned}
-use Rattle.tuple_classifier.proofs.SubtableLaws.{has_rule}
 
 -- ---- nothing to look at
 
@@ -192,16 +188,17 @@ without_unlike number live = sym (map_filter plain_rule (is_unlike number) (λ (
 
 -- ---- a live rule in the subtables
 
-pub live_has : (ts : List (Vec Subtable Global)) (live : List LiveRule) (l : LiveRule) (priority : ℕ) → AreClassified ts (plain_rules live) → Among l live → priority ≡ l.rule.priority
-    → (i : ℕ) (s : Subtable) → slice_get (subtables_at ts l.rule.table) i ≡ Some s → same (bits s.mask) (bits l.rule.matching.mask) ≡ true
-    → HaveRule s.indexes (numbers l.rule.matching.key) priority
-live_has ts live l priority are m is i s at alike =
-    let r : Rule = plain_rule l in
-    let table : Among r (rules_in l.rule.table (plain_rules live)) = Among_in-filter (λ (x : Rule). x.table == l.rule.table) r (plain_rules live) (Among_in-map plain_rule l live m) (eq-eqb l.rule.table l.rule.table refl) in
-    let part : Among r (of_mask (bits s.mask) (rules_in l.rule.table (plain_rules live))) =
-    Among_in-filter (λ (x : Rule). same x.matching.mask (bits s.mask)) r (rules_in l.rule.table (plain_rules live)) table (turned (bits s.mask) (bits l.rule.matching.mask) true alike) in
-    subst (λ (p : ℕ). HaveRule s.indexes (numbers l.rule.matching.key) p) (sym is)
-    (has_rule s (numbers l.rule.matching.key) (rank_of r) (of_mask (bits s.mask) (rules_in l.rule.table (plain_rules live))) r ((are l.rule.table).each i s at) part refl refl)
+pub live_has : (ts : List Table) (live : List LiveRule) (l : LiveRule) (rank : Rank) → AreClassified ts (plain_rules live) → Among l live → rank ≡ rank_of (plain_rule l)
+    → HaveRuleOf ts l.rule.table (match_view l.rule.matching) rank
+live_has ts live l rank are m is = record {
+  rules = plain_rules live;
+  rule = plain_rule l;
+  are = are;
+  among = Among_in-map plain_rule l live m;
+  table_is = refl;
+  matching_is = refl;
+  rank_is = sym is;
+}
 
 -- ---- places
 

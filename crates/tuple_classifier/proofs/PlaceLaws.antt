@@ -11,7 +11,8 @@ use Rattle.tuple_classifier.specs.declared.live.LiveRule.{LiveRule}
 use Rattle.tuple_classifier.specs.Live.{plain_rule, plain_rules, given_by, given_to, IsRising, IsWithinPlaces, IsPlaced, ArePlaced}
 use Rattle.tuple_classifier.proofs.EditLaws.{given_keeps}
 use Rattle.tuple_classifier.proofs.LiveLaws.{live_at, same_default}
-use Rattle.tuple_classifier.proofs.Members.{among_map, among_at, place_of_among}
+use Rattle.staged_lookup.proofs.Members.{among_map}
+use Rattle.tuple_classifier.proofs.Members.{among_at, place_of_among}
 
 pub placed_filter : (p : LiveRule → Bool) (live : List LiveRule) (places : List ℕ) → ArePlaced live places → ArePlaced (filter p live) places
 placed_filter p live places is l m = is l (Among-filter p l live m).0

@@ -1,7 +1,8 @@
 -- The places of masks among subtables.
-use Rattle.std.proofs.Common.{◌≡◌, ℕ, zero, suc, ◌+◌, ◌<◌, ◌≤◌, Bool, true, false, List, [], ◌∷◌, ◌++◌, length, set, get_or, slice_get, Some, inl, inr, ◌⊎◌, refl, sym, ap, ◌∙◌, subst, arith}
+use Rattle.std.proofs.Common.{◌≡◌, ℕ, zero, suc, ◌+◌, ◌<◌, ◌≤◌, Bool, true, false, List, [], ◌∷◌, ◌++◌, append-nil, length, set, get_or, take, drop, slice_get, Some, inl, inr, ◌⊎◌, refl, sym, ap, ◌∙◌, subst, arith}
 use Rattle.std.specs.List.{remove}
 use Rattle.std.proofs.lemmas.Bool.{cases_eq}
+use Rattle.std.proofs.lemmas.List.{drop_all, take_all}
 use Rattle.std.proofs.lemmas.Option.{slice_get-get_or, slice_get_within, same_Some}
 use Rattle.spec_keys.specs.Keys.{same}
 use Rattle.ovs_fields.specs.Equality.{equal_from_same, same_from_equal}
@@ -11,13 +12,13 @@ use Rattle.tuple_classifier.specs.declared.subtable.Subtable.{Subtable}
 pub there : (ss : List Subtable) (i : ℕ) (x s : Subtable) → i < length ss → x ≡ get_or ss i x → slice_get ss i ≡ Some s → x ≡ s
 there ss i x s le is at = same_Some x s (ap Some is ∙ sym (slice_get-get_or ss i x le) ∙ at)
 
-pub has_mask : (ss : List Subtable) (mask : List ℕ) (i : ℕ) (x : Subtable) (hit t : Bool) → i < length ss → x ≡ get_or ss i x → hit ≡ same (bits x.mask) mask → hit ≡ t
-    → (s : Subtable) → slice_get ss i ≡ Some s → same (bits s.mask) mask ≡ t
-has_mask ss mask i x hit t le is test so s at = ap (λ (v : Subtable). same (bits v.mask) mask) (sym (there ss i x s le is at)) ∙ sym test ∙ so
+pub has_mask : (ss : List Subtable) (mask : List ℕ) (i : ℕ) (x : Subtable) (hit t : Bool) → i < length ss → x ≡ get_or ss i x → hit ≡ same (bits x.staged.mask) mask → hit ≡ t
+    → (s : Subtable) → slice_get ss i ≡ Some s → same (bits s.staged.mask) mask ≡ t
+has_mask ss mask i x hit t le is test so s at = ap (λ (v : Subtable). same (bits v.staged.mask) mask) (sym (there ss i x s le is at)) ∙ sym test ∙ so
 
-pub not_yet : (ss : List Subtable) (mask : List ℕ) (i : ℕ) (x : Subtable) (hit : Bool) → i < length ss → x ≡ get_or ss i x → hit ≡ same (bits x.mask) mask → hit ≡ false
-    → ((j : ℕ) (s : Subtable) → j < i → slice_get ss j ≡ Some s → same (bits s.mask) mask ≡ false)
-    → (j : ℕ) (s : Subtable) → j < i + 1 → slice_get ss j ≡ Some s → same (bits s.mask) mask ≡ false
+pub not_yet : (ss : List Subtable) (mask : List ℕ) (i : ℕ) (x : Subtable) (hit : Bool) → i < length ss → x ≡ get_or ss i x → hit ≡ same (bits x.staged.mask) mask → hit ≡ false
+    → ((j : ℕ) (s : Subtable) → j < i → slice_get ss j ≡ Some s → same (bits s.staged.mask) mask ≡ false)
+    → (j : ℕ) (s : Subtable) → j < i + 1 → slice_get ss j ≡ Some s → same (bits s.staged.mask) mask ≡ false
 not_yet ss mask i x hit le is test so before j s below at =
     elim (cases_eq j i) [
       | inl e ↦ has_mask ss mask i x hit false le is test so s (subst (λ (k : ℕ). slice_get ss k ≡ Some s) e at)
@@ -25,8 +26,8 @@ not_yet ss mask i x hit le is test so before j s below at =
     ]
 
 pub nowhere : (ss : List Subtable) (mask : List ℕ) (i : ℕ) → length ss ≤ i
-    → ((j : ℕ) (s : Subtable) → j < i → slice_get ss j ≡ Some s → same (bits s.mask) mask ≡ false)
-    → (j : ℕ) (s : Subtable) → slice_get ss j ≡ Some s → same (bits s.mask) mask ≡ false
+    → ((j : ℕ) (s : Subtable) → j < i → slice_get ss j ≡ Some s → same (bits s.staged.mask) mask ≡ false)
+    → (j : ℕ) (s : Subtable) → slice_get ss j ≡ Some s → same (bits s.staged.mask) mask ≡ false
 nowhere ss mask i all before j s at = let within = slice_get_within ss j s at in before j s (omega arith) at
 
 pub turned : (a b : List ℕ) (t : Bool) → same a b ≡ t → same b a ≡ t
@@ -100,6 +101,20 @@ moved_apart (suc p) zero (suc j) e = absurd (let f : zero ≡ suc (moved p j) = 
 moved_apart (suc p) (suc i) zero e = absurd (let f : suc (moved p i) ≡ zero = e in omega arith)
 moved_apart (suc p) (suc i) (suc j) e = let f : suc (moved p i) ≡ suc (moved p j) = e in ap suc (moved_apart p i j (omega arith))
 
+pub moved_not : (p j : ℕ) → moved p j ≡ p → ⊥
+unfolding moved
+moved_not zero j e = omega (arith, e)
+moved_not (suc p) zero e = omega (arith, e)
+moved_not (suc p) (suc j) e = moved_not p j (let f : suc (moved p j) ≡ suc p = e in omega (arith, f))
+
+pub moved_less : (p i j : ℕ) → i < j → moved p i < moved p j
+unfolding moved
+moved_less zero i j less = omega (arith, less)
+moved_less (suc p) zero zero less = absurd (omega (arith, less))
+moved_less (suc p) zero (suc j) less = omega arith
+moved_less (suc p) (suc i) zero less = absurd (omega (arith, less))
+moved_less (suc p) (suc i) (suc j) less = let ih = moved_less p i j (omega (arith, less)) in omega (arith, ih)
+
 pub at_removed : (ss : List Subtable) (p j : ℕ) (u : Subtable) → slice_get (remove ss p) j ≡ Some u → slice_get ss (moved p j) ≡ Some u
 unfolding moved
 at_removed [] zero j u at = absurd (cc)
@@ -120,3 +135,9 @@ removed_at (w ∷ ss) (suc p) (suc i) u other at = let r = removed_at ss p i u (
 
 pub at_place : (ss given : List Subtable) (i : ℕ) (x : Subtable) → given ≡ ss → i < length given → x ≡ get_or ss i x → slice_get ss i ≡ Some x
 at_place ss given i x is le at = let same_length : length given ≡ length ss = ap length is in slice_get-get_or ss i x (omega arith) ∙ ap Some (sym at)
+
+-- a list that was lent and written whole
+pub written_whole : (xs ys : List Subtable) (n : ℕ) → length ys ≡ length xs → n ≡ length xs → take n (ys ++ drop (length ys) xs) ≡ ys
+written_whole xs ys n same all =
+    ap (λ (zs : List Subtable). take n (ys ++ zs)) (drop_all (length ys) xs (omega (arith, same)))
+    ∙ ap (take n) (append-nil ys) ∙ take_all n ys (omega (arith, same, all))

@@ -1,5 +1,5 @@
 -- The subtables of a table, as rules come and go.
-use Rattle.std.proofs.Common.{◌≡◌, ℕ, ◌≤◌, Bool, true, false, ◌&&◌, ◌==◌, not, if◌then◌else◌, List, [], ◌∷◌, ◌++◌, append-nil, length, set, filter, slice_get, Option, Some, None, inl, inr, ◌⊎◌, refl, sym, ap, ap₂, ◌∙◌, subst, arith, eqb-true}
+use Rattle.std.proofs.Common.{◌≡◌, ℕ, ◌≤◌, nat_le, Bool, true, false, ◌&&◌, ◌==◌, not, if◌then◌else◌, List, [], ◌∷◌, ◌++◌, append-nil, length, set, filter, slice_get, Option, Some, None, inl, inr, ◌⊎◌, refl, sym, ap, ap₂, ◌∙◌, subst, arith, eqb-true}
 use Rattle.std.specs.List.{find, remove, count_by}
 use Rattle.std.proofs.lemmas.Bool.{cases_eq, cond-true, cond-false, false≢true}
 use Rattle.std.proofs.lemmas.List.Elements.{filter-append}
@@ -9,14 +9,20 @@ use Rattle.spec_tables.specs.Rules as tables
 use Rattle.spec_tables.specs.Rules.{Rule, is_same_match}
 use Rattle.translation_laws.proofs.MemberLaws.{Among, Among-append, Among-filter, Among_in-filter}
 use Rattle.ovs_fields.specs.Equality.{equal_from_same, same_from_equal}
+use Rattle.rule_tables.specs.declared.matching.Match.{Match}
+use Rattle.rule_tables.specs.Views.{match_view}
 use Rattle.ovs_fields.specs.Packed.{bits}
 use Rattle.tuple_classifier.specs.declared.subtable.Subtable.{Subtable}
-use Rattle.tuple_classifier.specs.Numbered.{AreDistinct, without}
+use Rattle.staged_lookup.specs.Numbered.{AreDistinct, without}
+use Rattle.tuple_classifier.specs.Numbers.{numbers_in}
+use Rattle.tuple_classifier.specs.Order.{AreRankedOf}
 use Rattle.tuple_classifier.specs.Parts.{AreApart, AreSubtablesOf, HasMask, of_mask}
 use Rattle.tuple_classifier.specs.Subtables.{IsSubtableOf}
-use Rattle.tuple_classifier.proofs.Members.{count-cons}
+use Rattle.staged_lookup.proofs.Members.{count-cons}
+use Rattle.tuple_classifier.proofs.OrderLaws.{falling_same}
 use Rattle.tuple_classifier.proofs.Places.{turned, at_set, set_at, set_elsewhere, at_end_of, end_at, before_end, moved, moved_apart, at_removed, removed_at}
-use Rattle.tuple_classifier.proofs.Removed.{all_stay}
+use Rattle.staged_lookup.proofs.Removed.{all_stay}
+use Rattle.tuple_classifier.proofs.PriorityLaws.{any_priority}
 use Rattle.tuple_classifier.proofs.WinnerLaws.{one_of_number}
 
 -- ---- lists
@@ -100,16 +106,16 @@ part_stays mask rs r distinct m other =
 
 -- ---- a subtable in the place of another
 
-mask_stood : (ss : List Subtable) (i : ℕ) (s t : Subtable) → slice_get ss i ≡ Some s → bits t.mask ≡ bits s.mask → (j : ℕ) (u : Subtable) → slice_get (set ss i t) j ≡ Some u
-    → (v : Subtable) × (slice_get ss j ≡ Some v) × (bits u.mask ≡ bits v.mask)
+mask_stood : (ss : List Subtable) (i : ℕ) (s t : Subtable) → slice_get ss i ≡ Some s → bits t.staged.mask ≡ bits s.staged.mask → (j : ℕ) (u : Subtable) → slice_get (set ss i t) j ≡ Some u
+    → (v : Subtable) × (slice_get ss j ≡ Some v) × (bits u.staged.mask ≡ bits v.staged.mask)
 mask_stood ss i s t is e j u at = by (at_set ss i j s t u is at)
   where
-    by : ((j ≡ i) × (t ≡ u)) ⊎ ((j ≡ i → ⊥) × (slice_get ss j ≡ Some u)) → (v : Subtable) × (slice_get ss j ≡ Some v) × (bits u.mask ≡ bits v.mask)
-    by (inl h) = (s, ap (slice_get ss) h.0 ∙ is, ap (λ (x : Subtable). bits x.mask) (sym h.1) ∙ e)
+    by : ((j ≡ i) × (t ≡ u)) ⊎ ((j ≡ i → ⊥) × (slice_get ss j ≡ Some u)) → (v : Subtable) × (slice_get ss j ≡ Some v) × (bits u.staged.mask ≡ bits v.staged.mask)
+    by (inl h) = (s, ap (slice_get ss) h.0 ∙ is, ap (λ (x : Subtable). bits x.staged.mask) (sym h.1) ∙ e)
     by (inr h) = (u, h.1, refl)
 
-pub put_in_place : (ss : List Subtable) (rs rs' : List Rule) (i : ℕ) (s t : Subtable) → AreSubtablesOf ss rs → slice_get ss i ≡ Some s → bits t.mask ≡ bits s.mask
-    → IsSubtableOf t (of_mask (bits s.mask) rs') → ((m : List ℕ) → same m (bits s.mask) ≡ false → of_mask m rs' ≡ of_mask m rs) → ((r : Rule) → Among r rs' → HasMask ss r.matching.mask)
+pub put_in_place : (ss : List Subtable) (rs rs' : List Rule) (i : ℕ) (s t : Subtable) → AreSubtablesOf ss rs → slice_get ss i ≡ Some s → bits t.staged.mask ≡ bits s.staged.mask
+    → IsSubtableOf t (of_mask (bits s.staged.mask) rs') → ((m : List ℕ) → same m (bits s.staged.mask) ≡ false → of_mask m rs' ≡ of_mask m rs) → ((r : Rule) → Among r rs' → HasMask ss r.matching.mask)
     → AreSubtablesOf (set ss i t) rs'
 put_in_place ss rs rs' i s t are is e own others covered = record { apart = apart; each = each; covered = λ r m. covers r.matching.mask (covered r m) }
   where
@@ -119,14 +125,14 @@ put_in_place ss rs rs' i s t are is e own others covered = record { apart = apar
         let b = mask_stood ss i s t is e k v kv in
         are.apart j k a.0 b.0 a.1 b.1 (sym (ap₂ same a.2 b.2) ∙ alike)
 
-    each : (j : ℕ) (u : Subtable) → slice_get (set ss i t) j ≡ Some u → IsSubtableOf u (of_mask (bits u.mask) rs')
+    each : (j : ℕ) (u : Subtable) → slice_get (set ss i t) j ≡ Some u → IsSubtableOf u (of_mask (bits u.staged.mask) rs')
     each j u at = by (at_set ss i j s t u is at)
       where
-        by : ((j ≡ i) × (t ≡ u)) ⊎ ((j ≡ i → ⊥) × (slice_get ss j ≡ Some u)) → IsSubtableOf u (of_mask (bits u.mask) rs')
-        by (inl h) = subst (λ (x : Subtable). IsSubtableOf x (of_mask (bits x.mask) rs')) h.1 (subst (λ (m : List ℕ). IsSubtableOf t (of_mask m rs')) (sym e) own)
+        by : ((j ≡ i) × (t ≡ u)) ⊎ ((j ≡ i → ⊥) × (slice_get ss j ≡ Some u)) → IsSubtableOf u (of_mask (bits u.staged.mask) rs')
+        by (inl h) = subst (λ (x : Subtable). IsSubtableOf x (of_mask (bits x.staged.mask) rs')) h.1 (subst (λ (m : List ℕ). IsSubtableOf t (of_mask m rs')) (sym e) own)
         by (inr h) =
-            let other : same (bits u.mask) (bits s.mask) ≡ false = untrue (same (bits u.mask) (bits s.mask)) (λ (q : same (bits u.mask) (bits s.mask) ≡ true). h.0 (are.apart j i u s h.1 is q)) in
-            subst (IsSubtableOf u) (sym (others (bits u.mask) other)) (are.each j u h.1)
+            let other : same (bits u.staged.mask) (bits s.staged.mask) ≡ false = untrue (same (bits u.staged.mask) (bits s.staged.mask)) (λ (q : same (bits u.staged.mask) (bits s.staged.mask) ≡ true). h.0 (are.apart j i u s h.1 is q)) in
+            subst (IsSubtableOf u) (sym (others (bits u.staged.mask) other)) (are.each j u h.1)
 
     covers : (m : List ℕ) → HasMask ss m → HasMask (set ss i t) m
     covers m h = by (cases_eq h.0 i)
@@ -134,79 +140,89 @@ put_in_place ss rs rs' i s t are is e own others covered = record { apart = apar
         by : (h.0 ≡ i) ⊎ (h.0 ≡ i → ⊥) → HasMask (set ss i t) m
         by (inl q) =
             let is_s : h.1 ≡ s = same_Some h.1 s (sym h.2 ∙ ap (slice_get ss) q ∙ is) in
-            (i, t, set_at ss i s t is, ap (same m) (e ∙ ap (λ (x : Subtable). bits x.mask) (sym is_s)) ∙ h.3)
+            (i, t, set_at ss i s t is, ap (same m) (e ∙ ap (λ (x : Subtable). bits x.staged.mask) (sym is_s)) ∙ h.3)
         by (inr q) = (h.0, h.1, set_elsewhere ss i h.0 t h.1 q h.2, h.3)
 
-pub insert_in_place : (ss : List Subtable) (rs : List Rule) (i : ℕ) (s t : Subtable) (r : Rule) → AreSubtablesOf ss rs → slice_get ss i ≡ Some s → bits t.mask ≡ bits s.mask
-    → same (bits s.mask) r.matching.mask ≡ true → IsSubtableOf t (of_mask (bits s.mask) rs ++ r ∷ []) → AreSubtablesOf (set ss i t) (rs ++ r ∷ [])
+pub insert_in_place : (ss : List Subtable) (rs : List Rule) (i : ℕ) (s t : Subtable) (r : Rule) → AreSubtablesOf ss rs → slice_get ss i ≡ Some s → bits t.staged.mask ≡ bits s.staged.mask
+    → same (bits s.staged.mask) r.matching.mask ≡ true → IsSubtableOf t (of_mask (bits s.staged.mask) rs ++ r ∷ []) → AreSubtablesOf (set ss i t) (rs ++ r ∷ [])
 insert_in_place ss rs i s t r are is e here own =
     put_in_place ss rs (rs ++ r ∷ []) i s t are is e
-    (subst (IsSubtableOf t) (sym (part_more (bits s.mask) rs r mine)) own)
-    (λ m other. part_same m rs r (turned m r.matching.mask false (ap (same m) (equal_from_same r.matching.mask (bits s.mask) mine) ∙ other)))
+    (subst (IsSubtableOf t) (sym (part_more (bits s.staged.mask) rs r mine)) own)
+    (λ m other. part_same m rs r (turned m r.matching.mask false (ap (same m) (equal_from_same r.matching.mask (bits s.staged.mask) mine) ∙ other)))
     (λ x m. covered x (Among-append x rs (r ∷ []) m))
   where
-    mine : same r.matching.mask (bits s.mask) ≡ true
-    mine = turned (bits s.mask) r.matching.mask true here
+    mine : same r.matching.mask (bits s.staged.mask) ≡ true
+    mine = turned (bits s.staged.mask) r.matching.mask true here
 
     covered : (x : Rule) → Among x rs ⊎ Among x (r ∷ []) → HasMask ss x.matching.mask
     covered x (inl m) = are.covered x m
-    covered x (inr (inl q)) = (i, s, is, ap (λ (y : Rule). same y.matching.mask (bits s.mask)) q ∙ mine)
+    covered x (inr (inl q)) = (i, s, is, ap (λ (y : Rule). same y.matching.mask (bits s.staged.mask)) q ∙ mine)
     covered x (inr (inr h)) = absurd h
 
-pub same_in_place : (ss : List Subtable) (rs : List Rule) (i : ℕ) (s t : Subtable) → AreSubtablesOf ss rs → slice_get ss i ≡ Some s → bits t.mask ≡ bits s.mask
-    → IsSubtableOf t (of_mask (bits s.mask) rs) → AreSubtablesOf (set ss i t) rs
+pub same_in_place : (ss : List Subtable) (rs : List Rule) (i : ℕ) (s t : Subtable) → AreSubtablesOf ss rs → slice_get ss i ≡ Some s → bits t.staged.mask ≡ bits s.staged.mask
+    → IsSubtableOf t (of_mask (bits s.staged.mask) rs) → AreSubtablesOf (set ss i t) rs
 same_in_place ss rs i s t are is e own = put_in_place ss rs rs i s t are is e own (λ m other. refl) are.covered
 
-pub take_in_place : (ss : List Subtable) (rs : List Rule) (i : ℕ) (s t : Subtable) (r : Rule) → AreSubtablesOf ss rs → AreDistinct rs → Among r rs → slice_get ss i ≡ Some s → bits t.mask ≡ bits s.mask
-    → same (bits s.mask) r.matching.mask ≡ true → IsSubtableOf t (without r.number (of_mask (bits s.mask) rs)) → AreSubtablesOf (set ss i t) (without r.number rs)
+-- one that has the same rules stands in the same order
+pub ranked_in_place : (ss : List Subtable) (rs : List Rule) (i : ℕ) (s t : Subtable) → AreRankedOf ss rs → slice_get ss i ≡ Some s → bits t.staged.mask ≡ bits s.staged.mask
+    → IsSubtableOf t (of_mask (bits s.staged.mask) rs) → AreRankedOf (set ss i t) rs
+ranked_in_place ss rs i s t are is e own = record {
+  subtables = same_in_place ss rs i s t are.subtables is e own;
+  falling = falling_same ss i s t is (λ floor.
+      any_priority (of_mask (bits s.staged.mask) rs) (numbers_in t.indexes.priorities.items.items) own.indexed.prioritised (λ n. nat_le floor n)
+      ∙ sym (any_priority (of_mask (bits s.staged.mask) rs) (numbers_in s.indexes.priorities.items.items) (are.subtables.each i s is).indexed.prioritised (λ n. nat_le floor n))) are.falling;
+}
+
+pub take_in_place : (ss : List Subtable) (rs : List Rule) (i : ℕ) (s t : Subtable) (r : Rule) → AreSubtablesOf ss rs → AreDistinct rs → Among r rs → slice_get ss i ≡ Some s → bits t.staged.mask ≡ bits s.staged.mask
+    → same (bits s.staged.mask) r.matching.mask ≡ true → IsSubtableOf t (without r.number (of_mask (bits s.staged.mask) rs)) → AreSubtablesOf (set ss i t) (without r.number rs)
 take_in_place ss rs i s t r are distinct m is e here own =
     put_in_place ss rs (without r.number rs) i s t are is e
-    (subst (IsSubtableOf t) (sym (part_less (bits s.mask) r.number rs)) own)
-    (λ k other. part_stays k rs r distinct m (turned k r.matching.mask false (ap (same k) (sym (equal_from_same (bits s.mask) r.matching.mask here)) ∙ other)))
+    (subst (IsSubtableOf t) (sym (part_less (bits s.staged.mask) r.number rs)) own)
+    (λ k other. part_stays k rs r distinct m (turned k r.matching.mask false (ap (same k) (sym (equal_from_same (bits s.staged.mask) r.matching.mask here)) ∙ other)))
     (λ x a. are.covered x (Among-filter (λ (y : Rule). not (y.number == r.number)) x rs a).0)
 
 -- ---- a new mask
 
-pub insert_at_end : (ss : List Subtable) (rs : List Rule) (t : Subtable) (r : Rule) → AreSubtablesOf ss rs → bits t.mask ≡ r.matching.mask
-    → ((j : ℕ) (s : Subtable) → slice_get ss j ≡ Some s → same (bits s.mask) r.matching.mask ≡ false) → IsSubtableOf t (r ∷ []) → AreSubtablesOf (ss ++ t ∷ []) (rs ++ r ∷ [])
+pub insert_at_end : (ss : List Subtable) (rs : List Rule) (t : Subtable) (r : Rule) → AreSubtablesOf ss rs → bits t.staged.mask ≡ r.matching.mask
+    → ((j : ℕ) (s : Subtable) → slice_get ss j ≡ Some s → same (bits s.staged.mask) r.matching.mask ≡ false) → IsSubtableOf t (r ∷ []) → AreSubtablesOf (ss ++ t ∷ []) (rs ++ r ∷ [])
 insert_at_end ss rs t r are is new own = record { apart = apart; each = each; covered = λ x m. covered x (Among-append x rs (r ∷ []) m) }
   where
-    clash : (s : Subtable) (i : ℕ) → slice_get ss i ≡ Some s → same (bits s.mask) (bits t.mask) ≡ true → ⊥
-    clash s i at h = false≢true (sym (new i s at) ∙ ap (same (bits s.mask)) (sym is) ∙ h)
+    clash : (s : Subtable) (i : ℕ) → slice_get ss i ≡ Some s → same (bits s.staged.mask) (bits t.staged.mask) ≡ true → ⊥
+    clash s i at h = false≢true (sym (new i s at) ∙ ap (same (bits s.staged.mask)) (sym is) ∙ h)
 
     apart : AreApart (ss ++ t ∷ [])
     apart j k u v ju kv alike = cases (at_end_of ss t j u ju) (at_end_of ss t k v kv)
       where
         cases : (slice_get ss j ≡ Some u) ⊎ ((j ≡ length ss) × (t ≡ u)) → (slice_get ss k ≡ Some v) ⊎ ((k ≡ length ss) × (t ≡ v)) → j ≡ k
         cases (inl a) (inl b) = are.apart j k u v a b alike
-        cases (inl a) (inr b) = absurd (clash u j a (ap (λ (x : Subtable). same (bits u.mask) (bits x.mask)) b.1 ∙ alike))
-        cases (inr a) (inl b) = absurd (clash v k b (turned (bits t.mask) (bits v.mask) true (ap (λ (x : Subtable). same (bits x.mask) (bits v.mask)) a.1 ∙ alike)))
+        cases (inl a) (inr b) = absurd (clash u j a (ap (λ (x : Subtable). same (bits u.staged.mask) (bits x.staged.mask)) b.1 ∙ alike))
+        cases (inr a) (inl b) = absurd (clash v k b (turned (bits t.staged.mask) (bits v.staged.mask) true (ap (λ (x : Subtable). same (bits x.staged.mask) (bits v.staged.mask)) a.1 ∙ alike)))
         cases (inr a) (inr b) = a.0 ∙ sym b.0
 
     none_yet : of_mask r.matching.mask rs ≡ []
     none_yet = filter_none (λ (x : Rule). same x.matching.mask r.matching.mask) rs (λ x m.
         let h = are.covered x m in
         untrue (same x.matching.mask r.matching.mask) (λ (q : same x.matching.mask r.matching.mask ≡ true).
-        false≢true (sym (new h.0 h.1 h.2) ∙ turned r.matching.mask (bits h.1.mask) true (ap (λ (k : List ℕ). same k (bits h.1.mask)) (sym (equal_from_same x.matching.mask r.matching.mask q)) ∙ h.3))))
+        false≢true (sym (new h.0 h.1 h.2) ∙ turned r.matching.mask (bits h.1.staged.mask) true (ap (λ (k : List ℕ). same k (bits h.1.staged.mask)) (sym (equal_from_same x.matching.mask r.matching.mask q)) ∙ h.3))))
 
-    each : (j : ℕ) (u : Subtable) → slice_get (ss ++ t ∷ []) j ≡ Some u → IsSubtableOf u (of_mask (bits u.mask) (rs ++ r ∷ []))
+    each : (j : ℕ) (u : Subtable) → slice_get (ss ++ t ∷ []) j ≡ Some u → IsSubtableOf u (of_mask (bits u.staged.mask) (rs ++ r ∷ []))
     each j u at = by (at_end_of ss t j u at)
       where
-        by : (slice_get ss j ≡ Some u) ⊎ ((j ≡ length ss) × (t ≡ u)) → IsSubtableOf u (of_mask (bits u.mask) (rs ++ r ∷ []))
-        by (inl a) = subst (IsSubtableOf u) (sym (part_same (bits u.mask) rs r (turned (bits u.mask) r.matching.mask false (new j u a)))) (are.each j u a)
+        by : (slice_get ss j ≡ Some u) ⊎ ((j ≡ length ss) × (t ≡ u)) → IsSubtableOf u (of_mask (bits u.staged.mask) (rs ++ r ∷ []))
+        by (inl a) = subst (IsSubtableOf u) (sym (part_same (bits u.staged.mask) rs r (turned (bits u.staged.mask) r.matching.mask false (new j u a)))) (are.each j u a)
         by (inr a) =
-            subst (λ (x : Subtable). IsSubtableOf x (of_mask (bits x.mask) (rs ++ r ∷ []))) a.1
+            subst (λ (x : Subtable). IsSubtableOf x (of_mask (bits x.staged.mask) (rs ++ r ∷ []))) a.1
             (subst (λ (k : List ℕ). IsSubtableOf t (of_mask k (rs ++ r ∷ []))) (sym is)
             (subst (IsSubtableOf t) (sym (part_more r.matching.mask rs r (same_from_equal r.matching.mask r.matching.mask refl) ∙ ap (λ (ys : List Rule). ys ++ r ∷ []) none_yet)) own))
 
     covered : (x : Rule) → Among x rs ⊎ Among x (r ∷ []) → HasMask (ss ++ t ∷ []) x.matching.mask
     covered x (inl m) = let h = are.covered x m in (h.0, h.1, before_end ss t h.0 h.1 h.2, h.3)
-    covered x (inr (inl q)) = (length ss, t, end_at ss t, same_from_equal x.matching.mask (bits t.mask) (ap (λ (y : Rule). y.matching.mask) q ∙ sym is))
+    covered x (inr (inl q)) = (length ss, t, end_at ss t, same_from_equal x.matching.mask (bits t.staged.mask) (ap (λ (y : Rule). y.matching.mask) q ∙ sym is))
     covered x (inr (inr h)) = absurd h
 
 -- ---- a mask without rules
 
-pub drop_mask : (ss : List Subtable) (rs : List Rule) (p : ℕ) (s : Subtable) → AreSubtablesOf ss rs → slice_get ss p ≡ Some s → of_mask (bits s.mask) rs ≡ [] → AreSubtablesOf (remove ss p) rs
+pub drop_mask : (ss : List Subtable) (rs : List Rule) (p : ℕ) (s : Subtable) → AreSubtablesOf ss rs → slice_get ss p ≡ Some s → of_mask (bits s.staged.mask) rs ≡ [] → AreSubtablesOf (remove ss p) rs
 drop_mask ss rs p s are is none = record {
   apart = λ j k u v ju kv alike. moved_apart p j k (are.apart (moved p j) (moved p k) u v (at_removed ss p j u ju) (at_removed ss p k v kv) alike);
   each = λ j u at. are.each (moved p j) u (at_removed ss p j u at);
@@ -219,7 +235,7 @@ drop_mask ss rs p s are is none = record {
         by : (h.0 ≡ p) ⊎ (h.0 ≡ p → ⊥) → HasMask (remove ss p) r.matching.mask
         by (inl q) =
             let is_s : h.1 ≡ s = same_Some h.1 s (sym h.2 ∙ ap (slice_get ss) q ∙ is) in
-            let there : Among r (of_mask (bits s.mask) rs) = Among_in-filter (λ (x : Rule). same x.matching.mask (bits s.mask)) r rs m (ap (λ (x : Subtable). same r.matching.mask (bits x.mask)) (sym is_s) ∙ h.3) in
+            let there : Among r (of_mask (bits s.staged.mask) rs) = Among_in-filter (λ (x : Rule). same x.matching.mask (bits s.staged.mask)) r rs m (ap (λ (x : Subtable). same r.matching.mask (bits x.staged.mask)) (sym is_s) ∙ h.3) in
             absurd (subst (λ (ys : List Rule). Among r ys) none there)
         by (inr q) = let a = removed_at ss p h.0 h.1 q h.2 in (a.0, h.1, a.1, h.3)
 
@@ -250,10 +266,10 @@ find_in_part mask m priority rs is =
     ∙ both_ways (same r.matching.mask m.mask) (same m.key r.matching.key) (r.priority == priority) (same r.matching.key m.key) (sym (turned m.key r.matching.key (same m.key r.matching.key) refl)))
 
 pub find_nowhere : (ss : List Subtable) (m : tables.Match) (priority : ℕ) (rs : List Rule) → AreSubtablesOf ss rs
-    → ((j : ℕ) (s : Subtable) → slice_get ss j ≡ Some s → same (bits s.mask) m.mask ≡ false) → find (is_at priority m) rs ≡ None
+    → ((j : ℕ) (s : Subtable) → slice_get ss j ≡ Some s → same (bits s.staged.mask) m.mask ≡ false) → find (is_at priority m) rs ≡ None
 find_nowhere ss m priority rs are new = find_none (is_at priority m) rs (λ r a.
     let h = are.covered r a in
-    let other : same r.matching.mask m.mask ≡ false = ap (λ (k : List ℕ). same k m.mask) (equal_from_same r.matching.mask (bits h.1.mask) h.3) ∙ new h.0 h.1 h.2 in
+    let other : same r.matching.mask m.mask ≡ false = ap (λ (k : List ℕ). same k m.mask) (equal_from_same r.matching.mask (bits h.1.staged.mask) h.3) ∙ new h.0 h.1 h.2 in
     ap (λ (t : Bool). (r.priority == priority) && (same r.matching.key m.key && t)) other ∙ none (r.priority == priority) (same r.matching.key m.key))
   where
     none : (a b : Bool) → (a && (b && false)) ≡ false
@@ -266,7 +282,25 @@ among_part mask rs r m is = Among_in-filter (λ (x : Rule). same x.matching.mask
 
 -- each rule's mask is somewhere
 pub nowhere_clashes : (ss : List Subtable) (rs : List Rule) (r : Rule) → AreSubtablesOf ss rs → Among r rs
-    → ((j : ℕ) (s : Subtable) → slice_get ss j ≡ Some s → same (bits s.mask) r.matching.mask ≡ false) → ⊥
+    → ((j : ℕ) (s : Subtable) → slice_get ss j ≡ Some s → same (bits s.staged.mask) r.matching.mask ≡ false) → ⊥
 nowhere_clashes ss rs r are m new =
     let h = are.covered r m in
-    false≢true (sym (new h.0 h.1 h.2) ∙ turned r.matching.mask (bits h.1.mask) true h.3)
+    false≢true (sym (new h.0 h.1 h.2) ∙ turned r.matching.mask (bits h.1.staged.mask) true h.3)
+
+-- ---- no rules, and one with a match
+
+pub no_subtables : AreRankedOf [] []
+no_subtables = record {
+  subtables = record {
+    apart = λ i j s t at_i at_j alike. absurd (nothing i s at_i);
+    each = λ i s at. absurd (nothing i s at);
+    covered = λ r m. absurd m;
+  };
+  falling = λ i j s t less at_i at_j. absurd (nothing i s at_i);
+}
+  where
+    nothing : (i : ℕ) (s : Subtable) → slice_get [] i ≡ Some s → ⊥
+    nothing i s e = cc
+
+abbrev pub rule_with : Match → Rule
+rule_with m = record { number = 0; table = 0; priority = 0; cookie = 0; matching = match_view m; actions = [] }

@@ -1,50 +1,67 @@
--- The subtables of all tables, as rules come and go.
-use Rattle.std.proofs.Common.{◌≡◌, ℕ, zero, suc, ◌<◌, ◌≤◌, true, false, ◌&&◌, ◌==◌, not, List, [], ◌∷◌, ◌++◌, append-nil, length, set, get_or, slice_get, Some, Vec, inl, inr, ◌⊎◌, refl, sym, ap, ◌∙◌, subst, arith, eqb-true, eq-eqb}
+-- The rules of all tables, as rules come and go.
+use Rattle.std.proofs.Common.{◌≡◌, ℕ, zero, suc, ◌<◌, true, false, ◌&&◌, ◌==◌, not, List, [], ◌∷◌, ◌++◌, append-nil, length, set, slice_get, Option, Some, None, inl, inr, ◌⊎◌, refl, sym, ap, ◌∙◌, subst, arith, eqb-true, eq-eqb}
 use Rattle.std.specs.List.{find}
-use Rattle.std.specs.declared.alloc.Global.{Global}
 use Rattle.std.proofs.lemmas.Bool.{cases_eq, cond-true, cond-false, false≢true}
 use Rattle.std.proofs.lemmas.List.Elements.{filter-append}
+use Rattle.std.proofs.lemmas.Option.{same_Some}
 use Rattle.spec_tables.specs.Rules as tables
 use Rattle.spec_tables.specs.Rules.{Rule, rules_in, is_same_match}
 use Rattle.translation_laws.proofs.MemberLaws.{Among, Among-filter}
-use Rattle.tuple_classifier.specs.declared.subtable.Subtable.{Subtable}
-use Rattle.tuple_classifier.specs.ByTable.{subtables_at, AreClassified}
-use Rattle.tuple_classifier.specs.Numbered.{AreDistinct, without}
-use Rattle.tuple_classifier.specs.Parts.{AreSubtablesOf}
+use Rattle.staged_lookup.specs.Numbered.{AreDistinct, without}
+use Rattle.staged_lookup.specs.Subtables.{HasNoRule}
+use Rattle.staged_lookup.proofs.Removed.{all_stay}
+use Rattle.tuple_classifier.specs.declared.table.Table.{Table}
+use Rattle.tuple_classifier.specs.ByTable.{HasRules, AreClassified, HaveNoRule}
+use Rattle.tuple_classifier.specs.Tables.{IsTableOf}
 use Rattle.tuple_classifier.proofs.Lengths.{not_equal}
-use Rattle.tuple_classifier.proofs.Removed.{all_stay}
 use Rattle.tuple_classifier.proofs.TableLaws.{is_at, filter_swapped, find_filter, untrue}
 use Rattle.tuple_classifier.proofs.WinnerLaws.{one_of_number}
 
 -- ---- one table more, and one in the place of another
 
-pub one_more : (ts : List (Vec Subtable Global)) (v : Vec Subtable Global) → v.items ≡ [] → (t : ℕ) → subtables_at (ts ++ v ∷ []) t ≡ subtables_at ts t
-one_more [] v none zero = none
-one_more [] v none (suc t) = refl
-one_more (w ∷ ts) v none zero = refl
-one_more (w ∷ ts) v none (suc t) = one_more ts v none t
+pub set_here : (ts : List Table) (i : ℕ) (t : Table) → i < length ts → slice_get (set ts i t) i ≡ Some t
+set_here [] i t within = absurd (omega arith)
+set_here (u ∷ ts) zero t within = refl
+set_here (u ∷ ts) (suc i) t within = set_here ts i t (omega arith)
 
-pub set_here : (ts : List (Vec Subtable Global)) (i : ℕ) (v : Vec Subtable Global) → i < length ts → subtables_at (set ts i v) i ≡ v.items
-set_here [] i v within = absurd (omega arith)
-set_here (w ∷ ts) zero v within = refl
-set_here (w ∷ ts) (suc i) v within = set_here ts i v (omega arith)
+pub set_others : (ts : List Table) (i k : ℕ) (t : Table) → (k ≡ i → ⊥) → slice_get (set ts i t) k ≡ slice_get ts k
+set_others [] i k t other = refl
+set_others (u ∷ ts) zero zero t other = absurd (other refl)
+set_others (u ∷ ts) zero (suc k) t other = refl
+set_others (u ∷ ts) (suc i) zero t other = refl
+set_others (u ∷ ts) (suc i) (suc k) t other = set_others ts i k t (λ e. other (ap suc e))
 
-pub set_others : (ts : List (Vec Subtable Global)) (i t : ℕ) (v : Vec Subtable Global) → (t ≡ i → ⊥) → subtables_at (set ts i v) t ≡ subtables_at ts t
-set_others [] i t v other = refl
-set_others (w ∷ ts) zero zero v other = absurd (other refl)
-set_others (w ∷ ts) zero (suc t) v other = refl
-set_others (w ∷ ts) (suc i) zero v other = refl
-set_others (w ∷ ts) (suc i) (suc t) v other = set_others ts i t v (λ e. other (ap suc e))
+at_end : (ts : List Table) (t : Table) (k : ℕ) → (slice_get (ts ++ t ∷ []) k ≡ slice_get ts k) ⊎ ((slice_get ts k ≡ None) × (slice_get (ts ++ t ∷ []) k ≡ Some t))
+at_end [] t zero = inr (refl, refl)
+at_end [] t (suc k) = inl refl
+at_end (u ∷ ts) t zero = inl refl
+at_end (u ∷ ts) t (suc k) = at_end ts t k
 
-pub stood_here : (ts : List (Vec Subtable Global)) (i : ℕ) (v : Vec Subtable Global) → i < length ts → v ≡ get_or ts i v → subtables_at ts i ≡ v.items
-stood_here [] i v within is = absurd (omega arith)
-stood_here (w ∷ ts) zero v within is = ap (λ (x : Vec Subtable Global). x.items) (sym is)
-stood_here (w ∷ ts) (suc i) v within is = stood_here ts i v (omega arith) is
+pub one_more : (ts : List Table) (t : Table) (rules : List Rule) → IsTableOf t [] → AreClassified ts rules → AreClassified (ts ++ t ∷ []) rules
+one_more ts t rules empty are table = by (at_end ts t table)
+  where
+    by : (slice_get (ts ++ t ∷ []) table ≡ slice_get ts table) ⊎ ((slice_get ts table ≡ None) × (slice_get (ts ++ t ∷ []) table ≡ Some t)) → HasRules (slice_get (ts ++ t ∷ []) table) (rules_in table rules)
+    by (inl e) = subst (λ (o : Option Table). HasRules o (rules_in table rules)) (sym e) (are table)
+    by (inr h) =
+        let none : rules_in table rules ≡ [] = subst (λ (o : Option Table). HasRules o (rules_in table rules)) h.0 (are table) in
+        subst (λ (o : Option Table). HasRules o (rules_in table rules)) (sym h.1) (subst (IsTableOf t) (sym none) empty)
 
-pub past_all : (ts : List (Vec Subtable Global)) (i : ℕ) → length ts ≤ i → subtables_at ts i ≡ []
-past_all [] i past = refl
-past_all (w ∷ ts) zero past = absurd (omega arith)
-past_all (w ∷ ts) (suc i) past = past_all ts i (omega arith)
+pub one_more_new : (ts : List Table) (t : Table) (number : ℕ) → IsTableOf t [] → HaveNoRule number ts → HaveNoRule number (ts ++ t ∷ [])
+one_more_new ts t number empty new table i u s at_u at = by (at_end ts t table)
+  where
+    by : (slice_get (ts ++ t ∷ []) table ≡ slice_get ts table) ⊎ ((slice_get ts table ≡ None) × (slice_get (ts ++ t ∷ []) table ≡ Some t)) → HasNoRule number s.staged
+    by (inl e) = new table i u s (sym e ∙ at_u) at
+    by (inr h) =
+        let is : u ≡ t = same_Some u t (sym at_u ∙ h.1) in
+        ([], (empty.ranked.subtables.each i s (ap (λ (v : Table). slice_get v.subtables.items i) (sym is) ∙ at)).staged, λ r m e. absurd m)
+
+-- the rules of a table that is there
+pub rules_of : (ts : List Table) (i : ℕ) (t : Table) (rs : List Rule) → slice_get ts i ≡ Some t → HasRules (slice_get ts i) rs → IsTableOf t rs
+rules_of ts i t rs at has = subst (λ (o : Option Table). HasRules o rs) at has
+
+-- and of one that is missing
+pub rules_of_none : (ts : List Table) (i : ℕ) (rs : List Rule) → slice_get ts i ≡ None → HasRules (slice_get ts i) rs → rs ≡ []
+rules_of_none ts i rs at has = subst (λ (o : Option Table). HasRules o rs) at has
 
 -- ---- the rules of a table, with one more and one less
 
@@ -71,43 +88,33 @@ in_table_stays t rules r distinct m other =
 
 -- ---- all tables
 
-pub changed_in : (ts us : List (Vec Subtable Global)) (rules rules' : List Rule) (table : ℕ) → AreClassified ts rules
-    → ((t : ℕ) → (t ≡ table → ⊥) → subtables_at us t ≡ subtables_at ts t) → ((t : ℕ) → (t ≡ table → ⊥) → rules_in t rules' ≡ rules_in t rules)
-    → AreSubtablesOf (subtables_at us table) (rules_in table rules') → AreClassified us rules'
-changed_in ts us rules rules' table are others same own t = by (cases_eq t table)
+pub changed_in : (ts us : List Table) (rules rules' : List Rule) (table : ℕ) → AreClassified ts rules
+    → ((k : ℕ) → (k ≡ table → ⊥) → slice_get us k ≡ slice_get ts k) → ((k : ℕ) → (k ≡ table → ⊥) → rules_in k rules' ≡ rules_in k rules)
+    → HasRules (slice_get us table) (rules_in table rules') → AreClassified us rules'
+changed_in ts us rules rules' table are others same own k = by (cases_eq k table)
   where
-    by : (t ≡ table) ⊎ (t ≡ table → ⊥) → AreSubtablesOf (subtables_at us t) (rules_in t rules')
-    by (inl e) = subst (λ (k : ℕ). AreSubtablesOf (subtables_at us k) (rules_in k rules')) (sym e) own
-    by (inr e) = subst (λ (ss : List Subtable). AreSubtablesOf ss (rules_in t rules')) (sym (others t e)) (subst (AreSubtablesOf (subtables_at ts t)) (sym (same t e)) (are t))
+    by : (k ≡ table) ⊎ (k ≡ table → ⊥) → HasRules (slice_get us k) (rules_in k rules')
+    by (inl e) = subst (λ (j : ℕ). HasRules (slice_get us j) (rules_in j rules')) (sym e) own
+    by (inr e) = subst (λ (o : Option Table). HasRules o (rules_in k rules')) (sym (others k e)) (subst (HasRules (slice_get ts k)) (sym (same k e)) (are k))
 
-pub inserted : (ts us : List (Vec Subtable Global)) (rules : List Rule) (table : ℕ) (r : Rule) → AreClassified ts rules → r.table ≡ table
-    → ((t : ℕ) → (t ≡ table → ⊥) → subtables_at us t ≡ subtables_at ts t) → AreSubtablesOf (subtables_at us table) (rules_in table rules ++ r ∷ [])
-    → AreClassified us (rules ++ r ∷ [])
-inserted ts us rules table r are is others own =
-    changed_in ts us rules (rules ++ r ∷ []) table are others (λ t other. in_table_same t rules r (not_equal r.table t (λ e. other (sym e ∙ is))))
-    (subst (AreSubtablesOf (subtables_at us table)) (sym (in_table_more table rules r (eq-eqb r.table table is))) own)
+module _ (ts : List Table) (table : ℕ) (t : Table) (rules : List Rule) (within : table < length ts) (are : AreClassified ts rules) where
+  written : (rs : List Rule) → IsTableOf t rs → HasRules (slice_get (set ts table t) table) rs
+  written rs own = subst (λ (o : Option Table). HasRules o rs) (sym (set_here ts table t within)) own
 
-pub taken : (ts us : List (Vec Subtable Global)) (rules : List Rule) (table : ℕ) (r : Rule) → AreClassified ts rules → AreDistinct rules → Among r rules → r.table ≡ table
-    → ((t : ℕ) → (t ≡ table → ⊥) → subtables_at us t ≡ subtables_at ts t) → AreSubtablesOf (subtables_at us table) (without r.number (rules_in table rules))
-    → AreClassified us (without r.number rules)
-taken ts us rules table r are distinct m is others own =
-    changed_in ts us rules (without r.number rules) table are others (λ t other. in_table_stays t rules r distinct m (not_equal r.table t (λ e. other (sym e ∙ is))))
-    (subst (AreSubtablesOf (subtables_at us table)) (sym (in_table_less table r.number rules)) own)
+  pub inserted : (r : Rule) → r.table ≡ table → IsTableOf t (rules_in table rules ++ r ∷ []) → AreClassified (set ts table t) (rules ++ r ∷ [])
+  inserted r is own =
+      changed_in ts (set ts table t) rules (rules ++ r ∷ []) table are (λ k other. set_others ts table k t other) (λ k other. in_table_same k rules r (not_equal r.table k (λ e. other (sym e ∙ is))))
+      (written (rules_in table (rules ++ r ∷ [])) (subst (IsTableOf t) (sym (in_table_more table rules r (eq-eqb r.table table is))) own))
 
-pub no_subtables : (rs : List Rule) → AreSubtablesOf [] rs → rs ≡ []
-no_subtables [] are = refl
-no_subtables (r ∷ rs) are = let h = are.covered r (inl refl) in absurd (nothing h.0 h.1 h.2)
-  where
-    nothing : (i : ℕ) (s : Subtable) → slice_get [] i ≡ Some s → ⊥
-    nothing i s e = cc
+  pub taken : (r : Rule) → AreDistinct rules → Among r rules → r.table ≡ table → IsTableOf t (without r.number (rules_in table rules)) → AreClassified (set ts table t) (without r.number rules)
+  taken r distinct m is own =
+      changed_in ts (set ts table t) rules (without r.number rules) table are (λ k other. set_others ts table k t other)
+      (λ k other. in_table_stays k rules r distinct m (not_equal r.table k (λ e. other (sym e ∙ is))))
+      (written (rules_in table (without r.number rules)) (subst (IsTableOf t) (sym (in_table_less table r.number rules)) own))
+
+  pub same_but : IsTableOf t (rules_in table rules) → AreClassified (set ts table t) rules
+  same_but own = changed_in ts (set ts table t) rules rules table are (λ k other. set_others ts table k t other) (λ k other. refl) (written (rules_in table rules) own)
 
 pub found_in : (table priority : ℕ) (m : tables.Match) (rules : List Rule)
     → find (is_at priority m) (rules_in table rules) ≡ find (λ (r : Rule). (r.table == table) && is_at priority m r) rules
 found_in table priority m rules = find_filter (is_at priority m) (λ (r : Rule). r.table == table) rules
-
-pub same_tables : (ts us : List (Vec Subtable Global)) (rules : List Rule) → AreClassified ts rules → ((t : ℕ) → subtables_at us t ≡ subtables_at ts t) → AreClassified us rules
-same_tables ts us rules are same t = subst (λ (ss : List Subtable). AreSubtablesOf ss (rules_in t rules)) (sym (same t)) (are t)
-
-pub same_but : (ts us : List (Vec Subtable Global)) (rules : List Rule) (table : ℕ) → AreClassified ts rules
-    → ((t : ℕ) → (t ≡ table → ⊥) → subtables_at us t ≡ subtables_at ts t) → AreSubtablesOf (subtables_at us table) (rules_in table rules) → AreClassified us rules
-same_but ts us rules table are others own = changed_in ts us rules rules table are others (λ t other. refl) own

@@ -1,7 +1,6 @@
 -- The winner among all rules of a table, from the winners of the masks.
-use Rattle.std.proofs.Common.{◌≡◌, ℕ, ◌-◌, ◌≤◌, ◌<◌, Bool, true, false, ◌&&◌, ◌||◌, ◌==◌, nat_lt, nat_le, if◌then◌else◌, List, [], ◌∷◌, ◌++◌, length, get_or, drop, Option, Some, None, inl, inr, refl, sym, ap, ◌∙◌, arith, eq-eqb}
+use Rattle.std.proofs.Common.{◌≡◌, ℕ, ◌≤◌, Bool, true, false, ◌&&◌, ◌||◌, ◌==◌, nat_lt, nat_le, if◌then◌else◌, List, [], ◌∷◌, ◌++◌, Option, Some, None, inl, inr, refl, sym, ap, ◌∙◌, arith, eq-eqb}
 use Rattle.std.specs.Option.{option_map}
-use Rattle.std.proofs.lemmas.List.{drop_all}
 use Rattle.std.proofs.lemmas.Bool.{cond-true, cond-false, false≢true}
 use Rattle.std.proofs.lemmas.Bool.Decides.{nat_tests}
 use Rattle.spec_tables.specs.Rules.{Rule, is_matched, better, winner}
@@ -9,14 +8,14 @@ use Rattle.spec_xlate.specs.Lookup.{priority_to_beat}
 use Rattle.translation_laws.proofs.MemberLaws.{Among, Among-flat_map, Among_in-flat_map, list_any-Among}
 use Rattle.translation_laws.proofs.WinnerLaws.{IsWinner, IsBestOf, winner-IsWinner}
 use Rattle.ovs_fields.specs.Packed.{bits}
-use Rattle.tuple_classifier.specs.declared.rank.Rank.{Rank}
+use Rattle.staged_lookup.specs.declared.rank.Rank.{Rank}
 use Rattle.tuple_classifier.specs.declared.subtable.Subtable.{Subtable}
-use Rattle.tuple_classifier.specs.Numbered.{AreDistinct}
+use Rattle.staged_lookup.specs.Numbered.{AreDistinct}
 use Rattle.tuple_classifier.specs.Parts.{AreSubtablesOf, of_mask, by_masks, reaches}
 use Rattle.tuple_classifier.specs.Ranks.{rank_of, is_outranked, better_rank, best_of_pair, floor_of}
-use Rattle.tuple_classifier.proofs.PartLaws.{in_part, within, from_place}
-use Rattle.tuple_classifier.proofs.Removed.{distinct_tail, none_like_first}
-use Rattle.tuple_classifier.proofs.SubtableLaws.{rank-better}
+use Rattle.tuple_classifier.proofs.PartLaws.{in_part, within}
+use Rattle.staged_lookup.proofs.Removed.{distinct_tail, none_like_first}
+use Rattle.staged_lookup.proofs.RankLaws.{rank-better}
 
 -- the rank of the winner
 abbrev pub best_in : List Rule → List ℕ → Option Rank
@@ -46,7 +45,7 @@ better-three r s t = at (is_outranked r s) (is_outranked s t) refl refl
         cond-false (is_outranked r s) (Some s) (Some r) e
         ∙ sym (cond-false (is_outranked r t) (Some t) (Some r) (unoutranked_trans r.priority s.priority t.priority r.number s.number t.number e f))
 
-better-two : (r : Rank) (o p : Option Rank) → better_rank r (best_of_pair o p) ≡ best_of_pair (better_rank r o) p
+pub better-two : (r : Rank) (o p : Option Rank) → better_rank r (best_of_pair o p) ≡ best_of_pair (better_rank r o) p
 better-two r None p = refl
 better-two r (Some s) None = at (is_outranked r s)
   where
@@ -60,7 +59,7 @@ unfolding winner
 best-cons key r rs true e = ap (option_map rank_of) (cond-true (is_matched key r.matching) (better r (winner rs key)) (winner rs key) e) ∙ rank-better r (winner rs key)
 best-cons key r rs false e = ap (option_map rank_of) (cond-false (is_matched key r.matching) (better r (winner rs key)) (winner rs key) e)
 
-best-none : (key : List ℕ) → best_in [] key ≡ None
+pub best-none : (key : List ℕ) → best_in [] key ≡ None
 unfolding winner
 best-none key = refl
 
@@ -116,8 +115,8 @@ pub record Alike {X : Type 0} (xs ys : List X) : Type 0 where
 
 by_masks_alike : (ss : List Subtable) (rs : List Rule) → AreSubtablesOf ss rs → Alike rs (by_masks rs ss)
 by_masks_alike ss rs are = record {
-  to = λ r m. let w = within ss rs are r m in Among_in-flat_map (λ (s : Subtable). of_mask (bits s.mask) rs) r w.subtable ss w.there w.in_its;
-  back = λ r m. let a = Among-flat_map (λ (s : Subtable). of_mask (bits s.mask) rs) r ss m in (in_part (bits a.0.mask) rs r a.2).0;
+  to = λ r m. let w = within ss rs are r m in Among_in-flat_map (λ (s : Subtable). of_mask (bits s.staged.mask) rs) r w.subtable ss w.there w.in_its;
+  back = λ r m. let a = Among-flat_map (λ (s : Subtable). of_mask (bits s.staged.mask) rs) r ss m in (in_part (bits a.0.staged.mask) rs r a.2).0;
 }
 
 -- of distinct rules two with the same number are the same
@@ -149,18 +148,6 @@ winner_alike xs ys key h distinct = at (winner xs key) (winner ys key) (winner-I
     at (Some v) (Some w) a b = ap Some (equal v w a b)
     at None (Some w) a b = let e : true ≡ false = sym (b.matches) ∙ a w (h.back w b.is_rule) in absurd (false≢true (sym e))
     at (Some v) None a b = let e : true ≡ false = sym (a.matches) ∙ b v (h.to v a.is_rule) in absurd (false≢true (sym e))
-
--- ---- as the loop goes
-
-pub best_past : (key : List ℕ) (rs : List Rule) (ss : List Subtable) → None ≡ best_in (by_masks rs (drop (length ss) ss)) key
-best_past key rs ss = rw (drop_all (length ss) ss (omega arith)) (sym (best-none key))
-
-pub mask_wins : (key : List ℕ) (rs : List Rule) (ss : List Subtable) (i : ℕ) (s : Subtable) (best now : Option Rank) → 0 < i → i ≤ length ss → s ≡ get_or ss (i - 1) s
-    → best ≡ best_in (by_masks rs (drop i ss)) key → now ≡ best_of_pair (best_in (of_mask (bits s.mask) rs) key) best → now ≡ best_in (by_masks rs (drop (i - 1) ss)) key
-mask_wins key rs ss i s best now pos le is so_far made =
-    made ∙ ap (best_of_pair (best_in (of_mask (bits s.mask) rs) key)) so_far
-    ∙ sym (best-append key (of_mask (bits s.mask) rs) (by_masks rs (drop i ss)))
-    ∙ sym (ap (λ (ts : List Subtable). best_in (by_masks rs ts) key) (from_place ss i s pos le is))
 
 pub best_of_all : (key : List ℕ) (rs : List Rule) (ss : List Subtable) (best : Option Rank) → AreSubtablesOf ss rs → AreDistinct rs → best ≡ best_in (by_masks rs ss) key → best ≡ best_in rs key
 best_of_all key rs ss best are distinct is = is ∙ ap (option_map rank_of) (sym (winner_alike rs (by_masks rs ss) key (by_masks_alike ss rs are) distinct))

@@ -29,47 +29,40 @@
 //!
 //! # How
 //!
-//! A subtable has the *rank* of each of its rules, which is the priority and the number, by the rule's key. Ranks decide
-//! who wins, so a lookup reads no rule. Only rules of the same match, which differ in their priorities, share a place.
+//! The rules of one mask are a subtable of `staged_lookup`. Its probe ends at the first stage on which none of them agrees
+//! with the key, and else tells the rule that wins. So a mask whose rules can't match by a first part of it consults that
+//! part alone. Beside it are kept:
 //!
-//! A mask whose rules can't match by a first part of it consults that part alone. What shows that is kept beside the
-//! ranks:
+//! - of each mask its *priorities*, sorted, each with how many rules have it;
+//! - of each table the *prefixes* of the addresses that its rules state, in a trie for each address (`address_prefixes`). They
+//!   tell of which lengths a key begins with one, and how many leading bits decide that. They are asked between the second
+//!   stage and the third, where a probe is made in two steps: no rule of a mask matches a key that begins with none of the
+//!   prefixes of its length.
 //!
-//! - by *stage*: for each part of the mask that a stage reaches, how many rules have each key under it. A part that is
-//!   that of the stage before decides nothing more, and after one that is the whole mask nothing is left to decide. Their
-//!   rules are neither counted nor tested;
-//! - by *prefix*: the values of the four addresses where the mask has a prefix of them, sorted, each with how many rules
-//!   state it. No value has more leading bits in common with a key than its neighbours in that order, so these tell whether
-//!   a rule begins as the key does, and how many leading bits decide it;
-//! - the priorities, sorted and counted likewise. A mask whose greatest is less than the winner's is not probed and
-//!   consults nothing.
-//!
-//! `look` goes over the masks twice, first for the winner and then for the bits, since which masks are consulted depends
-//! on the winner. The order of the masks plays no part.
-//!
-//! Which lengths of prefixes match, and how many leading bits decide it, is a question to the prefixes of a field in all
-//! masks. The first mask that asks it has it answered for those after it, until the lookup ends (`FieldLookup`). The search
-//! for the winner asks it too: no rule of a mask matches a key that begins with none of the prefixes of its length.
+//! The subtables of a table stand by falling greatest priority, as Open vSwitch has them (NSDI 2015, section 5.2;
+//! lib/pvector.h). `look` goes over them once, and ends at the first that has no priority as great as that of the best rule
+//! so far: neither that mask nor those behind it can win, and they consult nothing. Each mask that it went over reaches the
+//! winner's priority, since the winner is in one of them and those before that one have none less; so it went over just
+//! the masks that consult their bits (`proofs/PassLaws`). Where a rule that comes or goes changes the greatest priority of
+//! its mask, the subtable changes places with its neighbours until it stands right (`order`).
 //!
 //! The live rules stand beside the subtables in the order of their numbers, each in a box of its own, and each has the
 //! place of its actions among the lists of actions that edits gave. The same places stand by number too, so that the
 //! actions of a winner are read without a search for its rule. Looking up which rule an edit names is a probe as well. An
-//! add takes all memory first, puts its rule in, and only then takes out the rule that it replaces, so that a refusal
-//! leaves what was there.
+//! add puts its rule in, and only then takes out the rule that it replaces. Where it lacks memory on the way it takes out
+//! what it put in, so that a refusal leaves what was there.
 //!
 //! # What it costs
 //!
-//! - The winner takes one hash and one probe for each mask whose greatest priority isn't below the best one found so far,
-//!   however many rules have it, but for masks with a prefix of a length with which the key doesn't begin.
-//! - The bits take, for each mask whose greatest priority isn't below the winner's, one probe for each of three stages that
-//!   has bits of the mask of its own and leaves some to later ones, and a search by prefix where the winner's took none. A
-//!   probe takes no hash where all rules of the mask are alike under the stage, as routes are in the Ethernet type.
-//! - A search by prefix is one in the sorted values of every mask that has a prefix of the field, once in a lookup. So the
-//!   time of a lookup grows by the masks, and by the logarithm of the different values of each.
-//! - An add or a strict word takes a few probes. The sorted lists are of different values, so an add moves what stands
-//!   after its place in one only where no rule of the mask has the value yet, and a strict delete only where no other rule
-//!   has it. Else they change a count. A strict delete also moves the addresses of the live rules of greater numbers, of
-//!   8 bytes each.
+//! - A lookup takes, for each mask that it goes over, one probe for each stage that has bits of the mask of its own and
+//!   leaves some to later ones, up to the one that ends it, and one for the rules themselves, however many rules have the
+//!   mask. A probe takes no hash where all rules of the mask are alike under the stage, as routes are in the Ethernet type.
+//! - The first mask of a lookup that has a prefix of an address takes a walk of its trie, of a step for each node on the way.
+//!   Those after it take none, so the time of a lookup grows by the masks that it goes over, and hardly by the prefixes.
+//! - An add or a strict word takes a few probes and a walk of each trie, and moves a subtable past those that its greatest
+//!   priority passes. The sorted lists are of different priorities, so an add moves what stands after its place in one only
+//!   where no rule of the mask has the priority yet, and a strict delete only where no other rule has it. Else they change a
+//!   count. A strict delete also moves the addresses of the live rules of greater numbers, of 8 bytes each.
 //! - A loose word passes once over the live rules.
 //! - The actions of an edit stay until the tables are dropped, even where no live rule has them any more, and so do the
 //!   four bytes that say where those of a number are. The actions of a rule take two reads.
@@ -80,22 +73,17 @@
 //! `rule_tables`.
 #![tactic(auto)]
 
-mod buckets;
 mod by_table;
-mod counts;
-mod field_lookup;
 mod indexes;
 mod live;
 mod lookup;
-mod prefix;
-mod prefixes;
-mod rank;
+mod order;
 mod sorted;
-mod stage;
 mod subtable;
+mod subtables;
 mod table;
 mod tables;
-mod tracked;
+mod threads;
 
 pub use rule_tables::{Edit, EditWord, OfAction};
 pub use tables::Tables;

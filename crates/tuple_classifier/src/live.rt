@@ -1,17 +1,18 @@
-ghost use Rattle.std.specs.Prelude.{◌≡◌, ℕ, ◌<◌, ◌≤◌, ◌+◌, ◌-◌, ◌++◌, ◌∷◌, [], get_or, List, OnOk, OnErr, vec_len, vec_capacity, filter, map, length, slice_get, Some, IfSome, IfOk, IsNone};
+ghost use Rattle.std.specs.Prelude.{◌≡◌, ℕ, ◌<◌, ◌≤◌, ◌+◌, ◌-◌, ◌^◌, ◌++◌, ◌∷◌, [], get_or, List, OnOk, OnErr, vec_len, vec_capacity, filter, map, length, slice_get, Some, IfSome, IfOk, IsNone};
 ghost use Rattle.std.specs.List.Sorted.{IsNonDecreasingBy};
 ghost use Rattle.translation_laws.specs.Members.{Among};
 ghost use Rattle.std.specs.Option.{option_map_or};
 ghost use Rattle.spec_actions.specs.declared.action.OfAction.{OfAction};
 ghost use Rattle.spec_tables.specs.declared.edit_word.EditWord.TheVariants.{ModifyStrict};
 ghost use Rattle.spec_tables.specs.Rules as seen;
-ghost use Rattle.tuple_classifier.specs.ByTable.{AreClassified, CountMoreRules};
+ghost use Rattle.tuple_classifier.specs.ByTable.{AreClassified, HaveNoRule};
 ghost use Rattle.tuple_classifier.specs.Live.{unboxed, live_rules, plain_rule, plain_rules, given_by, given_to, is_kept, is_unlike, IsRising, AreOfVersion, IsWithinPlaces, ArePlaced};
 ghost use Rattle.tuple_classifier.specs.declared.live.LiveRule.{LiveRule};
 
-use crate::by_table::{Table, find_named, insert_in, take_from};
-use crate::rank::Rank;
+use crate::by_table::{find_named, insert_in, take_from};
+use crate::table::Table;
 use rule_tables::{Edit, EditWord, Rule};
+use staged_lookup::Rank;
 use std::alloc::{AllocError, Global};
 
 /// A live rule, and where its actions are among the lists of actions.
@@ -23,7 +24,7 @@ pub(crate) struct LiveRule {
 
 impl LiveRule {
     ghost use Rattle.tuple_classifier.specs.Live.{given_by, plain_rule};
-    ghost use Rattle.tuple_classifier.specs.Ranks.{rank_of};
+    ghost use Rattle.staged_lookup.specs.Ranks.{rank_of};
     ghost use Rattle.std.specs.Prelude.{List};
     ghost use Rattle.spec_actions.specs.declared.action.OfAction.{OfAction};
     ghost use Rattle.spec_tables.specs.Edits.{rule_of};
@@ -207,7 +208,7 @@ pub(crate) fn give(
     }
 }
 
-/// Takes the rules that an edit picks out of the subtables.
+/// Takes the rules that an edit picks out of the tables.
 pub(crate) fn take_picked(tables: &mut Vec<Table>, live: &[Box<LiveRule>], edit: &Edit)
     requires rising { IsRising (plain_rules (unboxed live.now)) }
     requires classified { AreClassified tables.old.items (plain_rules (unboxed live.now)) }
@@ -222,7 +223,7 @@ pub(crate) fn take_picked(tables: &mut Vec<Table>, live: &[Box<LiveRule>], edit:
     }
 }
 
-/// Takes the live rule of a number out, and out of the subtables.
+/// Takes the live rule of a number out, and out of the tables.
 pub(crate) fn take_numbered(tables: &mut Vec<Table>, live: &mut Vec<Box<LiveRule>>, number: u32)
     requires rising { IsRising (plain_rules (unboxed live.old.items)) }
     requires classified { AreClassified tables.old.items (plain_rules (unboxed live.old.items)) }
@@ -236,7 +237,7 @@ pub(crate) fn take_numbered(tables: &mut Vec<Table>, live: &mut Vec<Box<LiveRule
     }
 }
 
-/// Takes the live rule of a number out, if one is given, and out of the subtables.
+/// Takes the live rule of a number out, if one is given, and out of the tables.
 pub(crate) fn take_replaced(
     tables: &mut Vec<Table>,
     live: &mut Vec<Box<LiveRule>>,
@@ -254,13 +255,16 @@ pub(crate) fn take_replaced(
     }
 }
 
-/// Adds a live rule to the subtables. The only error is out of memory, and then they have the same rules.
+/// Adds a live rule to the tables, none of which has one of its number, and which have fewer than 2^32 - 1. The only error
+/// is out of memory, and then they have the same rules.
 pub(crate) fn insert_live(
     alloc: Global,
     tables: &mut Vec<Table>,
     l: &LiveRule,
 ) -> Result<(), AllocError>
-    requires { CountMoreRules tables.old.items }
+    requires new { HaveNoRule l.now.rule.number tables.old.items }
+    requires few { (rules : List seen.Rule) × (AreClassified tables.old.items rules)
+        × (length rules + 1 < 2 ^ 32) }
     ensures ok { OnOk result
         ((rules : List seen.Rule) → AreClassified tables.old.items rules
         → AreClassified tables.new.items (rules ++ plain_rule l.now ∷ [])) }

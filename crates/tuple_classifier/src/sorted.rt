@@ -1,16 +1,14 @@
-ghost use Rattle.std.specs.Prelude.{◌≡◌, ◌&&◌, nat_lt, length, slice_index, ◌<◌, ◌-◌, IfSome, ◌≤◌, ◌+◌, ◌^◌, ◌==◌, ℕ, [], All, nat_le, if◌then◌else◌, vec_len, vec_capacity, OnOk, IsTrue};
+ghost use Rattle.std.specs.Prelude.{◌≡◌, length, slice_index, ◌<◌, ◌-◌, IfSome, ◌≤◌, ◌+◌, ◌==◌, ℕ, [], All, nat_le, if◌then◌else◌, vec_len, vec_capacity, OnOk, IsNone};
 ghost use Rattle.std.specs.List.{list_any, insert};
 ghost use Rattle.std.specs.List.Sorted.{IsNonDecreasingBy};
-ghost use Rattle.spec_xlate.specs.Lookup as xlate;
 ghost use Rattle.tuple_classifier.specs.Numbers.{times, numbers_in, entry_numbers, entry_counts};
 
-use crate::prefix::common_leading;
 use std::alloc::{AllocError, Global};
 
 /// A number, and how often it was put in. Where that is more than a count can say, the number has several entries.
 #[derive(Clone, Copy, Debug)]
 pub(crate) struct Counted {
-    pub(crate) number: u128,
+    pub(crate) number: u16,
     pub(crate) count: u32,
 }
 
@@ -41,7 +39,7 @@ impl SortedNumbers {
     }
 
     /// Puts a number in, for which there is room.
-    pub(crate) fn insert(&mut self, number: u128)
+    pub(crate) fn insert(&mut self, number: u16)
         requires { vec_len self.old.items < vec_capacity self.old.items }
         ensures { (n : ℕ)
             → times n (numbers_in self.new.items.items)
@@ -55,7 +53,7 @@ impl SortedNumbers {
     }
 
     /// Takes a number out once, which is there.
-    pub(crate) fn remove(&mut self, number: u128)
+    pub(crate) fn remove(&mut self, number: u16)
         requires { 0 < times number (numbers_in self.old.items.items) }
         ensures { (n : ℕ)
             → times n (numbers_in self.new.items.items) + (if number == n then 1 else 0)
@@ -70,41 +68,33 @@ impl SortedNumbers {
         }
     }
 
-    pub(crate) fn is_empty(&self) -> bool
-        ensures { IsTrue result → numbers_in self.now.items.items ≡ [] }
-    {
-        self.items.is_empty()
-    }
-
     /// Whether one of the numbers is at least this one.
-    pub(crate) fn reaches(&self, floor: u128) -> bool
+    pub(crate) fn reaches(&self, floor: u16) -> bool
         ensures { result ≡ list_any (λ n. nat_le floor n) (numbers_in self.now.items.items) }
     {
-        let count = self.items.len();
-        count > 0 && self.items[count - 1].number >= floor
+        match self.greatest() {
+            Some(greatest) => greatest >= floor,
+            None => false,
+        }
     }
 
-    /// How many leading bits tell x from all of the numbers: one more than the most that it has in common with one of
-    /// them, and 0 where there are none.
-    pub(crate) fn bits_apart(&self, width: u32, x: u128) -> u32
-        requires wide { width ≤ 128 }
-        requires fits { x < 2 ^ width }
-        requires fit { All (λ v. v < 2 ^ width) (numbers_in self.now.items.items) }
-        ensures { (n : ℕ) → n ≤ width
-            → list_any (λ v. xlate.starts_alike width x v n) (numbers_in self.now.items.items)
-            ≡ nat_lt n result }
+    /// The greatest of the numbers, if there is one.
+    pub(crate) fn greatest(&self) -> Option<u16>
+        ensures some { IfSome result
+            (λ n. (floor : ℕ) → list_any (λ m. nat_le floor m) (numbers_in self.now.items.items)
+            ≡ nat_le floor n) }
+        ensures none { IsNone result → numbers_in self.now.items.items ≡ [] }
     {
-        let place = first_beyond(&self.items, x);
-        let from = bits_apart_at(&self.items, place, width, x);
-        if place == 0 {
-            return from;
+        let count = self.items.len();
+        if count == 0 {
+            return None;
         }
-        bits_apart_at(&self.items, place - 1, width, x).max(from)
+        Some(self.items[count - 1].number)
     }
 }
 
 /// The place of the first entry whose number is more than this one, or how many entries there are.
-fn first_beyond(items: &[Counted], number: u128) -> usize
+fn first_beyond(items: &[Counted], number: u16) -> usize
     requires { IsNonDecreasingBy (λ c. c.number) items.now }
     ensures within { result ≤ length items.now }
     ensures up_to { (k : ℕ) → k < result → slice_index (entry_numbers items.now) k ≤ number }
@@ -115,7 +105,7 @@ fn first_beyond(items: &[Counted], number: u128) -> usize
 }
 
 /// The place of the last entry of a number, which is there.
-fn place_of(items: &[Counted], number: u128) -> usize
+fn place_of(items: &[Counted], number: u16) -> usize
     requires rising { IsNonDecreasingBy (λ c. c.number) items.now }
     requires counted { All (λ c. 0 < c.count) items.now }
     requires there { 0 < times number (numbers_in items.now) }
@@ -126,7 +116,7 @@ fn place_of(items: &[Counted], number: u128) -> usize
 }
 
 /// The count with one more of the entry in front of a place, if that is of this number and its count can rise.
-fn raised_count(items: &[Counted], beyond: usize, number: u128) -> Option<u32>
+fn raised_count(items: &[Counted], beyond: usize, number: u16) -> Option<u32>
     requires { beyond ≤ length items.now }
     ensures { IfSome result
         (λ count. (0 < beyond) × (slice_index (entry_numbers items.now) (beyond - 1) ≡ number)
@@ -144,7 +134,7 @@ fn raised_count(items: &[Counted], beyond: usize, number: u128) -> Option<u32>
 }
 
 /// Inserts an entry for a number that was put in once, for which there is room.
-fn insert_entry(items: &mut Vec<Counted>, place: usize, number: u128)
+fn insert_entry(items: &mut Vec<Counted>, place: usize, number: u16)
     requires within { place ≤ length items.old.items }
     requires room { vec_len items.old < vec_capacity items.old }
     ensures { items.new.items
@@ -171,20 +161,4 @@ fn set_count(items: &mut [Counted], place: usize, count: u32)
         (if slice_index (entry_numbers items.old) place == n then count else 0) }
 {
     items[place].count = count;
-}
-
-/// How many leading bits tell x from the number at a place, and 0 if there is none.
-fn bits_apart_at(items: &[Counted], place: usize, width: u32, x: u128) -> u32
-    requires wide { width ≤ 128 }
-    requires fits { x < 2 ^ width }
-    requires fit { All (λ v. v < 2 ^ width) (entry_numbers items.now) }
-    ensures { (n : ℕ) → n ≤ width
-        → (nat_lt place (length items.now) && xlate.starts_alike width x
-        (slice_index (entry_numbers items.now) place) n) ≡ nat_lt n result }
-{
-    if place < items.len() {
-        common_leading(width, x, items[place].number) + 1
-    } else {
-        0
-    }
 }

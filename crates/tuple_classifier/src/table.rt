@@ -1,114 +1,105 @@
-ghost use Rattle.std.specs.Prelude.{◌≡◌, ◌<◌, ◌==◌, ◌&&◌, ◌++◌, [], ◌∷◌, ℕ, List, true, false, length, slice_get, Some, IfSome, IfOk, IsNone, IsTrue, OnOk, OnErr};
+ghost use Rattle.std.specs.Prelude.{◌≡◌, ◌==◌, ◌&&◌, ◌+◌, ◌<◌, ◌^◌, ◌++◌, [], ◌∷◌, ℕ, List, length, slice_get, Some, OnOk, OnErr};
 ghost use Rattle.std.specs.List.{find};
 ghost use Rattle.std.specs.Option.{option_map};
-ghost use Rattle.spec_keys.specs.Keys.{same};
-ghost use Rattle.spec_tables.specs.Rules.{Rule, is_same_match};
+ghost use Rattle.spec_tables.specs.Rules.{Rule, winner, is_same_match};
+ghost use Rattle.spec_xlate.specs.Lookup.{added, consults};
+ghost use Rattle.translation_laws.specs.Members.{Among};
 ghost use Rattle.ovs_fields.specs.Packed.{numbers, bits};
 ghost use Rattle.rule_tables.specs.Views.{match_view};
-ghost use Rattle.tuple_classifier.specs.Indexes.{CountMore, HaveRule};
-ghost use Rattle.tuple_classifier.specs.Numbered.{AreDistinct, without};
-ghost use Rattle.tuple_classifier.specs.Parts.{AreSubtablesOf, IsSubtableOfOne};
-ghost use Rattle.tuple_classifier.specs.Ranks.{rank_of};
+ghost use Rattle.address_prefixes.specs.Addresses.{AreOf};
+ghost use Rattle.staged_lookup.specs.Numbered.{AreDistinct, without};
+ghost use Rattle.staged_lookup.specs.Ranks.{rank_of};
+ghost use Rattle.staged_lookup.specs.Subtables.{HasNoRule};
 ghost use Rattle.tuple_classifier.specs.declared.subtable.Subtable.{Subtable};
-ghost use Rattle.translation_laws.specs.Members.{Among};
 
-use crate::rank::Rank;
+use crate::lookup::look;
 use crate::subtable::Subtable;
-use ovs_fields::Mask;
+use crate::subtables::{find_rule, insert_rule, take_rule};
+use address_prefixes::AddressPrefixes;
+use ovs_fields::{Key, Mask};
 use rule_tables::Match;
+use staged_lookup::Rank;
 use std::alloc::{AllocError, Global};
 
-/// Adds a rule to the subtables of a table. The only error is out of memory, and then they have the same rules.
-pub(crate) fn insert_rule(
-    alloc: Global,
-    subtables: &mut Vec<Subtable>,
-    matching: &Match,
-    rank: Rank,
-) -> Result<(), AllocError>
-    requires { (i : ℕ) (s : Subtable) → slice_get subtables.old.items i ≡ Some s
-        → CountMore s.indexes }
-    ensures ok { OnOk result
-        ((rs : List Rule) (r : Rule) → AreSubtablesOf subtables.old.items rs
-        → r.matching ≡ match_view matching.now → rank_of r ≡ rank
-        → AreSubtablesOf subtables.new.items (rs ++ r ∷ [])) }
-    ensures err { OnErr result
-        ((rs : List Rule) → AreSubtablesOf subtables.old.items rs
-        → AreSubtablesOf subtables.new.items rs) }
-{
-    match place_of_mask(subtables, &matching.mask) {
-        Some(place) => subtables[place].insert(alloc, &matching.key, rank),
-        None => {
-            let subtable = one_rule(alloc, matching, rank)?;
-            match subtables.push(subtable) {
-                Ok(()) => Ok(()),
-                Err(refused) => Err(AllocError::from(refused)),
+/// The rules of a table.
+#[derive(Drop)]
+pub(crate) struct Table {
+    /// The prefixes of the addresses that they state.
+    pub(crate) prefixes: AddressPrefixes,
+    /// Those of each mask, by falling greatest priority.
+    pub(crate) subtables: Vec<Subtable>,
+}
+
+impl Table {
+    ghost use Rattle.tuple_classifier.specs.Tables.{IsTableOf, HasRuleOf};
+
+    /// No rules. It takes no memory.
+    pub(crate) fn new(alloc: Global) -> Table
+        ensures { IsTableOf result [] }
+    {
+        Table {
+            prefixes: AddressPrefixes::new(alloc),
+            subtables: Vec::new(alloc),
+        }
+    }
+
+    /// Adds a rule, whose number none of the rules has, and which are fewer than 2^32 - 1. The only error is out of memory,
+    /// and then it has the same rules.
+    pub(crate) fn insert(
+        &mut self,
+        alloc: Global,
+        matching: &Match,
+        rank: Rank,
+    ) -> Result<(), AllocError>
+        requires new { (i : ℕ) (s : Subtable) → slice_get self.old.subtables.items i ≡ Some s
+            → HasNoRule rank.number s.staged }
+        requires few { (rs : List Rule) × (AreOf self.old.prefixes rs) × (length rs + 1 < 2 ^ 32) }
+        ensures ok { OnOk result
+            ((rs : List Rule) (r : Rule) → IsTableOf self.old rs
+            → r.matching ≡ match_view matching.now → rank_of r ≡ rank
+            → IsTableOf self.new (rs ++ r ∷ [])) }
+        ensures err { OnErr result
+            ((rs : List Rule) → IsTableOf self.old rs → IsTableOf self.new rs) }
+    {
+        self.prefixes.insert(matching)?;
+        match insert_rule(alloc, &mut self.subtables, matching, rank) {
+            Ok(()) => Ok(()),
+            Err(error) => {
+                self.prefixes.remove(matching);
+                Err(error)
             }
         }
     }
-}
 
-/// A subtable with one rule.
-fn one_rule(alloc: Global, matching: &Match, rank: Rank) -> Result<Subtable, AllocError>
-    ensures { IfOk result (λ s. IsSubtableOfOne s matching.now rank) }
-{
-    let mut subtable = Subtable::new(alloc, &matching.mask);
-    subtable.insert(alloc, &matching.key, rank)?;
-    Ok(subtable)
-}
-
-/// Takes a rule out of the subtables of a table, and its mask with the last rule. It takes no memory.
-pub(crate) fn take_rule(subtables: &mut Vec<Subtable>, matching: &Match, rank: Rank)
-    requires { (i : ℕ) (s : Subtable) → slice_get subtables.old.items i ≡ Some s
-        → same (bits s.mask) (bits matching.now.mask) ≡ true
-        → HaveRule s.indexes (numbers matching.now.key) rank.priority }
-    ensures { (rs : List Rule) (r : Rule) → AreSubtablesOf subtables.old.items rs → AreDistinct rs
-        → Among r rs → r.matching ≡ match_view matching.now → rank_of r ≡ rank
-        → AreSubtablesOf subtables.new.items (without r.number rs) }
-{
-    if let Some(place) = place_of_mask(subtables, &matching.mask) {
-        subtables[place].take(&matching.key, rank);
-        drop_empty(subtables, place);
+    /// Takes a rule out. It takes no memory.
+    pub(crate) fn take(&mut self, matching: &Match, rank: Rank)
+        requires { HasRuleOf self.old (match_view matching.now) rank }
+        ensures { (rs : List Rule) (r : Rule) → IsTableOf self.old rs → AreDistinct rs
+            → Among r rs → r.matching ≡ match_view matching.now → rank_of r ≡ rank
+            → IsTableOf self.new (without r.number rs) }
+    {
+        take_rule(&mut self.subtables, matching, rank);
+        self.prefixes.remove(matching);
     }
-}
 
-/// Drops the subtable at a place, if it has no rules.
-fn drop_empty(subtables: &mut Vec<Subtable>, place: usize)
-    requires { place < length subtables.old.items }
-    ensures { (rs : List Rule) → AreSubtablesOf subtables.old.items rs
-        → AreSubtablesOf subtables.new.items rs }
-{
-    if subtables[place].is_empty() {
-        subtables.remove(place);
+    /// The number of the rule with this match and priority.
+    pub(crate) fn find(&self, matching: &Match, priority: u16) -> Option<u32>
+        ensures { (rs : List Rule) → IsTableOf self.now rs
+            → result ≡ option_map (λ r. r.number)
+            (find (λ r. (r.priority == priority) && is_same_match r.matching
+            (match_view matching.now)) rs) }
+    {
+        find_rule(&self.subtables, matching, priority)
     }
-}
 
-/// The number of the rule with this match and priority.
-pub(crate) fn find_rule(subtables: &[Subtable], matching: &Match, priority: u16) -> Option<u32>
-    ensures { (rs : List Rule) → AreSubtablesOf subtables.now rs
-        → result ≡ option_map (λ r. r.number)
-        (find (λ r. (r.priority == priority) && is_same_match r.matching
-        (match_view matching.now)) rs) }
-{
-    match place_of_mask(subtables, &matching.mask) {
-        Some(place) => subtables[place].find(&matching.key, priority),
-        None => None,
+    /// The number of the winner for a key. The bits that the lookup consults are added.
+    pub(crate) fn look(&self, key: &Key, consulted: &mut Mask) -> Option<u32>
+        requires { (rs : List Rule) × (IsTableOf self.now rs) }
+        ensures winner { (rs : List Rule) → IsTableOf self.now rs → AreDistinct rs
+            → result ≡ option_map (λ r. r.number) (winner rs (numbers key.now)) }
+        ensures consulted { (rs : List Rule) → IsTableOf self.now rs → AreDistinct rs
+            → bits consulted.new ≡ added (bits consulted.old) (consults rs (numbers key.now)) }
+    {
+        look(&self.subtables, &self.prefixes, key, consulted)
     }
-}
-
-/// The place of the subtable of a mask.
-fn place_of_mask(subtables: &[Subtable], mask: &Mask) -> Option<usize>
-    ensures some { IfSome result
-        (λ i. (i < length subtables.now)
-        × ((s : Subtable) → slice_get subtables.now i ≡ Some s
-        → same (bits s.mask) (bits mask.now) ≡ true)) }
-    ensures none { IsNone result → (i : ℕ) (s : Subtable) → slice_get subtables.now i ≡ Some s
-        → same (bits s.mask) (bits mask.now) ≡ false }
-{
-    'subtables: for i in 0..subtables.len() {
-        let subtable = &subtables[i];
-        if subtable.mask == *mask {
-            return Some(i);
-        }
-    }
-    None
 }

@@ -8,11 +8,11 @@ ghost use Rattle.spec_xlate.specs.Lookup.{added, consults};
 ghost use Rattle.ovs_fields.specs.Packed.{numbers, bits};
 ghost use Rattle.tuple_classifier.specs.Versions.{no_rules, after};
 
-use crate::by_table::{Table, find_named};
+use crate::by_table::find_named;
 use crate::live::{
     LiveRule, give, insert_live, keep_others, push_place, push_rule, take_picked, take_replaced,
 };
-use crate::lookup::look;
+use crate::table::Table;
 use ovs_fields::{Key, Mask};
 use rule_tables::{Actions, Edit, EditWord, OfAction};
 use std::alloc::{AllocError, Global};
@@ -21,8 +21,9 @@ use std::marker::Model;
 /// The rules of one version of the tables, by their masks.
 #[derive(Drop)]
 pub struct Tables {
-    alloc: Global,
-    version: u32,
+    /// The rules of each table, by their masks. They stand first, since the search for `Send` goes down a step for each
+    /// field before the one that it is at.
+    tables: Vec<Table>,
     /// The live rules, in the order of their numbers.
     live: Vec<Box<LiveRule>>,
     /// The lists of actions that edits gave, in the order of the edits.
@@ -30,8 +31,8 @@ pub struct Tables {
     /// By the numbers of the rules, from 1 on, where the actions of each are among the lists. What stands at a number that
     /// no live rule has means nothing.
     places: Vec<u32>,
-    /// The subtables of each table.
-    tables: Vec<Table>,
+    alloc: Global,
+    version: u32,
 }
 
 impl Model for Tables {
@@ -52,12 +53,12 @@ impl Tables {
         ensures { result ≡ no_rules }
     {
         Tables {
-            alloc,
-            version: 0,
+            tables: Vec::new(alloc),
             live: Vec::new(alloc),
             lists: Vec::new(alloc),
             places: Vec::new(alloc),
-            tables: Vec::new(alloc),
+            alloc,
+            version: 0,
         }
     }
 
@@ -78,7 +79,7 @@ impl Tables {
             (consults (rules_in table self.now.rules) (numbers key.now)) }
     {
         if (table as usize) < self.tables.len() {
-            look(&self.tables[table as usize], key, consulted)
+            self.tables[table as usize].look(key, consulted)
         } else {
             None
         }

@@ -8,7 +8,7 @@ use Rattle.tuple_classifier.specs.declared.live.LiveRule.{LiveRule}
 use Rattle.tuple_classifier.specs.Live.{unboxed}
 use Rattle.tuple_classifier.proofs.Boxes.{boxes_rising, below_unboxed, least_from, stands_at}
 use Rattle.tuple_classifier.proofs.LiveLaws.{none_before, none_beside}
-use Rattle.tuple_classifier.proofs.Nearest.{nat_lt_true, not_nat_lt}
+use Rattle.std.proofs.lemmas.Bool.{ltb-true, ltb-false}
 use Rattle.tuple_classifier.proofs.live.place_of.Goals as goal
 
 pub returns-then-place-live-clause-none : goal.returns-then-place-live-clause-none
@@ -16,7 +16,7 @@ returns-then-place-live-clause-none c none =
     let halves = IsPartitionPoint-from_clause (λ (b : Box LiveRule Global). nat_lt b.value.rule.number c.args.number) _ _ c.partition_point-place.ensures.partitioned (IsPartitionedBy-ltb (λ (b : Box LiveRule Global). b.value.rule.number) c.args.live.now c.args.number (boxes_rising c.args.live.now c.requires)) (λ a r q k. search rules) in
     let n = length-map c.args.live.now (λ (b : Box LiveRule Global). b.value) in
     none_before (unboxed c.args.live.now) c.args.number c.partition_point-place.result (omega (arith, n))
-    (below_unboxed c.args.live.now c.args.number c.partition_point-place.result (λ k b lt. nat_lt_true _ _ (halves.0 k b (omega arith) lt)) (omega arith))
+    (below_unboxed c.args.live.now c.args.number c.partition_point-place.result (λ k b lt. ltb-true _ _ (halves.0 k b (omega arith) lt)) (omega arith))
 
 pub returns-else-rule_at-number-clause-none : goal.returns-else-rule_at-number-clause-none
 returns-else-rule_at-number-clause-none c none =
@@ -24,6 +24,6 @@ returns-else-rule_at-number-clause-none c none =
     let here : c.partition_point-place.result < length c.args.live.now = omega arith in
     none_beside (unboxed c.args.live.now) c.args.number c.partition_point-place.result c.rule_at.result.now
     (slice_get_within (unboxed c.args.live.now) c.partition_point-place.result c.rule_at.result.now c.rule_at.ensures) c.requires
-    (below_unboxed c.args.live.now c.args.number c.partition_point-place.result (λ k b lt. nat_lt_true _ _ (halves.0 k b (omega arith) lt)) (omega arith))
-    (least_from c.args.live.now c.args.number c.partition_point-place.result c.rule_at.result.now c.rule_at.ensures (λ b. not_nat_lt _ _ (halves.1 c.partition_point-place.result b (omega arith) here)))
+    (below_unboxed c.args.live.now c.args.number c.partition_point-place.result (λ k b lt. ltb-true _ _ (halves.0 k b (omega arith) lt)) (omega arith))
+    (least_from c.args.live.now c.args.number c.partition_point-place.result c.rule_at.result.now c.rule_at.ensures (λ b. ltb-false _ _ (halves.1 c.partition_point-place.result b (omega arith) here)))
     (stands_at (unboxed c.args.live.now) c.partition_point-place.result c.rule_at.result.now c.rule_at.ensures) c.if-rule_at-number.false

@@ -14,7 +14,7 @@ place_of-requires c = subst (λ bs. IsNonDecreasingBy (λ (l : LiveRule). l.rule
 pub take_from-requires : goal.take_from-requires
 take_from-requires c =
     let here : slice_get (unboxed c.args.live.now.items) c.in-Some.place ≡ Some c.rule_at-l.result.now = subst (λ bs. slice_get (unboxed bs) c.in-Some.place ≡ Some c.rule_at-l.result.now) c.deref-in-Some.ensures.value c.rule_at-l.ensures in
-    live_has c.args.tables.now.items (unboxed c.args.live.now.items) c.rule_at-l.result.now c.rank.result.priority c.requires.classified (live_at (unboxed c.args.live.now.items) c.in-Some.place c.rule_at-l.result.now here) (ap (λ k. k.priority) c.rank.ensures)
+    live_has c.args.tables.now.items (unboxed c.args.live.now.items) c.rule_at-l.result.now c.rank.result c.requires.classified (live_at (unboxed c.args.live.now.items) c.in-Some.place c.rule_at-l.result.now here) c.rank.ensures
 
 pub returns-in-Some-clause-live : goal.returns-in-Some-clause-live
 returns-in-Some-clause-live c =

@@ -1,7 +1,7 @@
 use Rattle.std.proofs.Common.{◌≡◌, ◌∷◌, ◌++◌, ◌+◌, not, Vec, Box, false, true, length, take, drop, filter, inl, refl, subst, sym, ap, ◌∙◌, arith}
 use Rattle.std.specs.declared.alloc.Global.{Global}
 use Rattle.translation_laws.proofs.MemberLaws.{Among_in-map, Among-append_right}
-use Rattle.tuple_classifier.specs.declared.subtable.Subtable.{Subtable}
+use Rattle.tuple_classifier.specs.declared.table.Table.{Table}
 use Rattle.tuple_classifier.specs.ByTable.{AreClassified}
 use Rattle.tuple_classifier.specs.Live.{unboxed, plain_rule, plain_rules, is_kept}
 use Rattle.std.proofs.lemmas.List.{length-map}
@@ -14,9 +14,9 @@ use Rattle.tuple_classifier.proofs.live.take_picked.Goals as goal
 
 pub take_from-requires : goal.take_from-requires
 take_from-requires c =
-    live_has c.live.tables.items (filter (is_kept c.args.edit.now) (take c.live.i (unboxed c.args.live.now)) ++ c.rule_at-l.result.now ∷ drop (c.live.i + 1) (unboxed c.args.live.now)) c.rule_at-l.result.now c.rank.result.priority
+    live_has c.live.tables.items (filter (is_kept c.args.edit.now) (take c.live.i (unboxed c.args.live.now)) ++ c.rule_at-l.result.now ∷ drop (c.live.i + 1) (unboxed c.args.live.now)) c.rule_at-l.result.now c.rank.result
     (subst (λ ls. AreClassified c.live.tables.items (plain_rules ls)) (in_middle (is_kept c.args.edit.now) (unboxed c.args.live.now) c.live.i c.rule_at-l.result.now (slice_get_within (unboxed c.args.live.now) c.live.i c.rule_at-l.result.now c.rule_at-l.ensures) (stands_at (unboxed c.args.live.now) c.live.i c.rule_at-l.result.now c.rule_at-l.ensures)) c.live.invariant)
-    (Among-append_right c.rule_at-l.result.now (filter (is_kept c.args.edit.now) (take c.live.i (unboxed c.args.live.now))) (c.rule_at-l.result.now ∷ drop (c.live.i + 1) (unboxed c.args.live.now)) (inl refl)) (ap (λ k. k.priority) c.rank.ensures)
+    (Among-append_right c.rule_at-l.result.now (filter (is_kept c.args.edit.now) (take c.live.i (unboxed c.args.live.now))) (c.rule_at-l.result.now ∷ drop (c.live.i + 1) (unboxed c.args.live.now)) (inl refl)) c.rank.ensures
 
 pub live-preserved : goal.live-preserved
 live-preserved c =
@@ -24,7 +24,7 @@ live-preserved c =
       | then-picks w ↦
           let gone : is_kept c.args.edit.now c.rule_at-l.result.now ≡ false = ap not (sym c.picks.ensures ∙ w.if-picks.true) in
           let ls = filter (is_kept c.args.edit.now) (take c.live.i (unboxed c.args.live.now)) ++ c.rule_at-l.result.now ∷ drop (c.live.i + 1) (unboxed c.args.live.now) in
-          subst (λ (v : Vec (Vec Subtable Global) Global). AreClassified v.items (plain_rules (filter (is_kept c.args.edit.now) (take (c.live.i + 1) (unboxed c.args.live.now)) ++ drop (c.live.i + 1) (unboxed c.args.live.now)))) (sym w.tables-is)
+          subst (λ (v : Vec Table Global). AreClassified v.items (plain_rules (filter (is_kept c.args.edit.now) (take (c.live.i + 1) (unboxed c.args.live.now)) ++ drop (c.live.i + 1) (unboxed c.args.live.now)))) (sym w.tables-is)
           (subst (AreClassified w.take_from.new.tables.items) (goes_from_middle (is_kept c.args.edit.now) (unboxed c.args.live.now) c.live.i c.rule_at-l.result.now (slice_get_within (unboxed c.args.live.now) c.live.i c.rule_at-l.result.now c.rule_at-l.ensures) (stands_at (unboxed c.args.live.now) c.live.i c.rule_at-l.result.now c.rule_at-l.ensures) c.requires.rising gone)
           (w.take_from.ensures (plain_rules ls) (plain_rule c.rule_at-l.result.now)
           (subst (λ ks. AreClassified c.live.tables.items (plain_rules ks)) (in_middle (is_kept c.args.edit.now) (unboxed c.args.live.now) c.live.i c.rule_at-l.result.now (slice_get_within (unboxed c.args.live.now) c.live.i c.rule_at-l.result.now c.rule_at-l.ensures) (stands_at (unboxed c.args.live.now) c.live.i c.rule_at-l.result.now c.rule_at-l.ensures)) c.live.invariant)
@@ -32,7 +32,7 @@ live-preserved c =
           (Among_in-map plain_rule c.rule_at-l.result.now ls (Among-append_right c.rule_at-l.result.now (filter (is_kept c.args.edit.now) (take c.live.i (unboxed c.args.live.now))) (c.rule_at-l.result.now ∷ drop (c.live.i + 1) (unboxed c.args.live.now)) (inl refl))) refl refl (sym w.rank.ensures)))
       | else-picks w ↦
           let kept : is_kept c.args.edit.now c.rule_at-l.result.now ≡ true = ap not (sym c.picks.ensures ∙ w.if-picks.false) in
-          subst (λ (v : Vec (Vec Subtable Global) Global). AreClassified v.items (plain_rules (filter (is_kept c.args.edit.now) (take (c.live.i + 1) (unboxed c.args.live.now)) ++ drop (c.live.i + 1) (unboxed c.args.live.now)))) (sym w.tables-is)
+          subst (λ (v : Vec Table Global). AreClassified v.items (plain_rules (filter (is_kept c.args.edit.now) (take (c.live.i + 1) (unboxed c.args.live.now)) ++ drop (c.live.i + 1) (unboxed c.args.live.now)))) (sym w.tables-is)
           (subst (λ ks. AreClassified c.live.tables.items (plain_rules ks)) (kept_stays (is_kept c.args.edit.now) (unboxed c.args.live.now) c.live.i c.rule_at-l.result.now (slice_get_within (unboxed c.args.live.now) c.live.i c.rule_at-l.result.now c.rule_at-l.ensures) (stands_at (unboxed c.args.live.now) c.live.i c.rule_at-l.result.now c.rule_at-l.ensures) kept) c.live.invariant)
     ]
 

@@ -1,49 +1,65 @@
-use Rattle.std.proofs.Common.{refl, ◌≡◌, ◌+◌, nat_le, length, drop, subst, sym, ap, ◌∙◌, arith}
+use Rattle.std.proofs.Common.{sym, ap, ◌∙◌, arith}
+use Rattle.std.proofs.lemmas.Option.{slice_get_within}
 use Rattle.spec_tables.specs.Rules.{winner}
-use Rattle.spec_xlate.specs.Lookup.{added}
 use Rattle.ovs_fields.specs.Packed.{numbers, bits}
-use Rattle.tuple_classifier.specs.FieldLookups.{AreKnown}
-use Rattle.tuple_classifier.specs.Parts.{of_mask, gathered}
-use Rattle.tuple_classifier.proofs.Members.{any_among}
-use Rattle.tuple_classifier.proofs.PartLaws.{here, gathers, passes, gathered_end, gathered_consults}
-use Rattle.tuple_classifier.proofs.WinnerLaws.{floor_beats, number_of_best}
-use Rattle.tuple_classifier.proofs.lookup.look.Goals.{then-reaches, else-reaches}
+use Rattle.tuple_classifier.specs.Parts.{of_mask, reaches}
+use Rattle.tuple_classifier.proofs.PartLaws.{here}
+use Rattle.tuple_classifier.proofs.PassLaws.{passed_none, passed_more, stopped, winner_at_end, all_consulted}
+use Rattle.tuple_classifier.proofs.WinnerLaws.{number_of_best}
 use Rattle.tuple_classifier.proofs.lookup.look.Goals as goal
 
 pub subtables-init : goal.subtables-init
-subtables-init c rs are = (c.winner_of-best.ensures.known rs are (c.none-known.ensures (numbers c.args.key.now) rs), refl)
+subtables-init c rs are of = (c.none-known.ensures (numbers c.args.key.now) rs, passed_none (numbers c.args.key.now) (bits c.args.consulted.now) rs c.args.subtables.now)
+
+pub returns-then-not-reaches-clause-winner : goal.returns-then-not-reaches-clause-winner
+returns-then-not-reaches-clause-winner c rs are of distinct =
+    let key = numbers c.args.key.now in
+    let ss = c.args.subtables.now in
+    let s = c.index-subtables-i.result in
+    let own = of_mask (bits s.staged.mask) rs in
+    let there = here ss c.subtables.i s c.subtables-test.true c.index-subtables-i.is in
+    let none = sym (ap (λ f. reaches f own) c.priority_to_beat.ensures) ∙ sym (c.reaches.ensures (bits s.staged.mask) own (are.subtables.each c.subtables.i s there).indexed) ∙ c.if-not-reaches.true in
+    c.number_of.ensures
+    ∙ number_of_best c.subtables.best (winner rs key) (winner_at_end key (bits c.args.consulted.now) rs ss are c.subtables.i c.subtables.best (bits c.subtables.consulted) (c.subtables.invariant rs are of).1 (stopped key (bits c.args.consulted.now) rs ss are c.subtables.i s _ there none) distinct)
+
+pub returns-then-not-reaches-clause-consulted : goal.returns-then-not-reaches-clause-consulted
+returns-then-not-reaches-clause-consulted c rs are of distinct =
+    let key = numbers c.args.key.now in
+    let ss = c.args.subtables.now in
+    let s = c.index-subtables-i.result in
+    let own = of_mask (bits s.staged.mask) rs in
+    let there = here ss c.subtables.i s c.subtables-test.true c.index-subtables-i.is in
+    let none = sym (ap (λ f. reaches f own) c.priority_to_beat.ensures) ∙ sym (c.reaches.ensures (bits s.staged.mask) own (are.subtables.each c.subtables.i s there).indexed) ∙ c.if-not-reaches.true in
+    all_consulted key (bits c.args.consulted.now) rs ss are c.subtables.i c.subtables.best (bits c.subtables.consulted) (c.subtables.invariant rs are of).1 (stopped key (bits c.args.consulted.now) rs ss are c.subtables.i s _ there none) distinct
 
 pub subtables-preserved : goal.subtables-preserved
-subtables-preserved c rs are =
-    let there = here c.args.subtables.now c.subtables.i c.index-subtables-i.result c.subtables-test.true c.index-subtables-i.is in
-    let is = are.each c.subtables.i c.index-subtables-i.result there in
-    let test = c.reaches.ensures (bits c.index-subtables-i.result.mask) (of_mask (bits c.index-subtables-i.result.mask) rs) is.indexed in
-    let so_far = c.subtables.invariant rs are in
-    elim c.if-reaches.branch [
-      | then-reaches w ↦
-          let hit = any_among (λ r. nat_le c.priority_to_beat-floor.result r.priority) (of_mask (bits c.index-subtables-i.result.mask) rs) (sym test ∙ w.if-reaches.true) in (
-            subst (λ k. AreKnown k (numbers c.args.key.now) rs) (sym w.known-is) (w.probe.ensures.known rs are so_far.0),
-            gathers (numbers c.args.key.now) c.priority_to_beat-floor.result rs c.args.subtables.now c.subtables.i c.index-subtables-i.result
-                (bits c.subtables.consulted) (bits c.if-reaches.consulted) _ c.reaches.result c.subtables-test.true c.index-subtables-i.is test w.if-reaches.true
-                (ap bits w.consulted-is ∙ w.probe.ensures.consulted rs c.index-subtables-i.result hit.0 are so_far.0 there hit.1) so_far.1,
-          )
-      | else-reaches w ↦ (
-        subst (λ k. AreKnown k (numbers c.args.key.now) rs) (sym w.known-is) so_far.0,
-        ap (λ m. added (bits m) (gathered (numbers c.args.key.now) c.priority_to_beat-floor.result rs (drop (c.subtables.i + 1) c.args.subtables.now))) w.consulted-is
-            ∙ passes (numbers c.args.key.now) c.priority_to_beat-floor.result rs c.args.subtables.now c.subtables.i c.index-subtables-i.result
-            (bits c.subtables.consulted) _ c.reaches.result c.subtables-test.true c.index-subtables-i.is test w.if-reaches.false so_far.1,
-      )
-    ]
+subtables-preserved c rs are of =
+    let key = numbers c.args.key.now in
+    let ss = c.args.subtables.now in
+    let s = c.index-subtables-i.result in
+    let own = of_mask (bits s.staged.mask) rs in
+    let there = here ss c.subtables.i s c.subtables-test.true c.index-subtables-i.is in
+    let so_far = c.subtables.invariant rs are of in
+    let rules = are.subtables.each c.subtables.i s there in
+    let test = sym (ap (λ f. reaches f own) c.priority_to_beat.ensures) ∙ sym (c.reaches.ensures (bits s.staged.mask) own (are.subtables.each c.subtables.i s there).indexed) ∙ c.if-not-reaches.false in (
+      c.probe-winner.ensures.known rs of so_far.0,
+      passed_more key (bits c.args.consulted.now) rs ss are c.subtables.i s c.probe-winner.result c.subtables.best c.best_of_two-best.result (bits c.subtables.consulted) (bits c.probe-winner.new.consulted)
+          c.subtables-test.true c.index-subtables-i.is test (c.probe-winner.ensures.best rs rules of so_far.0) (c.probe-winner.ensures.consulted rs rules of so_far.0) c.best_of_two-best.ensures so_far.1,
+    )
 
 pub returns-clause-winner : goal.returns-clause-winner
-returns-clause-winner c rs are distinct =
-    c.number_of.ensures ∙ number_of_best c.winner_of-best.result (winner rs (numbers c.args.key.now)) (c.winner_of-best.ensures.winner rs are distinct (c.none-known.ensures (numbers c.args.key.now) rs))
+returns-clause-winner c rs are of distinct =
+    let key = numbers c.args.key.now in
+    let ss = c.args.subtables.now in
+    let past = c.subtables-test.false in
+    c.number_of-2.ensures
+    ∙ number_of_best c.subtables.best (winner rs key) (winner_at_end key (bits c.args.consulted.now) rs ss are c.subtables.i c.subtables.best (bits c.subtables.consulted) (c.subtables.invariant rs are of).1
+    (λ j t le at. let l = slice_get_within ss j t at in absurd (omega (arith, past, le, l))) distinct)
 
 pub returns-clause-consulted : goal.returns-clause-consulted
-returns-clause-consulted c rs are distinct =
-    let at_end : c.subtables.i ≡ length c.args.subtables.now = omega arith in
-    let floor = c.priority_to_beat-floor.ensures ∙ floor_beats c.winner_of-best.result (winner rs (numbers c.args.key.now)) (c.winner_of-best.ensures.winner rs are distinct (c.none-known.ensures (numbers c.args.key.now) rs)) in
-    gathered_end (numbers c.args.key.now) c.priority_to_beat-floor.result rs c.args.subtables.now (bits c.subtables.consulted) _
-    (ap (λ j. added (bits c.subtables.consulted) (gathered (numbers c.args.key.now) c.priority_to_beat-floor.result rs (drop j c.args.subtables.now))) (sym at_end)
-    ∙ (c.subtables.invariant rs are).1)
-    ∙ gathered_consults (numbers c.args.key.now) c.priority_to_beat-floor.result rs c.args.subtables.now (bits c.args.consulted.now) are floor
+returns-clause-consulted c rs are of distinct =
+    let key = numbers c.args.key.now in
+    let ss = c.args.subtables.now in
+    let past = c.subtables-test.false in
+    all_consulted key (bits c.args.consulted.now) rs ss are c.subtables.i c.subtables.best (bits c.subtables.consulted) (c.subtables.invariant rs are of).1
+    (λ j t le at. let l = slice_get_within ss j t at in absurd (omega (arith, past, le, l))) distinct

@@ -1,35 +1,85 @@
-use Rattle.std.proofs.Common.{sym, ap, subst, ◌∙◌}
-use Rattle.std.proofs.lemmas.Option.{same_Some}
+use Rattle.std.proofs.Common.{◌≡◌, ◌<◌, List, [], ◌∷◌, IfSome, refl, sym, ap, subst, ◌∙◌}
+use Rattle.std.specs.Option.{option_map}
+use Rattle.spec_keys.specs.Keys.{joined}
+use Rattle.spec_keys.specs.Stages.{network_stage}
+use Rattle.spec_tables.specs.Rules.{Rule}
 use Rattle.spec_xlate.specs.Lookup as xlate
-use Rattle.spec_xlate.specs.Lookup.{added}
+use Rattle.spec_xlate.specs.Lookup.{added, when, stage_test, tracked_fields}
 use Rattle.ovs_fields.specs.Packed.{numbers, bits}
-use Rattle.translation_laws.proofs.MemberLaws.{Among}
+use Rattle.staged_lookup.specs.Subtables as lookup
+use Rattle.staged_lookup.specs.Subtables.{IsProbe, IsEarly}
+use Rattle.staged_lookup.proofs.ProbeLaws.{ended_none}
 use Rattle.tuple_classifier.specs.Parts.{of_mask}
-use Rattle.tuple_classifier.proofs.PartLaws.{here}
-use Rattle.tuple_classifier.proofs.StageTests.{probed_same, probed_whole}
+use Rattle.tuple_classifier.specs.Ranks.{rank_of}
+use Rattle.tuple_classifier.proofs.ConsultLaws.{ended_early, passed_early, passed_any, has_passed, of_these}
+use Rattle.tuple_classifier.proofs.MatchLaws.{no_winner}
 use Rattle.tuple_classifier.proofs.lookup.probe.Goals as goal
 
-pub returns-clause-known : goal.returns-clause-known
-returns-clause-known c rs are known = c.ipv6_tests-ipv6.ensures.known rs are (c.ipv4_tests-ipv4.ensures.known rs are known)
+pub returns-in-Some-clause-best : goal.returns-in-Some-clause-best
+returns-in-Some-clause-best c rs is of known =
+    let key = numbers c.args.key.now in
+    let x = c.args.subtable.now in
+    let mask = bits x.staged.mask in
+    let own = of_mask mask rs in
+    let ended = subst (λ o. IfSome o (λ p. (qs : List Rule) → lookup.IsSubtableOf x.staged qs → IsProbe p mask key qs)) c.in-Some.ensures.ended c.probe_early-early.ensures.some own is.staged in
+    sym (ap (option_map rank_of) (ended_none mask key own is.staged.of_mask c.in-Some.stage ended))
+
+pub returns-in-Some-clause-consulted : goal.returns-in-Some-clause-consulted
+returns-in-Some-clause-consulted c rs is of known =
+    let key = numbers c.args.key.now in
+    let x = c.args.subtable.now in
+    let mask = bits x.staged.mask in
+    let own = of_mask mask rs in
+    let ended = subst (λ o. IfSome o (λ p. (qs : List Rule) → lookup.IsSubtableOf x.staged qs → IsProbe p mask key qs)) c.in-Some.ensures.ended c.probe_early-early.ensures.some own is.staged in
+    let early : c.in-Some.stage < network_stage = subst (λ o. IfSome o IsEarly) c.in-Some.ensures.ended c.probe_early-early.ensures.early in
+    c.or.ensures ∙ ap (joined (bits c.args.consulted.now)) (c.part.ensures own is.staged) ∙ sym (ended_early rs key mask c.in-Some.stage (bits c.args.consulted.now) early ended)
+
+pub returns-then-not-test-clause-best : goal.returns-then-not-test-clause-best
+returns-then-not-test-clause-best c rs is of known =
+    let key = numbers c.args.key.now in
+    let mask = bits c.args.subtable.now.staged.mask in
+    sym (ap (option_map rank_of) (no_winner key mask rs (c.test.ensures.unmatched rs mask of known is.indexed.prefixed c.if-not-test.true)))
+
+pub returns-then-not-test-clause-consulted : goal.returns-then-not-test-clause-consulted
+returns-then-not-test-clause-consulted c rs is of known =
+    let key = numbers c.args.key.now in
+    let x = c.args.subtable.now in
+    let mask = bits x.staged.mask in
+    let own = of_mask mask rs in
+    let passed = has_passed c.probe_early-early.result mask key own (c.in_default.ensures.goes_on refl)
+    (of_these c.probe_early-early.result (λ qs. lookup.IsSubtableOf x.staged qs) (λ p qs. IsProbe p mask key qs) own c.probe_early-early.ensures.some is.staged)
+    (λ none. c.probe_early-early.ensures.none none own is.staged) in
+    let last = stage_test rs key mask network_stage (mask ∷ []) in
+    let to_tests : added (bits c.args.consulted.now) (xlate.probe rs key mask) ≡ added (bits c.or-2.result) (xlate.prefix_tests rs key mask tracked_fields last) =
+    passed_early rs key mask (bits c.args.consulted.now) (passed_any rs key mask is.staged.of_mask c.probe_early-early.result passed)
+    ∙ ap (λ z. added z (xlate.prefix_tests rs key mask tracked_fields last)) (sym (c.or-2.ensures ∙ ap (joined (bits c.args.consulted.now)) (c.part-2.ensures own is.staged))) in
+    let to_last = to_tests ∙ c.test.ensures.consulted rs mask of known is.indexed.prefixed last in
+    sym (to_last ∙ ap (λ t. added (bits c.test.new.consulted) (when t last)) c.if-not-test.true)
+
+pub returns-clause-best : goal.returns-clause-best
+returns-clause-best c rs is of known =
+    let key = numbers c.args.key.now in
+    let x = c.args.subtable.now in
+    let mask = bits x.staged.mask in
+    let own = of_mask mask rs in
+    let passed = has_passed c.probe_early-early.result mask key own (c.in_default.ensures.goes_on refl)
+    (of_these c.probe_early-early.result (λ qs. lookup.IsSubtableOf x.staged qs) (λ p qs. IsProbe p mask key qs) own c.probe_early-early.ensures.some is.staged)
+    (λ none. c.probe_early-early.ensures.none none own is.staged) in
+    c.finish.ensures.best own is.staged passed
 
 pub returns-clause-consulted : goal.returns-clause-consulted
-returns-clause-consulted c rs s r are known at stated =
-    let there = here c.args.subtables.now c.args.i c.index-subtables-i.result c.requires c.index-subtables-i.is in
-    let is = are.each c.args.i c.index-subtables-i.result there in
-    let this = same_Some c.index-subtables-i.result s (sym there ∙ at) in
-    let mask = bits c.index-subtables-i.result.mask in
+returns-clause-consulted c rs is of known =
+    let key = numbers c.args.key.now in
+    let x = c.args.subtable.now in
+    let mask = bits x.staged.mask in
     let own = of_mask mask rs in
-    let indexes = c.index-subtables-i.result.indexes in
-    let m = subst (λ t. Among r (of_mask (bits t.mask) rs)) (sym this) stated in
-    probed_whole rs (numbers c.args.key.now) mask indexes (bits c.args.consulted.now)
-    (bits c.stage_test-metadata.new.consulted) (bits c.stage_test-ethernet.new.consulted) (bits c.ipv4_tests-ipv4.new.consulted) (bits c.ipv6_tests-ipv6.new.consulted)
-    (bits c.stage_test-network.new.consulted) (bits c.finish.new.consulted)
-    c.stage_test-metadata.result c.stage_test-ethernet.result c.ipv4_tests-ipv4.result c.ipv6_tests-ipv6.result c.stage_test-network.result
-    (c.stage_test-metadata.ensures _ _ mask own is.indexed.metadata)
-    (c.stage_test-ethernet.ensures _ _ mask own is.indexed.ethernet)
-    (c.ipv4_tests-ipv4.ensures.consulted rs own mask are known is.indexed)
-    (c.ipv6_tests-ipv6.ensures.consulted rs own mask are (c.ipv4_tests-ipv4.ensures.known rs are known) is.indexed)
-    (c.stage_test-network.ensures _ _ mask own is.indexed.network)
-    c.finish.ensures
-    ∙ sym (probed_same rs (numbers c.args.key.now) mask (bits c.args.consulted.now) indexes r is.indexed m (is.of_mask r m).fields c.args.key.now.is_key.fields c.args.consulted.now.is_key.fields)
-    ∙ ap (λ t. added (bits c.args.consulted.now) (xlate.probe rs (numbers c.args.key.now) (bits t.mask))) this
+    let passed = has_passed c.probe_early-early.result mask key own (c.in_default.ensures.goes_on refl)
+    (of_these c.probe_early-early.result (λ qs. lookup.IsSubtableOf x.staged qs) (λ p qs. IsProbe p mask key qs) own c.probe_early-early.ensures.some is.staged)
+    (λ none. c.probe_early-early.ensures.none none own is.staged) in
+    let last = stage_test rs key mask network_stage (mask ∷ []) in
+    let to_tests : added (bits c.args.consulted.now) (xlate.probe rs key mask) ≡ added (bits c.or-2.result) (xlate.prefix_tests rs key mask tracked_fields last) =
+    passed_early rs key mask (bits c.args.consulted.now) (passed_any rs key mask is.staged.of_mask c.probe_early-early.result passed)
+    ∙ ap (λ z. added z (xlate.prefix_tests rs key mask tracked_fields last)) (sym (c.or-2.ensures ∙ ap (joined (bits c.args.consulted.now)) (c.part-2.ensures own is.staged))) in
+    let to_last = to_tests ∙ c.test.ensures.consulted rs mask of known is.indexed.prefixed last in
+    c.finish.ensures.consulted rs is.staged passed
+    ∙ sym (to_last ∙ ap (λ t. added (bits c.test.new.consulted) (when t last)) c.if-not-test.false)

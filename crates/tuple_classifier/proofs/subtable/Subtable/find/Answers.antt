@@ -1,18 +1,4 @@
-use Rattle.std.proofs.Common.{◌∙◌, ◌==◌, sym, ap, []}
-use Rattle.std.specs.List.{find}
-use Rattle.std.specs.Option.{option_map, option_map_or, option_copied}
-use Rattle.ovs_fields.specs.Packed.{numbers}
-use Rattle.tuple_classifier.specs.declared.rank.Rank.{Rank}
-use Rattle.tuple_classifier.proofs.SubtableLaws.{find_priority}
 use Rattle.tuple_classifier.proofs.subtable.Subtable.find.Goals as goal
 
-pub returns-in-Some : goal.returns-in-Some
-returns-in-Some c rs is =
-    c.number_of_priority.ensures
-    ∙ ap (λ rs. option_map (λ (k : Rank). k.number) (find (λ (k : Rank). k.priority == c.args.priority) rs)) (c.deref.ensures.value ∙ ap (λ o. option_map_or (λ v. v.items) o []) c.in-Some.ensures.value ∙ is.ranked _)
-    ∙ find_priority (numbers c.args.key.now) c.args.priority rs
-
-pub returns-in-None : goal.returns-in-None
-returns-in-None c rs is =
-    ap (λ rs. option_map (λ (k : Rank). k.number) (find (λ (k : Rank). k.priority == c.args.priority) rs)) (ap (λ o. option_map_or (λ v. v.items) o []) (sym (ap option_copied c.in-None.is) ∙ c.get.ensures.value) ∙ is.ranked _)
-    ∙ find_priority (numbers c.args.key.now) c.args.priority rs
+pub returns : goal.returns
+returns c rs is = c.find.ensures rs is.staged

@@ -7,17 +7,21 @@ use Rattle.tuple_classifier.specs.ByTable.{AreClassified}
 use Rattle.tuple_classifier.specs.Live.{unboxed, plain_rule, plain_rules, is_unlike, IsRising, ArePlaced}
 use Rattle.tuple_classifier.specs.Versions.{Version, after}
 use Rattle.tuple_classifier.specs.declared.live.LiveRule.{LiveRule}
-use Rattle.tuple_classifier.proofs.AddLaws.{counts_more, few_rules, plain_more, number_is, rising_added, sound_added, added_rules}
+use Rattle.tuple_classifier.proofs.AddLaws.{have_no_rule, few_rules, plain_more, number_is, rising_added, sound_added, added_rules}
 use Rattle.tuple_classifier.proofs.EditLaws.{is_unnamed, sound_moved, found_named_more}
 use Rattle.tuple_classifier.proofs.PlaceLaws.{placed_filter, placed_more}
 use Rattle.tuple_classifier.proofs.tables.Tables.add.Goals as goal
 
-pub insert_live-requires : goal.insert_live-requires
-insert_live-requires c =
+pub insert_live-requires-clause-few : goal.insert_live-requires-clause-few
+insert_live-requires-clause-few c =
+    let few = few_rules c.self.inside.version (unboxed c.self.inside.live.items) c.self.inside.lists.items c.self.inside.tables.items c.self.inside.places.items c.self.invariant.sound c.self.invariant.placed in
+    let version = ap (λ (v : Version). v.number) c.self.view_is in
     let room = c.requires.room in
-    let number = ap (λ (v : Version). v.number) c.self.view_is in
-    counts_more (plain_rules (unboxed c.self.inside.live.items)) c.self.inside.tables.items c.self.invariant.sound.classified
-    (few_rules c.self.inside.version (unboxed c.self.inside.live.items) c.self.inside.lists.items c.self.inside.tables.items c.self.invariant.sound (omega (arith, room, number)))
+    (plain_rules (unboxed c.self.inside.live.items), c.self.invariant.sound.classified, omega (arith, few, version, room))
+
+pub insert_live-requires-clause-new : goal.insert_live-requires-clause-new
+insert_live-requires-clause-new c =
+    have_no_rule c.self.inside.version _ (unboxed c.self.inside.live.items) c.self.inside.lists.items c.self.inside.tables.items c.self.invariant.sound (ap (λ l. l.rule.number) c.deref-2.ensures ∙ ap (λ r. r.number) (c.in_ok-rule.ensures.rule []))
 
 pub overflow_sub-number : goal.overflow_sub-number
 overflow_sub-number c =

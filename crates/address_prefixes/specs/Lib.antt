@@ -1,0 +1,4 @@
+pub mod Addresses
+pub mod OfField
+pub mod Pairs
+pub mod RuleLists

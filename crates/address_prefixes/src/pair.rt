@@ -1,0 +1,154 @@
+//! The source and the destination address of one version of IP.
+
+ghost use Rattle.std.specs.Prelude.{◌≡◌, ℕ, List, [], ◌∷◌, false, OnOk, OnErr};
+ghost use Rattle.spec_keys.specs.declared.field_id.FieldId.{FieldId};
+ghost use Rattle.spec_tables.specs.Rules.{Rule};
+ghost use Rattle.spec_xlate.specs.Lookup.{added, when, prefix_tests};
+ghost use Rattle.ovs_fields.specs.Packed.{numbers, bits};
+ghost use Rattle.address_prefixes.specs.Pairs.{src_of, dst_of, HaveWidths, AreTriesOf, AreFew, HaveOnceMore, AreAlike, AreThere, ArePrefixesOf, AreKnown};
+ghost use Rattle.address_prefixes.specs.RuleLists.{NoneMatches};
+
+use crate::field_prefix::FieldPrefix;
+use crate::field_trie::{insert_prefix, no_prefixes, remove_prefix};
+use crate::prefix_test::prefix_test;
+use ovs_fields::{FieldId, Key, Mask};
+use prefix_tracker::{Found, PrefixTrie};
+use std::alloc::{AllocError, Global};
+
+/// The prefixes of two addresses that a mask has.
+#[derive(Clone, Copy, Debug)]
+pub(crate) struct PairPrefixes {
+    pub(crate) src: FieldPrefix,
+    pub(crate) dst: FieldPrefix,
+}
+
+impl PairPrefixes {
+    pub(crate) fn new(src: FieldId, dst: FieldId, mask: &Mask) -> PairPrefixes
+        ensures { ArePrefixesOf result src dst (bits mask.now) }
+    {
+        PairPrefixes {
+            src: FieldPrefix::new(src, mask),
+            dst: FieldPrefix::new(dst, mask),
+        }
+    }
+}
+
+/// What is known so far of two addresses of a key, in the course of one lookup.
+#[derive(Clone, Copy, Debug)]
+pub(crate) struct PairLookups {
+    pub(crate) src: Option<Found>,
+    pub(crate) dst: Option<Found>,
+}
+
+impl PairLookups {
+    pub(crate) fn none() -> PairLookups
+        ensures { (src dst : FieldId) (key : List ℕ) (rs : List Rule) → AreKnown result src dst key rs }
+    {
+        PairLookups {
+            src: None,
+            dst: None,
+        }
+    }
+}
+
+/// The prefixes of two addresses that rules state: those of the source, and those of the destination.
+pub(crate) type PairTries = [PrefixTrie; 2];
+
+pub(crate) fn no_pair(alloc: Global, src: FieldId, dst: FieldId) -> PairTries
+    ensures { AreTriesOf result src dst [] }
+{
+    [no_prefixes(alloc, src), no_prefixes(alloc, dst)]
+}
+
+/// Adds the prefixes that a rule states, which has this key under a mask with these. The only error is out of memory, and
+/// then the prefixes stay.
+pub(crate) fn insert_pair(
+    pair: &mut PairTries,
+    prefixes: &PairPrefixes,
+    key: &Key,
+) -> Result<(), AllocError>
+    requires widths { HaveWidths pair.old prefixes.now.src.field prefixes.now.dst.field }
+    requires few { AreFew pair.old }
+    ensures ok { OnOk result
+        (HaveOnceMore prefixes.now (numbers key.now) pair.old pair.new) }
+    ensures err { OnErr result (AreAlike pair.old pair.new) }
+{
+    insert_prefix(&mut pair[0], &prefixes.src, key)?;
+    match insert_prefix(&mut pair[1], &prefixes.dst, key) {
+        Ok(()) => Ok(()),
+        Err(error) => {
+            remove_prefix(&mut pair[0], &prefixes.src, key);
+            Err(error)
+        }
+    }
+}
+
+/// Takes the prefixes out that such a rule states. It takes no memory.
+pub(crate) fn remove_pair(pair: &mut PairTries, prefixes: &PairPrefixes, key: &Key)
+    requires widths { HaveWidths pair.old prefixes.now.src.field prefixes.now.dst.field }
+    requires there { AreThere prefixes.now (numbers key.now) pair.old }
+    ensures { HaveOnceMore prefixes.now (numbers key.now) pair.new pair.old }
+{
+    remove_prefix(&mut pair[0], &prefixes.src, key);
+    remove_prefix(&mut pair[1], &prefixes.dst, key);
+}
+
+fn source(pair: &PairTries) -> &PrefixTrie
+    ensures { result.now ≡ src_of pair.now }
+{
+    &pair[0]
+}
+
+fn destination(pair: &PairTries) -> &PrefixTrie
+    ensures { result.now ≡ dst_of pair.now }
+{
+    &pair[1]
+}
+
+/// Consults the bits of two addresses, a source and a destination, that decide whether a mask goes on, where it hasn't
+/// ended, and answers whether it does. Where it doesn't, the key matches none of its rules.
+pub(crate) fn test_pair(
+    src: FieldId,
+    dst: FieldId,
+    alive: bool,
+    pair: &PairTries,
+    prefixes: &PairPrefixes,
+    key: &Key,
+    known: &mut PairLookups,
+    consulted: &mut Mask,
+) -> bool
+    requires { HaveWidths pair.now src dst }
+    ensures known { (rs : List Rule) → AreTriesOf pair.now src dst rs
+        → AreKnown known.old src dst (numbers key.now) rs
+        → AreKnown known.new src dst (numbers key.now) rs }
+    ensures consulted { (rs : List Rule) (mask : List ℕ)
+        → AreTriesOf pair.now src dst rs → AreKnown known.old src dst (numbers key.now) rs
+        → ArePrefixesOf prefixes.now src dst mask → (further : List (List ℕ))
+        → added (bits consulted.old)
+        (when alive (prefix_tests rs (numbers key.now) mask (src ∷ dst ∷ []) further))
+        ≡ added (bits consulted.new) (when result further) }
+    ensures unmatched { (rs : List Rule) (mask : List ℕ)
+        → AreTriesOf pair.now src dst rs → AreKnown known.old src dst (numbers key.now) rs
+        → ArePrefixesOf prefixes.now src dst mask
+        → (alive ≡ false → NoneMatches (numbers key.now) mask rs)
+        → result ≡ false → NoneMatches (numbers key.now) mask rs }
+{
+    let first = prefix_test(
+        src,
+        alive,
+        source(pair),
+        &prefixes.src,
+        key,
+        &mut known.src,
+        consulted,
+    );
+    prefix_test(
+        dst,
+        first,
+        destination(pair),
+        &prefixes.dst,
+        key,
+        &mut known.dst,
+        consulted,
+    )
+}

@@ -1,0 +1,68 @@
+ghost use Rattle.std.specs.Prelude.{◌≡◌, ◌==◌, ◌-◌, ◌<◌, ◌≤◌, ℕ, List, false};
+ghost use Rattle.std.specs.Int.{bit_at};
+ghost use Rattle.spec_keys.specs.Fields.{width_of};
+ghost use Rattle.spec_tables.specs.Rules.{Rule};
+ghost use Rattle.spec_xlate.specs.Lookup as xlate;
+ghost use Rattle.spec_xlate.specs.Lookup.{added, when};
+ghost use Rattle.ovs_fields.specs.Packed.{numbers, bits};
+ghost use Rattle.address_prefixes.specs.OfField.{IsPrefixOf, IsTrieOf, IsKnown};
+ghost use Rattle.address_prefixes.specs.RuleLists.{NoneMatches};
+
+use crate::field_prefix::FieldPrefix;
+use crate::field_trie::found_in;
+use crate::prefix::leading;
+use ovs_fields::{FieldId, Key, Mask, width};
+use prefix_tracker::{Found, PrefixTrie};
+
+/// Consults the bits of a field that decide whether a mask goes on, where it hasn't ended, and answers whether it does.
+/// Where it doesn't, the key matches none of its rules.
+#[tactic(auto, using(crate::proofs::Widths::width_within, crate::proofs::Widths::leading_within))]
+pub(crate) fn prefix_test(
+    field: FieldId,
+    alive: bool,
+    trie: &PrefixTrie,
+    prefix: &FieldPrefix,
+    key: &Key,
+    known: &mut Option<Found>,
+    consulted: &mut Mask,
+) -> bool
+    requires { trie.now.width ≡ width_of field }
+    ensures known { (rs : List Rule) → IsTrieOf trie.now field rs
+        → IsKnown known.old field (numbers key.now) rs
+        → IsKnown known.new field (numbers key.now) rs }
+    ensures consulted { (rs : List Rule) (mask : List ℕ) → IsTrieOf trie.now field rs
+        → IsKnown known.old field (numbers key.now) rs → IsPrefixOf prefix.now field mask
+        → (further : List (List ℕ))
+        → added (bits consulted.old)
+        (when alive (xlate.prefix_test rs (numbers key.now) mask field further))
+        ≡ added (bits consulted.new) (when result further) }
+    ensures unmatched { (rs : List Rule) (mask : List ℕ) → IsTrieOf trie.now field rs
+        → IsKnown known.old field (numbers key.now) rs → IsPrefixOf prefix.now field mask
+        → (alive ≡ false → NoneMatches (numbers key.now) mask rs)
+        → result ≡ false → NoneMatches (numbers key.now) mask rs }
+{
+    if !alive {
+        return false;
+    }
+    if prefix.length == 0 {
+        return true;
+    }
+    let found = found_in(trie, field, key, known);
+    let width = width(prefix.field);
+    if begins_with_some(found, prefix.length) {
+        consulted.add(prefix.field, leading(width, prefix.length));
+        return true;
+    }
+    let decided = found.bits.min(prefix.length);
+    consulted.add(prefix.field, leading(width, decided));
+    false
+}
+
+/// Whether a number begins with one of the prefixes that have a length, by what they tell of it.
+fn begins_with_some(found: Found, length: u32) -> bool
+    requires some { 0 < length }
+    requires wide { length ≤ 128 }
+    ensures { result ≡ (bit_at found.lengths (length - 1) == 1) }
+{
+    found.lengths >> (length - 1) & 1 == 1
+}

@@ -1,0 +1,38 @@
+-- That editors, seers and news may go to another thread, part by part: one search through all of their fields would not come
+-- to an end.
+use denote.RattleType.{RattleType}
+use denote.Struct.Field as field
+use denote.Param.Send.{IsSend, IsSync, sendable}
+use Rattle.std.proofs.Crossing.{crosses}
+use Rattle.atomic_table.proofs.send_lease.SendLease.TheSendSync as lease
+use Rattle.atomic_table.proofs.shared.Seat.TheSendSync as seat
+use Rattle.atomic_table.proofs.shared.Shared.TheSendSync as shared
+use Rattle.left_right.proofs.part.Deed.TheSendSync as deed
+use Rattle.left_right.proofs.part.Part.TheSendSync as part
+use Rattle.left_right.specs.declared.Absorb as absorb
+use Rattle.run_case.specs.declared.case.Case.{Ghosts}
+use Rattle.rule_tables.specs.contracts.edit.Edit as edit
+use Rattle.tuple_classifier.proofs.Crossing.{actions_send, matching_send}
+use Rattle.run_tables.specs.declared.tables.Tables.{Tables}
+use Rattle.run_tables.proofs.Crossing.{tables_send, tables_sync}
+use Rattle.table_publish.specs.declared.next_edit.NextEdit.{NextEdit}
+use Rattle.table_publish.specs.contracts.next_edit.NextEdit as next_edit
+use Rattle.table_publish.specs.contracts.editor.Editor as editor
+use Rattle.table_publish.specs.contracts.seer.Seer as seer
+use Rattle.table_publish.specs.contracts.seer.News as news
+
+edit_send : IsSend edit.the_row
+edit_send = search (sendable, crosses, actions_send, matching_send) depth 100 fits 20000
+
+next_edit_send : (C : RattleType) (g : Ghosts C.Denot) → IsSend C → IsSend (next_edit.the_row C g)
+next_edit_send C g c = search (sendable, crosses, edit_send) depth 40
+
+pub editor_send : (C : RattleType) (a : absorb.Ghosts (Tables C.Denot) (NextEdit C.Denot) (field.u64-field).Value) (g : Ghosts C.Denot)
+    → IsSend C → IsSync C → IsSend (editor.the_row C a g)
+editor_send C a g c shared_c = search (sendable, crosses, part.the_send, deed.the_send, lease.the_send, lease.the_sync, seat.the_send, shared.the_send, shared.the_sync, tables_send, tables_sync, next_edit_send) depth 100 fits 20000
+
+pub seer_send : (C : RattleType) (g : Ghosts C.Denot) → IsSend C → IsSync C → IsSend (seer.the_row C g)
+seer_send C g c shared_c = search (sendable, crosses, part.the_send, lease.the_send, lease.the_sync, seat.the_send, shared.the_send, shared.the_sync, tables_sync) depth 100 fits 20000
+
+pub news_send : (C : RattleType) (g : Ghosts C.Denot) → IsSend C → IsSync C → IsSend (news.the_row C g)
+news_send C g c shared_c = search (sendable, crosses, part.the_send, lease.the_send, lease.the_sync, seat.the_send, shared.the_send, shared.the_sync, tables_sync) depth 100 fits 20000

@@ -1,0 +1,7 @@
+use denote.Exit as exit
+use denote.Param.Send.{param_send, arg_send}
+use Rattle.table_publish.proofs.Crossing.{editor_send}
+use Rattle.table_publish.proofs.threads.editor_goes_to_threads.Goals as goal
+
+pub goes_to_threads-requires-send-T : goal.goes_to_threads-requires-send-T
+goes_to_threads-requires-send-T g c κs within = param_send 0 _ (arg_send _ exit.no _ (editor_send _ _ _ c.type_bounds.send-C c.type_bounds.sync-C))

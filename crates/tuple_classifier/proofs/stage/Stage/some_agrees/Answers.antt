@@ -1,6 +1,0 @@
-use Rattle.ovs_fields.specs.Packed.{numbers}
-use Rattle.tuple_classifier.proofs.StageLaws.{stage_agrees}
-use Rattle.tuple_classifier.proofs.stage.Stage.some_agrees.Goals as goal
-
-pub returns : goal.returns
-returns c before part mask rs is tested = stage_agrees c.args.self.now before part mask (numbers c.args.key.now) (numbers c.masked.result) rs c.count_of.result is tested c.masked.ensures c.count_of.ensures

@@ -1,0 +1,25 @@
+use Rattle.std.proofs.Common.{true, sym, ap, ◌∙◌}
+use Rattle.spec_keys.specs.Keys.{same}
+use Rattle.ovs_fields.specs.Packed.{bits}
+use Rattle.staged_lookup.specs.Numbered.{without}
+use Rattle.staged_lookup.proofs.Removed.{count-without}
+use Rattle.tuple_classifier.specs.Parts.{of_mask}
+use Rattle.tuple_classifier.proofs.HoldLaws.{has_rule}
+use Rattle.tuple_classifier.proofs.Places.{turned}
+use Rattle.tuple_classifier.proofs.TableLaws.{among_part}
+use Rattle.tuple_classifier.proofs.table.Table.take.Goals as goal
+
+pub take_rule-requires : goal.take_rule-requires
+take_rule-requires c i s at same_mask =
+    let has = c.requires in
+    has_rule s c.args.rank (of_mask (bits s.staged.mask) has.rules) has.rule (has.are.ranked.subtables.each i s at)
+    (among_part (bits s.staged.mask) has.rules has.rule has.among (ap (λ k. same k (bits s.staged.mask)) (ap (λ m. m.mask) has.matching_is) ∙ turned (bits s.staged.mask) (bits c.args.matching.now.mask) true same_mask)) has.rank_is
+
+pub remove-requires : goal.remove-requires
+remove-requires c = let has = c.requires in (has.rules, has.rule, has.are.prefixed, has.among, has.matching_is)
+
+pub returns : goal.returns
+returns c rs r are distinct m is of_rank = record {
+  ranked = c.take_rule.ensures rs r are.ranked distinct m is of_rank;
+  prefixed = c.remove.ensures rs (without r.number rs) r are.prefixed is (λ p. sym (count-without p r rs m distinct));
+}

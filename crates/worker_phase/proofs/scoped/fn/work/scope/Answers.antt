@@ -1,0 +1,91 @@
+-- A worker's thread takes what it has, and what all share.
+use denote.Exit as exit
+use denote.Param.{param}
+use denote.Param.Send.{IsSend, IsSync, sendable, param_send, param_sync, arg_send, shr_send, mut_send}
+use denote.Ref.{MutRef, NamedLft, ShrRef}
+use mir.Syntax.{named}
+use Rattle.std.proofs.Crossing as std
+use Rattle.std.proofs.Crossing.{crosses}
+use Rattle.std.specs.contracts.option.Option as option
+use Rattle.worker_phase.proofs.Crossing.{handler_send, phase_editor_send, receiver_send, revalidator_send, shared_sync, some_send, tuple2_send, tuple3_send, tuple4_send, tuple5_send}
+use Rattle.worker_phase.proofs.scoped.fn.work.scope.Goals as goal
+use Rattle.worker_phase.proofs.scoped.fn.work.scope.Lts as lts
+use Rattle.worker_phase.specs.contracts.editing.PhaseEditor as phase_editor
+use Rattle.worker_phase.specs.contracts.shared.Shared as shared_state
+
+pub spawn-requires-send-F : goal.spawn-requires-send-F
+spawn-requires-send-F g c κs within =
+    let bounds = c.requires.1.1.1.1 in
+    let c_send : IsSend (param 0 g.row.C) = param_send 0 _ bounds.0 in
+    let c_sync : IsSync (param 0 g.row.C) = param_sync 0 _ bounds.2 in
+    let of_send : IsSend (param 1 g.row.P) = param_send 1 _ bounds.1 in
+    let of_sync : IsSync (param 1 g.row.P) = param_sync 1 _ bounds.3 in
+    let rt : IsSend (ShrRef (named 5) κs.1.1.1.1.1.0 (param 2 g.row.R)) = shr_send _ _ _ (param_sync 2 _ bounds.4) in
+    let gate : IsSend (ShrRef (named 8) κs.1.1.1.1.1.1.1.1.0 (param 3 g.row.G)) = shr_send _ _ _ (param_sync 3 _ bounds.5) in
+    let ℓ : NamedLft = record { mir = named 7; lft = κs.1.1.1.1.1.1.1.0 } in
+    let shared : IsSend (ShrRef (named 6) κs.1.1.1.1.1.1.0 (shared_state.the_row ℓ (param 0 g.row.C) (param 1 g.row.P) g.C.Case g.P.Phase)) = shr_send _ _ _ (shared_sync ℓ (param 0 g.row.C) (param 1 g.row.P) g.C.Case g.P.Phase c_send c_sync of_send of_sync) in
+    let receiver = receiver_send (param 0 g.row.C) (param 1 g.row.P) g.C.Case g.P.Phase c_send c_sync of_send of_sync in
+    param_send 1 _ (arg_send _ exit.no _ (tuple4_send _ _ _ _ _ rt shared receiver gate))
+
+pub spawn-requires-2-send-F : goal.spawn-requires-2-send-F
+spawn-requires-2-send-F g c κs within =
+    let bounds = c.requires.1.1.1.1 in
+    let c_send : IsSend (param 0 g.row.C) = param_send 0 _ bounds.0 in
+    let c_sync : IsSync (param 0 g.row.C) = param_sync 0 _ bounds.2 in
+    let of_send : IsSend (param 1 g.row.P) = param_send 1 _ bounds.1 in
+    let of_sync : IsSync (param 1 g.row.P) = param_sync 1 _ bounds.3 in
+    let rt : IsSend (ShrRef (named 5) κs.1.1.1.1.1.0 (param 2 g.row.R)) = shr_send _ _ _ (param_sync 2 _ bounds.4) in
+    let ℓ : NamedLft = record { mir = named 7; lft = κs.1.1.1.1.1.1.1.0 } in
+    let shared : IsSend (ShrRef (named 6) κs.1.1.1.1.1.1.0 (shared_state.the_row ℓ (param 0 g.row.C) (param 1 g.row.P) g.C.Case g.P.Phase)) = shr_send _ _ _ (shared_sync ℓ (param 0 g.row.C) (param 1 g.row.P) g.C.Case g.P.Phase c_send c_sync of_send of_sync) in
+    let slot : IsSend (MutRef (named 8) κs.1.1.1.1.1.1.1.1.0 (option.the_row (phase_editor.the_row (param 0 g.row.C) (param 1 g.row.P) g.P.Phase g.C.Case))) = mut_send _ _ _ (some_send _ (phase_editor_send (param 0 g.row.C) (param 1 g.row.P) g.C.Case g.P.Phase c_send c_sync of_send of_sync)) in
+    param_send 1 _ (arg_send _ exit.no _ (tuple3_send _ _ _ _ rt shared slot))
+
+pub spawn-requires-in-handlers-send-F : goal.spawn-requires-in-handlers-send-F
+spawn-requires-in-handlers-send-F g c κs within =
+    let bounds = c.requires.1.1.1.1 in
+    let c_send : IsSend (param 0 g.row.C) = param_send 0 _ bounds.0 in
+    let c_sync : IsSync (param 0 g.row.C) = param_sync 0 _ bounds.2 in
+    let of_send : IsSend (param 1 g.row.P) = param_send 1 _ bounds.1 in
+    let of_sync : IsSync (param 1 g.row.P) = param_sync 1 _ bounds.3 in
+    let rt : IsSend (ShrRef (named 5) κs.1.1.1.1.1.0 (param 2 g.row.R)) = shr_send _ _ _ (param_sync 2 _ bounds.4) in
+    let gate : IsSend (ShrRef (named 8) κs.1.1.1.1.1.1.1.1.0 (param 3 g.row.G)) = shr_send _ _ _ (param_sync 3 _ bounds.5) in
+    let ℓ : NamedLft = record { mir = named 7; lft = κs.1.1.1.1.1.1.1.0 } in
+    let shared : IsSend (ShrRef (named 6) κs.1.1.1.1.1.1.0 (shared_state.the_row ℓ (param 0 g.row.C) (param 1 g.row.P) g.C.Case g.P.Phase)) = shr_send _ _ _ (shared_sync ℓ (param 0 g.row.C) (param 1 g.row.P) g.C.Case g.P.Phase c_send c_sync of_send of_sync) in
+    let handler = handler_send (param 0 g.row.C) (param 1 g.row.P) g.C.Case g.P.Phase c_send c_sync of_send of_sync in
+    param_send 1 _ (arg_send _ exit.no _ (tuple5_send _ _ _ _ _ _ rt std.send shared handler gate))
+
+pub spawn-requires-in-handlers-send-T : goal.spawn-requires-in-handlers-send-T
+spawn-requires-in-handlers-send-T g c κs within =
+    let bounds = c.requires.1.1.1.1 in
+    let c_send : IsSend (param 0 g.row.C) = param_send 0 _ bounds.0 in
+    let c_sync : IsSync (param 0 g.row.C) = param_sync 0 _ bounds.2 in
+    let of_send : IsSend (param 1 g.row.P) = param_send 1 _ bounds.1 in
+    let of_sync : IsSync (param 1 g.row.P) = param_sync 1 _ bounds.3 in
+    let done : IsSend (lts.of-12 g.row.C g.row.P g.row.R g.row.G g.C.laws g.P.laws g.R.laws g.G.laws g.C.Case g.C.Case-dict g.P.Phase g.P.Phase-dict g.R.Threads g.R.Threads-dict g.R.Wait g.R.Wait-dict g.G.Gate g.G.Gate-dict) = search (sendable, crosses) depth 20 in
+    let handler = handler_send (param 0 g.row.C) (param 1 g.row.P) g.C.Case g.P.Phase c_send c_sync of_send of_sync in
+    param_send 2 _ (arg_send _ exit.no _ (tuple2_send _ _ _ handler done))
+
+pub spawn-requires-3-send-F : goal.spawn-requires-3-send-F
+spawn-requires-3-send-F g c κs within =
+    let bounds = c.requires.1.1.1.1 in
+    let c_send : IsSend (param 0 g.row.C) = param_send 0 _ bounds.0 in
+    let c_sync : IsSync (param 0 g.row.C) = param_sync 0 _ bounds.2 in
+    let of_send : IsSend (param 1 g.row.P) = param_send 1 _ bounds.1 in
+    let of_sync : IsSync (param 1 g.row.P) = param_sync 1 _ bounds.3 in
+    let rt : IsSend (ShrRef (named 5) κs.1.1.1.1.1.0 (param 2 g.row.R)) = shr_send _ _ _ (param_sync 2 _ bounds.4) in
+    let gate : IsSend (ShrRef (named 8) κs.1.1.1.1.1.1.1.1.0 (param 3 g.row.G)) = shr_send _ _ _ (param_sync 3 _ bounds.5) in
+    let ℓ : NamedLft = record { mir = named 7; lft = κs.1.1.1.1.1.1.1.0 } in
+    let shared : IsSend (ShrRef (named 6) κs.1.1.1.1.1.1.0 (shared_state.the_row ℓ (param 0 g.row.C) (param 1 g.row.P) g.C.Case g.P.Phase)) = shr_send _ _ _ (shared_sync ℓ (param 0 g.row.C) (param 1 g.row.P) g.C.Case g.P.Phase c_send c_sync of_send of_sync) in
+    let revalidator = revalidator_send (param 0 g.row.C) (param 1 g.row.P) g.C.Case g.P.Phase c_send c_sync of_send of_sync in
+    param_send 1 _ (arg_send _ exit.no _ (tuple5_send _ _ _ _ _ _ rt std.send shared revalidator gate))
+
+pub spawn-requires-3-send-T : goal.spawn-requires-3-send-T
+spawn-requires-3-send-T g c κs within =
+    let bounds = c.requires.1.1.1.1 in
+    let c_send : IsSend (param 0 g.row.C) = param_send 0 _ bounds.0 in
+    let c_sync : IsSync (param 0 g.row.C) = param_sync 0 _ bounds.2 in
+    let of_send : IsSend (param 1 g.row.P) = param_send 1 _ bounds.1 in
+    let of_sync : IsSync (param 1 g.row.P) = param_sync 1 _ bounds.3 in
+    let done : IsSend (lts.of-12 g.row.C g.row.P g.row.R g.row.G g.C.laws g.P.laws g.R.laws g.G.laws g.C.Case g.C.Case-dict g.P.Phase g.P.Phase-dict g.R.Threads g.R.Threads-dict g.R.Wait g.R.Wait-dict g.G.Gate g.G.Gate-dict) = search (sendable, crosses) depth 20 in
+    let revalidator = revalidator_send (param 0 g.row.C) (param 1 g.row.P) g.C.Case g.P.Phase c_send c_sync of_send of_sync in
+    param_send 2 _ (arg_send _ exit.no _ (tuple2_send _ _ _ revalidator done))
