@@ -59,12 +59,23 @@ def trace(frames):
     return write_trace([Frame(time, 1, place, data) for place, (time, data) in enumerate(timed, 1)], MICROSECOND)
 
 
+def address_of_bit(bit):
+    """The address of Ethernet that has one bit, counted from the last."""
+    return (1 << bit).to_bytes(6, "big").hex(":")
+
+
 # ---- runs
 
 FROM_1 = "in_port=1,actions=2"
 MODIFIED = f"{FROM_1}\nmodify in_port=1,actions=3"
+WIDENED = """\
+priority=1,actions=2
+priority=10,dl_dst=00:00:00:00:00:09,actions=3
+delete_strict priority=10,dl_dst=00:00:00:00:00:09"""
 ADDRESS_2 = "in_port=1,dl_dst=00:00:00:00:00:02,actions=2"
 THREE_PORTS = "--steps steps edits out 1=a.pcap 2= 3="
+# The first of the rules, which are in the order of rising bits and priorities, states the one that frames have.
+EACH_BIT = "\n".join(f"priority={bit + 1},dl_src={it}/{it},actions=2" for bit, it in enumerate(map(address_of_bit, range(48))))
 ONE_DECIDED = "exact=0 mega=0 miss=1|installed=1 present=0 full=0|sent=1 dropped=0 entries=1"
 NO_FRAMES = "exact=0 mega=0 miss=0|installed=0 present=0 full=0|sent=0 dropped=0 entries=0"
 FIRST_STEPS = "edit|rx 1|snap 1 1|settle 1 1"
@@ -226,6 +237,11 @@ RUNS = {
         },
         "edits out 65279=a.pcap",
     ),
+    "48 rules, each of which states another bit of an address": Row(EACH_BIT, [F], {
+        "visits in out.megaflows": "1",
+        "match in out.megaflows": "in_port=1,dl_src=00:00:00:00:00:01,dl_type=0x88b5",
+        "actions in out.megaflows": "2",
+    }),
     "nanoseconds": Row(FROM_1, [], {
         "out.p2.pcap": bytes.fromhex("4d3cb2a1020004000000000000000000000004000100000001000000050000003c0000003c000000") + F,
         "used in out.megaflows": "1.000000005",
@@ -235,6 +251,16 @@ RUNS = {
 }
 
 # ---- given steps
+
+# An entry is kept by a sweep, and then dropped, since a later one of fewer bits covers what it covers.
+WIDER_STEPS = f"edit|{FIRST_STEPS}|edit|sweep 1|check 1 1|put 1 1|swept 1|rx 1|rx 1|snap 1 3|settle 1 3"
+DROPPED = {
+    "journal of 1": "look 1 miss|settle 1 2 installed 1|begin 3|put 1 3 kept|end|look 2 mega 1|look 3 miss|"
+                    "settle 3 3 installed 2 drop 1",
+    "out.rules": "cookie=0x0, table=0, n_packets=3, n_bytes=180, priority=1 actions=output:2 # rule=1|"
+                 "# gone rule=2 n_packets=0 n_bytes=0",
+    "owed_packets in out.megaflows": "0",
+}
 
 GIVEN = {
     "a settle by a version before the sweep is stale": Row(MODIFIED, [F], {
@@ -252,19 +278,24 @@ GIVEN = {
         "out.megaflows": "port=1 entry=1 version=2 packets=2 bytes=120 owed_packets=1 owed_bytes=60 used=3.000000000 visits=1 "
                          "match=in_port=1,dl_type=0x88b5 actions=3",
     }, THREE_PORTS, f"{FIRST_STEPS}|edit|rx 1|sweep 1|check 1 1|put 1 1|swept 1|rx 1"),
-    "an entry that is kept, and dropped by a wider one": Row(
-        "priority=1,actions=2\npriority=10,dl_dst=00:00:00:00:00:09,actions=3\n"
-        "delete_strict priority=10,dl_dst=00:00:00:00:00:09", [F, F, F6],
-        {
-            "journal of 1": "look 1 miss|settle 1 2 installed 1|begin 3|put 1 3 kept|end|look 2 mega 1|look 3 miss|"
-                            "settle 3 3 installed 2 drop 1",
-            "out.rules": "cookie=0x0, table=0, n_packets=3, n_bytes=180, priority=1 actions=output:2 # rule=1|"
-                         "# gone rule=2 n_packets=0 n_bytes=0",
-            "owed_packets in out.megaflows": "0",
-        },
-        STEPS_WORDS,
-        "edit|edit|rx 1|snap 1 1|settle 1 1|edit|sweep 1|check 1 1|put 1 1|swept 1|rx 1|rx 1|snap 1 3|settle 1 3",
-    ),
+    "an entry that is kept, and dropped by a wider one": Row(WIDENED, [F, F, F6], DROPPED, STEPS_WORDS, WIDER_STEPS),
+    "also where no more than one may be": Row(WIDENED, [F, F, F6], DROPPED, f"--flow-limit 1 {STEPS_WORDS}", WIDER_STEPS),
+    "an entry that is dropped by a wider one before a sweep has put it": Row(WIDENED, [F, F6], {
+        "said": "ports=2 frames=2 edits=3 blocks=1|exact=0 mega=0 miss=2|installed=2 present=0 full=0|"
+                "sent=2 dropped=0 entries=1|steps=13 unmet=2",
+        "journal of 1": "look 1 miss|settle 1 2 installed 1|begin 3|look 2 miss|settle 2 3 installed 2 drop 1|end",
+        "n_packets in out.rules": "2|0",
+        "owed_packets in out.megaflows": "0",
+    }, STEPS_WORDS, f"edit|{FIRST_STEPS}|edit|sweep 1|rx 1|snap 1 2|settle 1 2|check 1 1|put 1 1|swept 1"),
+    "an entry is checked twice, and put once": Row(MODIFIED, [F], {
+        "said": f"ports=3 frames=1 edits=2 blocks=1|{ONE_DECIDED}|steps=11 unmet=1",
+        "journal of 1": f"{FIRST_LINES}|begin 2|put 1 2 replaced|end",
+        "sent by 2": [F],
+    }, THREE_PORTS, f"{FIRST_STEPS}|edit|sweep 1|check 1 1|check 1 1|put 1 1|put 1 1|swept 1"),
+    "an entry is put by the version of its check, though rules changed since": Row(MODIFIED, [F], {
+        "said": f"ports=3 frames=1 edits=2 blocks=1|{ONE_DECIDED}|steps=9 unmet=0",
+        "journal of 1": f"{FIRST_LINES}|begin 1|put 1 1 kept|end|begin 2|put 1 2 replaced|end",
+    }, THREE_PORTS, f"{FIRST_STEPS}|sweep 1|check 1 1|edit|put 1 1|swept 1"),
     "a frame whose key has an entry by the time that it is settled": Row(FROM_1, [F, F], {
         "said": "ports=2 frames=2 edits=1 blocks=1|exact=0 mega=0 miss=2|installed=1 present=1 full=0|"
                 "sent=2 dropped=0 entries=1|steps=7 unmet=0",
