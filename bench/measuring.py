@@ -71,12 +71,17 @@ def peak_of(words):
     child = subprocess.Popen(words, stdout=subprocess.DEVNULL, stderr=subprocess.DEVNULL)
     ptrace(PTRACE_SEIZE, child.pid, PTRACE_O_TRACEEXIT)
     os.waitpid(child.pid, 0)
-    with open(f"/proc/{child.pid}/status", encoding="utf-8") as file:
-        kibibytes = int(re.search(r"^VmHWM:\s*(\d+) kB", file.read(), re.MULTILINE)[1])
+    peak = resident_peak(child.pid)
     ptrace(PTRACE_CONT, child.pid)
     if child.wait() != 0:
         sys.exit(f"bench: {' '.join(words)} did not end with status 0")
-    return kibibytes * 1024
+    return peak
+
+
+def resident_peak(process):
+    """The greatest resident memory in bytes of a process that is held."""
+    with open(f"/proc/{process}/status", encoding="utf-8") as file:
+        return int(re.search(r"^VmHWM:\s*(\d+) kB", file.read(), re.MULTILINE)[1]) * 1024
 
 
 def build(crate, words):
