@@ -1,12 +1,12 @@
 /* Refuses requests for memory. Preloaded, it hands the requests of a program on to the C library, and counts them over all
    threads, from the begin of the program on. The one of the number in REFUSED is refused, and with a + behind it all later
-   ones too. The count is written to the file named in COUNT as the program ends. */
+   ones too. The count stands in the file named in COUNT, as a long, so it is there however the program ends. */
 #include <errno.h>
 #include <fcntl.h>
 #include <stdatomic.h>
-#include <stdio.h>
 #include <stdlib.h>
 #include <string.h>
+#include <sys/mman.h>
 #include <unistd.h>
 
 extern void *__libc_malloc(size_t size);
@@ -14,38 +14,38 @@ extern void *__libc_calloc(size_t count, size_t size);
 extern void *__libc_realloc(void *old, size_t size);
 extern void *__libc_memalign(size_t alignment, size_t size);
 
-static atomic_long requests;
+static atomic_long uncounted;
+static atomic_long *requests = &uncounted;
 static long first, last;
 static int begun;
 
+/* The count in the file of this name, or in none where it can't be mapped. */
+static atomic_long *count_in(const char *name)
+{
+    int file = open(name, O_RDWR);
+    void *mapped = file < 0 ? MAP_FAILED : mmap(NULL, sizeof uncounted, PROT_READ | PROT_WRITE, MAP_SHARED, file, 0);
+
+    if (file >= 0)
+        close(file);
+    return mapped == MAP_FAILED ? &uncounted : mapped;
+}
+
 __attribute__((constructor)) static void begin(void)
 {
-    const char *refused = getenv("REFUSED");
+    const char *refused = getenv("REFUSED"), *name = getenv("COUNT");
 
     first = refused ? atol(refused) : -1;
     last = refused && strchr(refused, '+') ? __LONG_MAX__ : first;
+    if (name)
+        requests = count_in(name);
     begun = 1;
-}
-
-__attribute__((destructor)) static void end(void)
-{
-    char text[32];
-    const char *name = getenv("COUNT");
-    int file = name ? open(name, O_WRONLY | O_CREAT | O_TRUNC, 0600) : -1;
-
-    if (file >= 0) {
-        int length = snprintf(text, sizeof text, "%ld\n", atomic_load(&requests));
-        if (write(file, text, length) != length)
-            abort();
-        close(file);
-    }
 }
 
 static int is_refused(void)
 {
     if (!begun)
         return 0;
-    long number = atomic_fetch_add(&requests, 1) + 1;
+    long number = atomic_fetch_add(requests, 1) + 1;
     if (number < first || number > last)
         return 0;
     errno = ENOMEM;

@@ -7,10 +7,11 @@ A small run with given steps, flows and mirrors, and one with workers: of each t
 others as many as make MOST (600 where none is given), by a seed; each alone, and each with all later ones. Such a run ends
 with status 8 and its text, and of the files some are there that were written as far as docs/FORMATS.md says; or it ends
 well, with all that is written where there is enough memory. With workers what they choose is held against the journal.
-It needs gcc, which compiles failing_memory.c. It prints each run that ends otherwise, and then ends with 1.
+It needs gcc, which compiles failing_memory.c, and takes 15 seconds. It prints each run that ends otherwise, and then ends with 1.
 """
 import os
 import random
+import struct
 import subprocess
 import sys
 import tempfile
@@ -57,7 +58,8 @@ class Refusing:
 
     def run(self, refused=""):
         """How the program ends where this is refused, as failing_memory.c has it, and how many requests it made."""
-        with tempfile.TemporaryDirectory() as room, tempfile.NamedTemporaryFile("r") as count:
+        with tempfile.TemporaryDirectory() as room, tempfile.NamedTemporaryFile("w+b", buffering=0) as count:
+            count.write(bytes(struct.calcsize("l")))
             for name, data in GIVEN.items():
                 with open(os.path.join(room, name), "wb") as file:
                     file.write(data)
@@ -69,7 +71,9 @@ class Refusing:
             for name in set(os.listdir(room)) - set(GIVEN):
                 with open(os.path.join(room, name), "rb") as file:
                     files[name] = file.read()
-            return Ended(ran.returncode, ran.stdout.decode(), files), int(count.read() or 0)
+            count.seek(0)
+            (requests,) = struct.unpack("l", count.read())
+            return Ended(ran.returncode, ran.stdout.decode(), files), requests
 
     def wrong_with(self, refused):
         """What is wrong with a run of which this is refused, or None; and its status."""
