@@ -23,7 +23,8 @@ WORDS = ["--netflow", "--mirrors", "mirrors", "edits", "out", "1=small.pcap", "2
 RUNS = [["--steps", "steps", *WORDS], ["--workers", "4", *WORDS], ["edits"]]
 # In the order in which they are read, and written.
 READ = ["edits", "steps", "mirrors", "small.pcap", "large.pcap"]
-WRITTEN = ["out.p1.pcap", "out.p2.pcap", "out.rules", "out.megaflows", "out.journal", "out.netflow", "out.m1.pcap", "out.m2.pcap"]
+PORT_FILES, MIRROR_FILES = ["out.p1.pcap", "out.p2.pcap"], ["out.m1.pcap", "out.m2.pcap"]
+WRITTEN = [*PORT_FILES, "out.rules", "out.megaflows", "out.journal", "out.netflow", *MIRROR_FILES]
 # What threads choose where there are workers, beside the summary.
 CHOSEN = ["out.megaflows", "out.journal"]
 STDOUT = 1
@@ -142,7 +143,8 @@ def try_run(program, words, inputs):
             if not is_as_expected(call, error, good, now):
                 wrong += 1
                 where = call.file or "standard output"
-                print(f"{call.name} {call.number} of {where} with {error}: status {now.status}, {now.text!r}, {sorted(now.files)}")
+                ended = f"status {now.status}, {now.text!r}, {sorted(now.files)}"
+                print(f"{call.name} {call.number} of {where} with {error}: {ended}")
     return len(calls) * len(ERRORS), wrong
 
 

@@ -7,7 +7,8 @@ A small run with given steps, flows and mirrors, and one with workers: of each t
 others as many as make MOST (600 where none is given), by a seed; each alone, and each with all later ones. Such a run ends
 with status 8 and its text, and of the files some are there that were written as far as docs/FORMATS.md says; or it ends
 well, with all that is written where there is enough memory. With workers what they choose is held against the journal.
-It needs gcc, which compiles failing_memory.c, and takes 15 seconds. It prints each run that ends otherwise, and then ends with 1.
+It needs gcc, which compiles failing_memory.c, and takes 15 seconds. It prints each run that ends otherwise, and then ends
+with 1.
 """
 import os
 import random
