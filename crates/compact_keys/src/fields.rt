@@ -112,8 +112,8 @@ impl CompactFields {
             join_8(self.nw_ttl, self.ip_frag),
         );
         state.write_u128(join_64(self.dl_src, self.dl_dst));
-        state.write_u128(join_64(addresses, ports));
-        state.write_u64(join_32(tag, header));
+        state.write_u128(join_64(join_32(tag, header), addresses));
+        state.write_u64(ports);
     }
 }
 

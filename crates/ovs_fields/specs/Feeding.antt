@@ -1,5 +1,5 @@
 -- What the numbers of a key or a mask feed to a hash function: words that neighbours share, and none for parts that are 0.
-use Rattle.std.specs.Prelude.{ℕ, ◌+◌, ◌*◌, ◌^◌, List, [], ◌++◌, if◌then◌else◌}
+use Rattle.std.specs.Prelude.{ℕ, ◌+◌, ◌*◌, ◌/◌, ◌%◌, ◌^◌, List, [], ◌++◌, if◌then◌else◌}
 use Rattle.std.specs.Hash as fed
 use Rattle.spec_keys.specs.declared.field_id.FieldId.TheVariants.{InPort, Metadata, Reg0, Reg1, Reg2, Reg3, Reg4, Reg5, Reg6, Reg7, Reg8, Reg9, Reg10, Reg11, Reg12, Reg13, Reg14, Reg15, DlSrc, DlDst, DlType, VlanTci, NwSrc, NwDst, Ipv6Src, Ipv6Dst, NwProto, NwTos, NwTtl, IpFrag, ArpSha, ArpTha, TpSrc, TpDst}
 use Rattle.spec_keys.specs.Fields.{register_fields}
@@ -13,13 +13,17 @@ joined_words n high low = high * 2 ^ n + low
 abbrev pub header_writes : List ℕ → List (List ℕ)
 header_writes l =
     fed.u128 (joined_words 64 (value_of l DlSrc) (value_of l DlDst))
-    ++ (fed.u128 (joined_words 64 (joined_words 32 (value_of l NwSrc) (value_of l NwDst))
-    (joined_words 32 (joined_words 16 (value_of l InPort) (value_of l DlType)) (joined_words 16 (value_of l TpSrc) (value_of l TpDst))))
-    ++ fed.u64 (joined_words 32 (value_of l VlanTci)
-    (joined_words 16 (joined_words 8 (value_of l NwProto) (value_of l NwTos)) (joined_words 8 (value_of l NwTtl) (value_of l IpFrag)))))
+    ++ (fed.u128 (joined_words 64 (joined_words 32 (value_of l VlanTci)
+    (joined_words 16 (joined_words 8 (value_of l NwProto) (value_of l NwTos)) (joined_words 8 (value_of l NwTtl) (value_of l IpFrag))))
+    (joined_words 32 (value_of l NwSrc) (value_of l NwDst)))
+    ++ fed.u64 (joined_words 32 (joined_words 16 (value_of l InPort) (value_of l DlType)) (joined_words 16 (value_of l TpSrc) (value_of l TpDst))))
+
+-- a number of 128 bits as two words, its higher half first
+abbrev pub halves_writes : ℕ → List (List ℕ)
+halves_writes n = fed.u64 (n / 2 ^ 64) ++ fed.u64 (n % 2 ^ 64)
 
 abbrev pub ipv6_writes : List ℕ → List (List ℕ)
-ipv6_writes l = if are_zero ipv6_addresses l then [] else fed.u128 (value_of l Ipv6Src) ++ fed.u128 (value_of l Ipv6Dst)
+ipv6_writes l = if are_zero ipv6_addresses l then [] else halves_writes (value_of l Ipv6Src) ++ halves_writes (value_of l Ipv6Dst)
 
 abbrev pub arp_writes : List ℕ → List (List ℕ)
 arp_writes l = if are_zero arp_addresses l then [] else fed.u128 (joined_words 64 (value_of l ArpSha) (value_of l ArpTha))

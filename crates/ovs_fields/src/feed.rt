@@ -4,7 +4,7 @@ ghost use Rattle.std.specs.Prelude.{◌≡◌, ◌+◌, ◌*◌, ◌^◌};
 ghost use Rattle.std.specs.List.{fold};
 ghost use Rattle.spec_keys.specs.Fields.{register_fields};
 ghost use Rattle.spec_keys.specs.Keys.{are_zero};
-ghost use Rattle.ovs_fields.specs.Feeding.{header_writes, ipv6_writes, arp_writes, register_writes, list_writes, joined_words};
+ghost use Rattle.ovs_fields.specs.Feeding.{header_writes, ipv6_writes, halves_writes, arp_writes, register_writes, list_writes, joined_words};
 ghost use Rattle.ovs_fields.specs.Lists.{list_of};
 
 use crate::fields::Fields;
@@ -22,6 +22,9 @@ pub(crate) fn feed<H: Hasher>(fields: &Fields, state: &mut H)
 }
 
 /// Feeds the fields that the frames of most protocols have.
+///
+/// `FoldHasher` multiplies by the second half of 16 bytes that it is fed: where that half cancels the constant that it adds,
+/// all before it is lost. So no half here is a number that a frame states in all of its 64 bits.
 #[inline]
 fn feed_headers<H: Hasher>(fields: &Fields, state: &mut H)
     ensures { state.new ≡ fold H.write state.old (header_writes (list_of fields.now)) }
@@ -37,8 +40,8 @@ fn feed_headers<H: Hasher>(fields: &Fields, state: &mut H)
         join_8(fields.nw_ttl, fields.ip_frag),
     );
     state.write_u128(join_64(fields.dl_src, fields.dl_dst));
-    state.write_u128(join_64(addresses, ports));
-    state.write_u64(join_32(tag, header));
+    state.write_u128(join_64(join_32(tag, header), addresses));
+    state.write_u64(ports);
 }
 
 /// Feeds the addresses of IPv6, if there are any.
@@ -49,8 +52,17 @@ fn feed_ipv6_addresses<H: Hasher>(fields: &Fields, state: &mut H)
     if fields.ipv6_src == 0 && fields.ipv6_dst == 0 {
         return;
     }
-    state.write_u128(fields.ipv6_src);
-    state.write_u128(fields.ipv6_dst);
+    feed_halves(fields.ipv6_src, state);
+    feed_halves(fields.ipv6_dst, state);
+}
+
+/// Feeds an address of IPv6 as two words, so that neither is a factor by itself.
+#[inline]
+fn feed_halves<H: Hasher>(address: u128, state: &mut H)
+    ensures { state.new ≡ fold H.write state.old (halves_writes address) }
+{
+    state.write_u64((address >> 64) as u64);
+    state.write_u64((address % (1 << 64)) as u64);
 }
 
 /// Feeds the hardware addresses of ARP, if there are any.

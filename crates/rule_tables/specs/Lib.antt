@@ -1,7 +1,5 @@
 pub mod Added
 pub mod Candidates
-pub mod HashInput
-pub mod Hashing
 pub mod History
 pub mod Stored
 pub mod Versions
