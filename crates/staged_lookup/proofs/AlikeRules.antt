@@ -1,12 +1,11 @@
 -- A subtable that has some rules has others too that differ from them in tables, cookies and actions alone.
-use Rattle.std.proofs.Common.{◌≡◌, ℕ, ◌+◌, Bool, true, false, ◌==◌, if◌then◌else◌, nat_eq, List, [], ◌∷◌, map, length, Some, refl, sym, ap, ap₂, ◌∙◌, subst, arith}
+use Rattle.std.proofs.Common.{◌≡◌, ℕ, ◌+◌, Bool, true, false, ◌==◌, if◌then◌else◌, nat_eq, List, [], ◌∷◌, map, length, refl, sym, ap, ap₂, ◌∙◌, subst, arith}
 use Rattle.std.specs.List.{count_by}
 use Rattle.indexmap.specs.IndexMap.{get}
 use Rattle.spec_keys.specs.Keys.{masked, same}
 use Rattle.spec_tables.specs.Rules.{Rule}
 use Rattle.translation_laws.proofs.MemberLaws.{Among, Among_in-map}
-use Rattle.ovs_fields.specs.declared.key.Key.{Key}
-use Rattle.ovs_fields.specs.Packed.{numbers, bits}
+use Rattle.ovs_fields.specs.Packed.{bits}
 use Rattle.staged_lookup.specs.declared.rank.Rank.{Rank}
 use Rattle.staged_lookup.specs.declared.stage.Stage.{Stage}
 use Rattle.staged_lookup.specs.declared.subtable.Subtable.{Subtable}

@@ -2,45 +2,26 @@
 -- to an end.
 use denote.Param.Send.{IsSend, IsSync, sendable}
 use Rattle.std.proofs.Crossing.{crosses}
-use Rattle.ovs_fields.specs.contracts.key.Key as key
-use Rattle.ovs_fields.specs.contracts.mask.Mask as mask
-use Rattle.compact_keys.specs.contracts.masked_key.MaskedKey as masked_key
-use Rattle.compact_keys.specs.contracts.key_mask.KeyMask as key_mask
+pub use Rattle.masked_map.proofs.Crossing.{key_send, key_sync, mask_send, mask_sync}
+use Rattle.masked_map.proofs.Crossing.{compact_send, compact_sync}
+use Rattle.staged_lookup.specs.contracts.bucket.Bucket as bucket
 use Rattle.staged_lookup.specs.contracts.stage.Stage as stage
 use Rattle.staged_lookup.specs.contracts.subtable.Subtable as subtable
 
-pub key_send : IsSend (key.the_field).row
-key_send = search (sendable, crosses) depth 100 fits 20000
+bucket_send : IsSend (bucket.the_field).row
+bucket_send = search (sendable, crosses) depth 100 fits 20000
 
-pub key_sync : IsSync (key.the_field).row
-key_sync = search (sendable, crosses) depth 100 fits 20000
-
-pub mask_send : IsSend (mask.the_field).row
-mask_send = search (sendable, crosses) depth 100 fits 20000
-
-pub mask_sync : IsSync (mask.the_field).row
-mask_sync = search (sendable, crosses) depth 100 fits 20000
-
-masked_key_send : IsSend (masked_key.the_field).row
-masked_key_send = search (sendable, crosses, key_send) depth 100 fits 20000
-
-masked_key_sync : IsSync (masked_key.the_field).row
-masked_key_sync = search (sendable, crosses, key_sync) depth 100 fits 20000
-
-key_mask_send : IsSend (key_mask.the_field).row
-key_mask_send = search (sendable, crosses, mask_send) depth 100 fits 20000
-
-key_mask_sync : IsSync (key_mask.the_field).row
-key_mask_sync = search (sendable, crosses, mask_sync) depth 100 fits 20000
+bucket_sync : IsSync (bucket.the_field).row
+bucket_sync = search (sendable, crosses) depth 100 fits 20000
 
 stage_send : IsSend (stage.the_field).row
-stage_send = search (sendable, crosses, masked_key_send, mask_send, key_mask_send) depth 100 fits 20000
+stage_send = search (sendable, crosses, key_send, mask_send, compact_send) depth 100 fits 20000
 
 stage_sync : IsSync (stage.the_field).row
-stage_sync = search (sendable, crosses, masked_key_sync, mask_sync, key_mask_sync) depth 100 fits 20000
+stage_sync = search (sendable, crosses, key_sync, mask_sync, compact_sync) depth 100 fits 20000
 
 pub subtable_send : IsSend (subtable.the_field).row
-subtable_send = search (sendable, crosses, stage_send, masked_key_send, key_send, mask_send, key_mask_send) depth 100 fits 20000
+subtable_send = search (sendable, crosses, stage_send, bucket_send, key_send, mask_send, compact_send) depth 100 fits 20000
 
 pub subtable_sync : IsSync (subtable.the_field).row
-subtable_sync = search (sendable, crosses, stage_sync, masked_key_sync, key_sync, mask_sync, key_mask_sync) depth 100 fits 20000
+subtable_sync = search (sendable, crosses, stage_sync, bucket_sync, key_sync, mask_sync, compact_sync) depth 100 fits 20000

@@ -2,7 +2,6 @@ pub mod AlikeRules
 pub mod Crossing
 pub mod KeyLaws
 pub mod Members
-pub mod OnlyCount
 pub mod ProbeLaws
 pub mod RankLaws
 pub mod Removed

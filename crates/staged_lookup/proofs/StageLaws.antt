@@ -1,13 +1,15 @@
 -- What a stage counts, as rules come and go.
 use Rattle.std.proofs.Common.{◌≡◌, ℕ, ◌+◌, ◌^◌, ◌<◌, length, true, if◌then◌else◌, nat_lt, List, [], ◌∷◌, ◌++◌, sym, ap, ap₂, ◌∙◌, subst, arith}
+use Rattle.std.specs.Prelude.{unwrap_or}
 use Rattle.std.specs.List.{list_any}
+use Rattle.std.specs.Map.{lookup}
 use Rattle.std.proofs.lemmas.Bool.{ltb-true, lt-ltb}
 use Rattle.std.proofs.lemmas.Bool.Decides.{same_from_decides}
 use Rattle.std.proofs.lemmas.List.Sums.{count_by-le-length}
 use Rattle.spec_keys.specs.Keys.{agree, masked, same}
 use Rattle.spec_tables.specs.Rules.{Rule}
 use Rattle.ovs_fields.specs.Packed.{bits}
-use Rattle.compact_keys.specs.Seen.{mask_bits}
+use Rattle.masked_map.specs.Maps.{mask_of, entries_of}
 use Rattle.ovs_fields.specs.Equality.{same_from_equal}
 use Rattle.translation_laws.proofs.MemberLaws.{Among, list_any_from-Among}
 use Rattle.staged_lookup.specs.declared.stage.Stage.{Stage}
@@ -18,31 +20,54 @@ use Rattle.staged_lookup.specs.Stages.{with_part, IsStage, CountsFewer, IsCounte
 use Rattle.staged_lookup.proofs.Members.{any_among, counted_among, counted_from}
 use Rattle.staged_lookup.proofs.Removed.{count-one_more, count-without}
 
-pub stage_empty : (s : Stage) (before part mask : List ℕ) → bits s.part ≡ part → mask_bits s.key_mask ≡ part → (s.kind ≡ LikeTheOneBefore → part ≡ before) → (s.kind ≡ WholeMask → part ≡ mask) → ((key : List ℕ) → count_at s.counts key ≡ 0) → IsStage s before part mask []
-stage_empty s before part mask is masks like whole empty = record { part_is = is; masks = masks; like = like; whole = whole; counted = λ tested key. empty key }
+counts_same : (old new : Stage) → entries_of new.counts ≡ entries_of old.counts → (key : List ℕ) → count_at new.counts key ≡ count_at old.counts key
+counts_same old new same_entries key = ap (λ (es : List (List ℕ × ℕ)). unwrap_or (lookup (same key) es) 0) same_entries
 
-pub stage_more : (old new : Stage) (before part mask key added : List ℕ) (rs : List Rule) (r : Rule) → IsStage old before part mask rs → r.matching.key ≡ key → new.part ≡ old.part → new.key_mask ≡ old.key_mask → new.kind ≡ old.kind → old.kind ≡ Tested
-    → added ≡ masked key (mask_bits old.key_mask) → ((q : List ℕ) → count_at new.counts q ≡ count_at old.counts q + (if same q added then 1 else 0)) → IsStage new before part mask (rs ++ r ∷ [])
-stage_more old new before part mask key added rs r is of_key same_part same_masks same_kind tested is_added more = record {
+pub stage_empty : (s : Stage) (before part mask : List ℕ) → bits s.part ≡ part → mask_of s.counts ≡ part → (s.kind ≡ LikeTheOneBefore → part ≡ before) → (s.kind ≡ WholeMask → part ≡ mask) → entries_of s.counts ≡ [] → IsStage s before part mask []
+stage_empty s before part mask is masks like whole empty = record {
+  part_is = is;
+  masks = masks;
+  like = like;
+  whole = whole;
+  counted = λ tested key. ap (λ (es : List (List ℕ × ℕ)). unwrap_or (lookup (same key) es) 0) empty;
+}
+
+-- a stage that has the same counts under the same mask
+pub stage_same : (old new : Stage) (before part mask : List ℕ) (rs : List Rule) → new.part ≡ old.part → new.kind ≡ old.kind → mask_of new.counts ≡ mask_of old.counts → entries_of new.counts ≡ entries_of old.counts
+    → IsStage old before part mask rs → IsStage new before part mask rs
+stage_same old new before part mask rs same_part same_kind same_mask same_entries is = record {
   part_is = ap bits same_part ∙ is.part_is;
-  masks = ap mask_bits same_masks ∙ is.masks;
+  masks = same_mask ∙ is.masks;
   like = λ k. is.like (sym same_kind ∙ k);
   whole = λ k. is.whole (sym same_kind ∙ k);
-  counted = λ t q. more q ∙ ap₂ (λ (m : ℕ) (l : List ℕ). m + (if same q l then 1 else 0)) (is.counted tested q) (is_added ∙ ap₂ masked (sym of_key) is.masks)
+  counted = λ t key. counts_same old new same_entries key ∙ is.counted (sym same_kind ∙ t) key;
+}
+
+pub few_same : (old new : Stage) → new.kind ≡ old.kind → entries_of new.counts ≡ entries_of old.counts → CountsFewer old → CountsFewer new
+few_same old new same_kind same_entries few tested key = subst (λ (n : ℕ). n < 2 ^ 63) (sym (counts_same old new same_entries key)) (few (sym same_kind ∙ tested) key)
+
+pub stage_more : (old new : Stage) (before part mask key : List ℕ) (rs : List Rule) (r : Rule) → IsStage old before part mask rs → r.matching.key ≡ key → new.part ≡ old.part → new.kind ≡ old.kind → old.kind ≡ Tested
+    → mask_of new.counts ≡ mask_of old.counts → ((q : List ℕ) → count_at new.counts q ≡ count_at old.counts q + (if same q (masked key (mask_of old.counts)) then 1 else 0)) → IsStage new before part mask (rs ++ r ∷ [])
+stage_more old new before part mask key rs r is of_key same_part same_kind tested same_mask more = record {
+  part_is = ap bits same_part ∙ is.part_is;
+  masks = same_mask ∙ is.masks;
+  like = λ k. is.like (sym same_kind ∙ k);
+  whole = λ k. is.whole (sym same_kind ∙ k);
+  counted = λ t q. more q ∙ ap₂ (λ (m : ℕ) (l : List ℕ). m + (if same q l then 1 else 0)) (is.counted tested q) (ap₂ masked (sym of_key) is.masks)
       ∙ sym (count-one_more (λ (x : Rule). same q (masked x.matching.key part)) rs r);
 }
 
-pub stage_less : (old new : Stage) (before part mask key taken : List ℕ) (rs : List Rule) (r : Rule) → IsStage old before part mask rs → AreDistinct rs → Among r rs → r.matching.key ≡ key → new.part ≡ old.part → new.key_mask ≡ old.key_mask → new.kind ≡ old.kind → old.kind ≡ Tested
-    → taken ≡ masked key (mask_bits old.key_mask) → ((q : List ℕ) → count_at new.counts q + (if same q taken then 1 else 0) ≡ count_at old.counts q) → IsStage new before part mask (without r.number rs)
-stage_less old new before part mask key taken rs r is distinct m of_key same_part same_masks same_kind tested is_taken less = record {
+pub stage_less : (old new : Stage) (before part mask key : List ℕ) (rs : List Rule) (r : Rule) → IsStage old before part mask rs → AreDistinct rs → Among r rs → r.matching.key ≡ key → new.part ≡ old.part → new.kind ≡ old.kind → old.kind ≡ Tested
+    → mask_of new.counts ≡ mask_of old.counts → ((q : List ℕ) → count_at new.counts q + (if same q (masked key (mask_of old.counts)) then 1 else 0) ≡ count_at old.counts q) → IsStage new before part mask (without r.number rs)
+stage_less old new before part mask key rs r is distinct m of_key same_part same_kind tested same_mask less = record {
   part_is = ap bits same_part ∙ is.part_is;
-  masks = ap mask_bits same_masks ∙ is.masks;
+  masks = same_mask ∙ is.masks;
   like = λ k. is.like (sym same_kind ∙ k);
   whole = λ k. is.whole (sym same_kind ∙ k);
   counted = λ t q.
       let a = less q in
       let b = is.counted tested q in
-      let c = ap {B = ℕ} (λ (l : List ℕ). if same q l then 1 else 0) (is_taken ∙ ap₂ masked (sym of_key) is.masks) in
+      let c = ap {B = ℕ} (λ (l : List ℕ). if same q l then 1 else 0) (ap₂ masked (sym of_key) is.masks) in
       let d = count-without (λ (x : Rule). same q (masked x.matching.key part)) r rs m distinct in
       omega (arith, a, b, c, d);
 }
@@ -50,16 +75,16 @@ stage_less old new before part mask key taken rs r is distinct m of_key same_par
 -- each rule is counted
 pub stage_has : (s : Stage) (before part mask key : List ℕ) (rs : List Rule) (r : Rule) → IsStage s before part mask rs → Among r rs → r.matching.key ≡ key → IsCounted s key
 stage_has s before part mask key rs r is m of_key tested =
-    subst (λ (n : ℕ). 0 < n) (sym (is.counted tested (masked key (mask_bits s.key_mask))))
-    (counted_from (λ (x : Rule). same (masked key (mask_bits s.key_mask)) (masked x.matching.key part)) r rs m
-    (same_from_equal (masked key (mask_bits s.key_mask)) (masked r.matching.key part) (ap₂ masked (sym of_key) is.masks)))
+    subst (λ (n : ℕ). 0 < n) (sym (is.counted tested (masked key (mask_of s.counts))))
+    (counted_from (λ (x : Rule). same (masked key (mask_of s.counts)) (masked x.matching.key part)) r rs m
+    (same_from_equal (masked key (mask_of s.counts)) (masked r.matching.key part) (ap₂ masked (sym of_key) is.masks)))
 
-pub stage_agrees : (s : Stage) (before part mask key at_key : List ℕ) (rs : List Rule) (n : ℕ) → IsStage s before part mask rs → s.kind ≡ Tested → at_key ≡ masked key (mask_bits s.key_mask) → n ≡ count_at s.counts at_key
+pub stage_agrees : (s : Stage) (before part mask key : List ℕ) (rs : List Rule) (n : ℕ) → IsStage s before part mask rs → s.kind ≡ Tested → n ≡ count_at s.counts (masked key (mask_of s.counts))
     → nat_lt 0 n ≡ list_any (λ r. agree key r.matching.key part) rs
-stage_agrees s before part mask key at_key rs n is tested is_at found = same_from_decides (nat_lt 0 n) (list_any (λ r. agree key r.matching.key part) rs) (to, back) (λ e. e, λ e. e)
+stage_agrees s before part mask key rs n is tested found = same_from_decides (nat_lt 0 n) (list_any (λ r. agree key r.matching.key part) rs) (to, back) (λ e. e, λ e. e)
   where
     count : n ≡ with_part part (masked key part) rs
-    count = found ∙ ap (count_at s.counts) (is_at ∙ ap (masked key) is.masks) ∙ is.counted tested (masked key part)
+    count = found ∙ ap (count_at s.counts) (ap (masked key) is.masks) ∙ is.counted tested (masked key part)
 
     to : nat_lt 0 n ≡ true → list_any (λ r. agree key r.matching.key part) rs ≡ true
     to h =

@@ -10,7 +10,7 @@ use Rattle.spec_keys.specs.Stages.{staged, metadata_stage, ethernet_stage, netwo
 use Rattle.spec_tables.specs.Rules.{Rule, winner}
 use Rattle.translation_laws.specs.Members.{Among}
 use Rattle.ovs_fields.specs.Packed.{numbers, bits}
-use Rattle.compact_keys.specs.Seen.{mask_bits}
+use Rattle.masked_map.specs.Maps.{mask_of}
 use Rattle.staged_lookup.specs.declared.probe.Probe.{Probe}
 use Rattle.staged_lookup.specs.declared.probe.Probe.TheVariants.{Ended, Best}
 use Rattle.staged_lookup.specs.declared.rank.Rank.{Rank}
@@ -47,7 +47,7 @@ pub record AreKept (keys : Keys) (rs : List Rule) : Type 0 where
 -- the subtable has these rules, which are all of its mask, and no two of one number
 pub record IsSubtableOf (s : Subtable) (rs : List Rule) : Type 0 where
   pub of_mask : (r : Rule) → Among r rs → IsOfMask (bits s.mask) r
-  pub masks : mask_bits s.key_mask ≡ bits s.mask
+  pub masks : mask_of s.buckets ≡ bits s.mask
   pub distinct : AreDistinct rs
   pub ranked : (key : List ℕ) → ranks_at s.buckets key ≡ ranks_with key rs
   pub metadata : IsStage s.metadata none (staged metadata_stage (bits s.mask)) (bits s.mask) rs

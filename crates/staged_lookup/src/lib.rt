@@ -29,17 +29,20 @@
 //! rules themselves, which the last stage would ask anyway. Where all rules have the same key under a part, nothing is
 //! hashed.
 //!
-//! What a test of a stage costs is to make a key under a part of the mask, to hash it and to compare it. Each part is kept as
-//! a `KeyMask` of `compact_keys`, under which a key is made of 40 bytes instead of 160 where the part has no bits of
-//! metadata and registers, nor of the addresses of IPv6 and ARP.
+//! Each part has a map of `masked_map`, of counts, and the whole mask one of buckets. So a key is made, hashed and compared
+//! by 40 bytes instead of 160 where the part has no bits of metadata and registers, nor of the addresses of IPv6 and ARP, and
+//! as much less of what the maps hold is read.
 //!
 //! The rules with a key stand in one bucket, of their *ranks*: the priority and the number, which decide who wins. Rules of
-//! one mask and one key differ in their priorities alone. A third map has the rules' keys by their numbers, for removals.
+//! one mask and one key differ in their priorities alone, so most buckets have one rank, which stands in the map itself; more
+//! stand in a list of their own. Another map has the rules' keys by their numbers, for removals.
 //!
 //! # What it costs
 //!
-//! A probe takes a hash and a probe of a map for each stage that it tests, and one more for the rules themselves; none of
-//! it grows by the rules. An insertion and a removal take one of each map.
+//! A probe takes a hash and a probe of a map for each stage that it tests, and one more for the rules themselves. Of rules
+//! with one key it compares the ranks one by one; else none of it grows by the rules. An insertion and a removal take two of
+//! each map by keys, and one of that by numbers. An insertion takes memory where a map grows, and for the second rule of a
+//! key; a removal takes none.
 //!
 //! # What is left to others
 //!
@@ -47,6 +50,7 @@
 //! of a table.
 #![tactic(auto)]
 
+mod bucket;
 mod buckets;
 mod counts;
 mod probe;

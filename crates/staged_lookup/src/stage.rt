@@ -1,5 +1,4 @@
 ghost use Rattle.std.specs.Prelude.{◌≡◌, true, false, ◌<◌, ◌^◌, ◌++◌, [], ◌∷◌, ℕ, List, OnOk};
-ghost use Rattle.indexmap.specs.IndexMap.{spare};
 ghost use Rattle.spec_keys.specs.Keys.{masked};
 ghost use Rattle.spec_tables.specs.Rules.{Rule};
 ghost use Rattle.ovs_fields.specs.Packed.{numbers, bits};
@@ -9,9 +8,8 @@ ghost use Rattle.translation_laws.specs.Members.{Among};
 ghost use Rattle.staged_lookup.specs.declared.stage.StageKind.TheVariants as kinds;
 ghost use Rattle.staged_lookup.specs.declared.stage.Step.TheVariants as steps;
 
-use crate::counts::{KeyCounts, add_count, count_of, reserve_count, take_count};
-use compact_keys::KeyMask;
-use indexmap::IndexMap;
+use crate::counts::{KeyCounts, add_count, count_of, take_count};
+use masked_map::MaskedMap;
 use ovs_fields::{Key, Mask};
 use std::alloc::{AllocError, Global};
 
@@ -55,11 +53,9 @@ fn kind_of(before: &Mask, part: &Mask, mask: &Mask) -> StageKind
 /// stage tests them.
 #[derive(Drop)]
 pub(crate) struct Stage {
-    pub(crate) counts: KeyCounts,
     pub(crate) part: Mask,
-    /// The part, as it masks keys.
-    pub(crate) key_mask: KeyMask,
     pub(crate) kind: StageKind,
+    pub(crate) counts: KeyCounts,
 }
 
 impl Stage {
@@ -72,8 +68,7 @@ impl Stage {
         Stage {
             kind: kind_of(before, &part, mask),
             part,
-            key_mask: KeyMask::new(&part),
-            counts: IndexMap::new(alloc),
+            counts: MaskedMap::new(alloc, &part),
         }
     }
 
@@ -86,7 +81,7 @@ impl Stage {
     {
         match self.kind {
             StageKind::LikeTheOneBefore | StageKind::WholeMask => Ok(()),
-            StageKind::Tested => reserve_count(&mut self.counts),
+            StageKind::Tested => self.counts.reserve(),
         }
     }
 
@@ -100,7 +95,7 @@ impl Stage {
     {
         match self.kind {
             StageKind::LikeTheOneBefore | StageKind::WholeMask => {}
-            StageKind::Tested => add_count(&mut self.counts, self.key_mask.masked(key)),
+            StageKind::Tested => add_count(&mut self.counts, key),
         }
     }
 
@@ -114,7 +109,7 @@ impl Stage {
     {
         match self.kind {
             StageKind::LikeTheOneBefore | StageKind::WholeMask => {}
-            StageKind::Tested => take_count(&mut self.counts, &self.key_mask.masked(key)),
+            StageKind::Tested => take_count(&mut self.counts, key),
         }
     }
 
@@ -137,7 +132,7 @@ impl Stage {
             → IsStage self.now before part mask rs → self.now.kind ≡ kinds.Tested
             → result ≡ some_agrees rs (numbers key.now) part }
     {
-        count_of(&self.counts, &self.key_mask.masked(key)) > 0
+        count_of(&self.counts, key) > 0
     }
 }
 

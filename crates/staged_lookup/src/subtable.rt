@@ -15,8 +15,8 @@ use crate::buckets::{Buckets, add_rank, take_rank};
 use crate::probe::{ETHERNET, METADATA, NETWORK, PORTS, Probe};
 use crate::rank::{Rank, best_of};
 use crate::stage::{Stage, Step};
-use compact_keys::{KeyMask, MaskedKey};
 use indexmap::IndexMap;
+use masked_map::MaskedMap;
 use ovs_fields::{Key, Mask, ethernet_part, metadata_part, network_part};
 use rule_tables::Match;
 use std::alloc::{AllocError, Global};
@@ -24,18 +24,15 @@ use std::alloc::{AllocError, Global};
 /// The rules of one mask.
 #[derive(Drop)]
 pub struct Subtable {
-    // The maps stand first: the search for `Send` goes a step deeper with each field before them.
+    pub(crate) alloc: Global,
+    pub(crate) mask: Mask,
+    /// The ranks of the rules with each key.
+    pub(crate) buckets: Buckets,
     pub(crate) metadata: Stage,
     pub(crate) ethernet: Stage,
     pub(crate) network: Stage,
-    /// The ranks of the rules with each key.
-    pub(crate) buckets: Buckets,
     /// The keys of the rules by their numbers.
     pub(crate) keys: IndexMap<u32, Key>,
-    pub(crate) mask: Mask,
-    /// The mask, as it masks keys.
-    pub(crate) key_mask: KeyMask,
-    pub(crate) alloc: Global,
 }
 
 impl Subtable {
@@ -52,12 +49,11 @@ impl Subtable {
         Subtable {
             alloc,
             mask: *mask,
-            key_mask: KeyMask::new(mask),
-            keys: IndexMap::new(alloc),
-            buckets: IndexMap::new(alloc),
+            buckets: MaskedMap::new(alloc, mask),
             metadata: Stage::new(alloc, &Mask::none(), metadata, mask),
             ethernet: Stage::new(alloc, &metadata, ethernet, mask),
             network: Stage::new(alloc, &ethernet, network, mask),
+            keys: IndexMap::new(alloc),
         }
     }
 
@@ -89,7 +85,7 @@ impl Subtable {
         add_rank(
             self.alloc,
             &mut self.buckets,
-            self.key_mask.masked(&matching.key),
+            &matching.key,
             Rank { priority, number },
         )?;
         self.metadata.add(&matching.key);
@@ -109,7 +105,7 @@ impl Subtable {
         let Some(key) = self.keys.swap_remove(&number) else {
             unreachable!()
         };
-        take_rank(&mut self.buckets, &self.key_mask.masked(&key), number);
+        take_rank(&mut self.buckets, &key, number);
         self.metadata.take(&key);
         self.ethernet.take(&key);
         self.network.take(&key);
@@ -190,8 +186,8 @@ impl Subtable {
             → IsSubtableOf self.now rs
             → result ≡ option_map (λ r. r.number) (find (has_priority (numbers key.now) priority) rs) }
     {
-        match self.buckets.get(&MaskedKey::whole(key)) {
-            Some(ranks) => number_of_priority(ranks, priority),
+        match self.buckets.get_exact(key) {
+            Some(bucket) => number_of_priority(bucket.ranks(), priority),
             None => None,
         }
     }
@@ -209,8 +205,8 @@ impl Subtable {
             → IsSubtableOf self.now rs
             → result ≡ option_map rank_of (winner rs (numbers key.now)) }
     {
-        match self.buckets.get(&self.key_mask.masked(key)) {
-            Some(ranks) => best_of(ranks),
+        match self.buckets.get(key) {
+            Some(bucket) => best_of(bucket.ranks()),
             None => None,
         }
     }

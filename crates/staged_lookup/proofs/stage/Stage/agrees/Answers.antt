@@ -1,7 +1,6 @@
 use Rattle.ovs_fields.specs.Packed.{numbers}
-use Rattle.compact_keys.specs.Seen.{masked_numbers}
 use Rattle.staged_lookup.proofs.StageLaws.{stage_agrees}
 use Rattle.staged_lookup.proofs.stage.Stage.agrees.Goals as goal
 
 pub returns : goal.returns
-returns c before part mask rs is tested = stage_agrees c.args.self.now before part mask (numbers c.args.key.now) (masked_numbers c.masked.result) rs c.count_of.result is tested c.masked.ensures c.count_of.ensures
+returns c before part mask rs is tested = stage_agrees c.args.self.now before part mask (numbers c.args.key.now) rs c.count_of.result is tested c.count_of.ensures

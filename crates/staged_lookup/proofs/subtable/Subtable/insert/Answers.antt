@@ -3,7 +3,7 @@ use Rattle.std.specs.Prelude.{if◌then◌else◌}
 use Rattle.spec_keys.specs.Keys.{masked, same}
 use Rattle.ovs_fields.specs.Equality.{equal_from_same}
 use Rattle.ovs_fields.specs.Packed.{numbers, bits}
-use Rattle.compact_keys.specs.Seen.{masked_numbers}
+use Rattle.masked_map.specs.Maps.{mask_of}
 use Rattle.staged_lookup.specs.declared.rank.Rank.{Rank}
 use Rattle.spec_tables.specs.Rules.{Rule}
 use Rattle.staged_lookup.specs.Numbered.{AreDistinct, HasNoNumber}
@@ -98,7 +98,7 @@ returns-in_err-add_rank-clause-err c = on_err_always c.from_residual-in_err-add_
     let mask = bits c.args.self.now.mask in
     record {
       of_mask = is.of_mask;
-      masks = is.masks;
+      masks = c.add_rank.ensures.mask ∙ is.masks;
       distinct = is.distinct;
       ranked = λ q. c.in_err-add_rank.ensures.err q ∙ is.ranked q;
       metadata = c.reserve.ensures.same _ _ mask rs is.metadata;
@@ -114,7 +114,7 @@ returns-clause-ok c rs r is of_number of_priority of_match =
     let rank : Rank = record { priority = c.args.priority; number = c.args.number } in
     let same_mask : bits matching.mask ≡ mask = equal_from_same _ _ c.requires.mask in
     let of_key : r.matching.key ≡ numbers matching.key = ap (λ m. m.key) of_match in
-    let masked_key : masked_numbers c.masked.result ≡ numbers matching.key = c.masked.ensures ∙ ap (masked (numbers matching.key)) (is.masks ∙ sym same_mask) ∙ matching.normalised in
+    let masked_key : masked (numbers matching.key) (mask_of c.args.self.now.buckets) ≡ numbers matching.key = ap (masked (numbers matching.key)) (is.masks ∙ sym same_mask) ∙ matching.normalised in
     let keys = kept_same c.args.self.now.keys c.reserve-4.new.self rs c.reserve-4.ensures.entries is.kept in
     let fresh = fresh_for_all c.args.self.now.keys c.requires.new.0 rs c.args.number c.requires.new.1.kept is.kept c.requires.new.2 in
     record {
@@ -123,7 +123,7 @@ returns-clause-ok c rs r is of_number of_priority of_match =
         normalised = ap₂ masked of_key (sym same_mask) ∙ matching.normalised ∙ sym of_key;
         fields = ap length of_key ∙ matching.key.is_key.fields;
       });
-      masks = is.masks;
+      masks = c.add_rank.ensures.mask ∙ is.masks;
       distinct = distinct_more rs r is.distinct (subst (λ n. HasNoNumber n rs) (sym of_number) fresh);
       ranked = λ q.
           c.in_ok-add_rank.ensures.ok q ∙ ap₂ (λ ranks (key : List ℕ). ranks ++ (if same q key then rank ∷ [] else [])) (is.ranked q) masked_key

@@ -1,4 +1,3 @@
-use Rattle.std.proofs.Common.{refl}
 use Rattle.staged_lookup.proofs.KeyLaws.{kept_empty, no_entries}
 use Rattle.staged_lookup.proofs.subtable.Subtable.is_empty.Goals as goal
 

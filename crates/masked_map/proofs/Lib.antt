@@ -1,0 +1,3 @@
+pub mod CompactLaws
+pub mod Crossing
+pub mod MapLaws

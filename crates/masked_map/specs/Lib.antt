@@ -1,0 +1,3 @@
+pub mod Compact
+pub mod Hashing
+pub mod Maps

@@ -1,0 +1,54 @@
+//! Maps from keys under one mask to values, small where the mask allows.
+//!
+//! # What?
+//!
+//! A lookup by masks takes the key of a packet under each of them, and looks it up in that mask's hash map. A whole key has
+//! 160 bytes (`ovs_fields`), and to make, to hash and to compare such keys, and to fetch them from memory, is most of what
+//! the lookup costs. Few masks need them: most have no bits of metadata and the registers, of the addresses of IPv6, nor of
+//! the hardware addresses of ARP, the *wide* fields here, and a key under such a mask is 0 there. Open vSwitch has its flows
+//! and masks without what is 0 for the same reason (`miniflow` and `minimask` in lib/flow.h). Here the other fields stand in
+//! 40 bytes, the *compact* ones. Since all keys of a map are under its mask, a map is of one of two kinds, and that of a mask
+//! without bits of wide fields has compact keys only.
+//!
+//! # What is promised
+//!
+//! Contracts see a mask and a key as lists with a number for each field, as those of `ovs_fields` do, and of a map its mask,
+//! `mask_of m`, its entries, `entries_of m`, and what stands at a key, `value_at m key` (specs/Maps.antt). Of which kind a
+//! map is, none of them says.
+//!
+//! - `new` has the bits of a mask, and no entries.
+//! - `get` is what stands at a key under the mask, and `get_exact` at a key as it is: nothing, if it has other bits.
+//! - `insert` and `swap_remove` change what stands at a key under the mask, and give what stood there. At all others the
+//!   same stands as before.
+//! - `add_agreeing` finds the values at keys that agree with one on the bits of another mask, entry by entry.
+//! - `reserve` makes room for a key, and changes nothing else. Only it and `add_agreeing` take memory, and so can fail:
+//!   `insert` has to have room, if the key isn't there.
+//!
+//! # How
+//!
+//! The two kinds are an `IndexMap` by compact fields beside a mask of compact fields, and one by whole keys beside a whole
+//! mask. `CompactFields::of_mask` decides: it fails where a wide field has bits. Compact fields are equal exactly where the
+//! whole keys would be, and feed a hash function what these would, so both kinds obey the same clauses.
+//!
+//! No call lends a value to be written: `get` reads one, and `insert` puts another in its place.
+//!
+//! # What it costs
+//!
+//! A look-up makes, hashes and compares one key, compact or whole; where a map has one key it hashes nothing. An entry takes
+//! 40 bytes for a compact key and 160 for a whole one, beside the value, and the place of it in a table of hashes. The order
+//! of the entries is that of their coming until one goes, whose place the last one takes. `add_agreeing` goes over all of
+//! them.
+//!
+//! # What is left to others
+//!
+//! Which masks there are, and what stands at keys under them.
+#![tactic(auto)]
+
+mod field_list;
+mod fields;
+mod map;
+
+pub use map::MaskedMap;
+
+#[cfg(test)]
+mod tests;
