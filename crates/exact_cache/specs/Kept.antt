@@ -1,25 +1,28 @@
 -- The slots that a cache keeps, as those of the definitions.
-use Rattle.std.specs.Prelude.{ℕ, ◌+◌, ◌<◌, ◌≤◌, Bool, false, nat_eq, List, map, Option, None, IsSome, if◌then◌else◌}
+use Rattle.std.specs.Prelude.{◌≡◌, ℕ, zero, suc, ◌+◌, ◌<◌, ◌≤◌, Bool, false, List, map, Option, Some, None, if◌then◌else◌, slice_get, slice_index, length, vec_capacity}
 use Rattle.std.specs.Option.{option_map, option_map_or, is_none}
-use Rattle.std.specs.declared.hash.FoldHasher.{FoldHasher}
-use Rattle.std.specs.declared.hash.BuildHasherDefault.{BuildHasherDefault}
-use Rattle.indexmap.specs.IndexMap.{IndexMap, get, index_map_len, spare, IsUnique}
 use Rattle.spec_keys.specs.Keys.{same}
 use Rattle.spec_board.specs.State.{Slot}
 use Rattle.spec_board.specs.Cache.{slot_count}
 use Rattle.ovs_fields.specs.Packed.{numbers}
 use Rattle.exact_cache.specs.declared.kept.Kept.{Kept}
+use Rattle.exact_cache.specs.declared.slots.KeptSlots.{KeptSlots}
 
--- what each slot that was written keeps, by its number
-abbrev pub KeptSlots : Type 0
-KeptSlots = IndexMap ℕ Kept (BuildHasherDefault FoldHasher)
-
--- a slot of this number
-abbrev pub slot_of : ℕ → Kept → Slot
-slot_of number kept = record { number = number; key = numbers kept.key; entry = kept.entry }
+-- the slot that keeps this
+abbrev pub slot_of : Kept → Slot
+slot_of kept = record { number = kept.slot; key = numbers kept.key; entry = kept.entry }
 
 abbrev pub slots_view : KeptSlots → List Slot
-slots_view slots = map (λ (e : ℕ × Kept). slot_of e.0 e.1) slots.entries
+slots_view slots = map slot_of slots.kept.items
+
+-- what stands at a place, which is counted from 1
+abbrev pub kept_at : List Kept → ℕ → Option Kept
+kept_at kept zero = None
+kept_at kept (suc place) = slice_get kept place
+
+-- what a slot keeps
+abbrev pub kept_in : KeptSlots → ℕ → Option Kept
+kept_in slots number = kept_at slots.kept.items (slice_index slots.index.items number)
 
 -- whether a slot keeps a key
 abbrev pub keeps : List ℕ → Option Kept → Bool
@@ -38,8 +41,11 @@ slot_of_two key first in_first second in_second =
     else (if is_none in_second then second
     else first)))
 
--- Each slot is there at most once and has a number below their count, and there is room for all that were never written.
+-- The index has the place of each slot that was written, and no other; and there is room for all slots.
 pub record IsCache (slots : KeptSlots) : Type 0 where
-  pub unique : IsUnique nat_eq slots
-  pub below : (number : ℕ) → IsSome (get nat_eq slots number) → number < slot_count
-  pub room : slot_count ≤ index_map_len slots + spare slots
+  pub index : length slots.index.items ≡ slot_count
+  pub within : (number : ℕ) → slice_index slots.index.items number ≤ length slots.kept.items
+  pub own : (number : ℕ) (kept : Kept) → kept_in slots number ≡ Some kept → kept.slot ≡ number
+  pub below : (place : ℕ) (kept : Kept) → slice_get slots.kept.items place ≡ Some kept → kept.slot < slot_count
+  pub found : (place : ℕ) (kept : Kept) → slice_get slots.kept.items place ≡ Some kept → slice_index slots.index.items kept.slot ≡ place + 1
+  pub room : slot_count ≤ vec_capacity slots.kept

@@ -4,8 +4,9 @@ ghost use Rattle.ovs_fields.specs.Packed.{numbers};
 ghost use Rattle.exact_cache.specs.SameSlots.{AreSameSlots};
 
 use crate::kept::Kept;
-use crate::slots::{KeptSlots, SLOT_COUNT, entry_for, first_slot, second_slot, slot_for, write};
-use indexmap::IndexMap;
+use crate::slots::{
+    KeptSlots, empty_slots, entry_for, first_slot, kept_in, second_slot, slot_for, write,
+};
 use ovs_fields::{Key, key_hash};
 use std::alloc::{AllocError, Global};
 use std::marker::Model;
@@ -34,7 +35,7 @@ impl ExactCache {
     pub fn new(alloc: Global) -> Result<ExactCache, AllocError>
         ensures { IfOk result (λ cache. cache ≡ []) }
     {
-        let slots = IndexMap::with_capacity(alloc, SLOT_COUNT as usize)?;
+        let slots = empty_slots(alloc)?;
         Ok(ExactCache { slots })
     }
 
@@ -43,9 +44,9 @@ impl ExactCache {
         ensures { result ≡ cached self.now (numbers key.now) }
     {
         let hash = key_hash(key);
-        match entry_for(self.slots.get(&first_slot(hash)), key, hash) {
+        match entry_for(kept_in(&self.slots, first_slot(hash)), key, hash) {
             Some(entry) => Some(entry),
-            None => entry_for(self.slots.get(&second_slot(hash)), key, hash),
+            None => entry_for(kept_in(&self.slots, second_slot(hash)), key, hash),
         }
     }
 
@@ -55,12 +56,13 @@ impl ExactCache {
         ensures { AreSameSlots self.new (with_cached (numbers key.now) entry self.old) }
     {
         let hash = key_hash(key);
-        let number = slot_for(&self.slots, key, hash);
+        let slot = slot_for(&self.slots, key, hash);
         let kept = Kept {
-            key: *key,
+            slot,
             entry,
             hash,
+            key: *key,
         };
-        write(&mut self.slots, number, kept);
+        write(&mut self.slots, kept);
     }
 }

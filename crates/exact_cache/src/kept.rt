@@ -8,10 +8,12 @@ use ovs_fields::Key;
 /// What a slot keeps: a key, and the number of the entry that decided it last.
 #[derive(Clone, Copy, Debug)]
 pub(crate) struct Kept {
-    pub(crate) key: Key,
+    /// The number of the slot.
+    pub(crate) slot: u32,
     pub(crate) entry: u32,
-    /// The hash of the key. It stands beside the entry, so that most keys of other frames needn't be read.
+    /// The hash of the key. It stands before the key, so that most keys of other frames needn't be read.
     pub(crate) hash: u64,
+    pub(crate) key: Key,
     pub(crate) ghost hashed: { hash ≡ key_hash (numbers key) },
 }
 

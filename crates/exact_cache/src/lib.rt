@@ -29,16 +29,17 @@
 //!
 //! # How
 //!
-//! The slots are a hash map from their numbers. An array of all slots would have 1.4 MB, and 32 boards 45 MB, most of
-//! which a run of few connections never needs. The map takes that memory too, but writes only 64 kB of it, its index;
-//! what is never written the system doesn't have to provide. The price is the probe of the index before the key is
-//! compared.
+//! What the slots keep stands in one vector, in the order of their first writes. An index beside it has for each slot the
+//! place there, or says that there is none. A look reads the index and the hash that is kept, and the key only where the
+//! hashes are equal, so that a slot of another key costs little. `look` and `put` hash the key once each.
 //!
-//! The map is made with room for 8192 slots. Each number is below that and stands in it at most once, so there is always
-//! room for a slot that was never written (`IsCache` in `specs/Kept`), and one that was is written in its place.
+//! `new` makes room for all slots, which is 1.4 MB, and 45 MB for 32 boards. But it writes only the index, 32 kB, and what
+//! is never written the system doesn't have to provide. A run of few connections writes the beginning of the vector, where
+//! an array by the numbers of the slots would be written in all its parts.
 //!
-//! A slot keeps the hash of its key as well. Only keys of equal hashes are compared, so that a slot of another key costs a
-//! read of that number alone. `look` and `put` hash the key once each.
+//! What is kept tells its slot, and the index has that place for this slot and no other (`IsCache` in `specs/Kept`). So
+//! there are never more than the slots have room for: one that was never written finds room, and one that was is written
+//! in its place.
 //!
 //! # What is left to others
 //!

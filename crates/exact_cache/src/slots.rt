@@ -1,22 +1,49 @@
 //! The slots of a cache, of which a key may stand in two.
 
-ghost use Rattle.std.specs.Prelude.{◌≡◌, ◌==◌, ◌<◌, ◌/◌, ◌%◌, ◌^◌, ℕ, Some, nat_eq, if◌then◌else◌};
+ghost use Rattle.std.specs.Prelude.{◌≡◌, ◌==◌, ◌<◌, ◌/◌, ◌%◌, ◌^◌, ℕ, [], Some, IfOk, if◌then◌else◌};
 ghost use Rattle.std.specs.Option.{option_copied};
-ghost use Rattle.indexmap.specs.IndexMap.{get};
 ghost use Rattle.spec_board.specs.Cache.{slot_count, slot_for};
 ghost use Rattle.spec_keys.specs.Hash.{key_hash};
 ghost use Rattle.ovs_fields.specs.Packed.{numbers};
-ghost use Rattle.exact_cache.specs.Kept.{slots_view, keeps, entry_in, slot_of_two, IsCache};
+ghost use Rattle.exact_cache.specs.Kept.{slots_view, keeps, entry_in, kept_in, slot_of_two, IsCache};
 
 use crate::kept::Kept;
-use indexmap::IndexMap;
 use ovs_fields::Key;
+use std::alloc::{AllocError, Global};
 
 /// How many slots a cache has.
 pub(crate) const SLOT_COUNT: u64 = 8192;
 
-/// What each slot that was written keeps, by its number.
-pub(crate) type KeptSlots = IndexMap<u32, Kept>;
+/// What each slot that was written keeps.
+#[derive(Drop)]
+pub(crate) struct KeptSlots {
+    /// For each slot one more than the place where `kept` has what it keeps, or 0 if it was never written.
+    pub(crate) index: Vec<u32>,
+    /// What the slots keep, in the order of their first writes.
+    pub(crate) kept: Vec<Kept>,
+}
+
+/// Slots none of which was written, with room for all.
+pub(crate) fn empty_slots(alloc: Global) -> Result<KeptSlots, AllocError>
+    ensures cache { IfOk result (λ slots. IsCache slots) }
+    ensures empty { IfOk result (λ slots. slots.kept.items ≡ []) }
+{
+    let index = vec![in alloc; 0; SLOT_COUNT as usize]?;
+    let kept = Vec::with_capacity(alloc, SLOT_COUNT as usize)?;
+    Ok(KeptSlots { index, kept })
+}
+
+/// What a slot keeps.
+pub(crate) fn kept_in(slots: &KeptSlots, slot: u32) -> Option<&Kept>
+    requires cache { IsCache slots.now }
+    requires within { slot < slot_count }
+    ensures { option_copied result ≡ kept_in slots.now slot }
+{
+    match slots.index[slot as usize] {
+        0 => None,
+        place => Some(&slots.kept[place as usize - 1]),
+    }
+}
 
 /// The first of the two slots of the keys with a hash, by its low bits.
 pub(crate) fn first_slot(hash: u64) -> u32
@@ -56,14 +83,15 @@ pub(crate) fn entry_for(slot: Option<&Kept>, key: &Key, hash: u64) -> Option<u32
 
 /// The slot where a key is put, which has this hash.
 pub(crate) fn slot_for(slots: &KeptSlots, key: &Key, hash: u64) -> u32
-    requires { hash ≡ key_hash (numbers key.now) }
+    requires cache { IsCache slots.now }
+    requires hash { hash ≡ key_hash (numbers key.now) }
     ensures slot { result ≡ slot_for (slots_view slots.now) (numbers key.now) }
     ensures within { result < slot_count }
 {
     let first = first_slot(hash);
     let second = second_slot(hash);
-    let in_first = slots.get(&first);
-    let in_second = slots.get(&second);
+    let in_first = kept_in(slots, first);
+    let in_second = kept_in(slots, second);
     slot_of_two(key, hash, first, in_first, second, in_second)
 }
 
@@ -94,18 +122,19 @@ fn slot_of_two(
 }
 
 /// Has a slot keep a key, in place of the one that it kept. It takes no memory.
-pub(crate) fn write(slots: &mut KeptSlots, number: u32, kept: Kept)
+pub(crate) fn write(slots: &mut KeptSlots, kept: Kept)
     requires cache { IsCache slots.old }
-    requires within { number < slot_count }
+    requires within { kept.slot < slot_count }
     ensures cache { IsCache slots.new }
-    ensures written { (n : ℕ)
-        → get nat_eq slots.new n ≡ (if number == n then Some kept else get nat_eq slots.old n) }
+    ensures written { (n : ℕ) → kept_in slots.new n
+        ≡ (if kept.slot == n then Some kept else kept_in slots.old n) }
 {
-    if let Some(slot) = slots.get_mut(&number) {
-        *slot = kept;
-        return;
+    let slot = kept.slot as usize;
+    match slots.index[slot] {
+        0 => {
+            slots.kept.push_reserved(kept);
+            slots.index[slot] = slots.kept.len() as u32;
+        }
+        place => slots.kept[place as usize - 1] = kept,
     }
-    let Ok(_) = slots.insert(number, kept) else {
-        unreachable!()
-    };
 }
