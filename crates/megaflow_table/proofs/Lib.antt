@@ -1,3 +1,4 @@
+pub mod Crossing
 pub mod EntryLaws
 pub mod FindLaws
 pub mod HitLaws

@@ -1,16 +1,16 @@
 -- The masks in their order: which they are, and the hits of each after a change.
-use Rattle.std.proofs.Common.{◌≡◌, ℕ, ◌&&◌, Bool, true, false, cond, List, [], ◌∷◌, length, Option, Some, None, refl, sym, ap, subst, ◌∙◌, inl, inr}
+use Rattle.std.proofs.Common.{◌≡◌, ℕ, ◌&&◌, Bool, true, false, cond, List, [], ◌∷◌, Option, Some, None, refl, sym, ap, subst, ◌∙◌, inl, inr}
 use Rattle.std.specs.Prelude.{is_some, IsSome}
 use Rattle.std.specs.Option.{option_map, option_and_then, unwrap_or}
 use Rattle.std.specs.HashMap.{WritesThrough}
 use Rattle.std.specs.Map.{lookup, values_of}
 use Rattle.std.proofs.lemmas.Bool.{cases_Bool, and_from, cond-true, cond-false, false≢true}
 use Rattle.std.proofs.lemmas.Option.{none-some}
+use Rattle.masked_map.specs.Maps.{entries_of}
 use Rattle.spec_keys.specs.Keys.{same}
 use Rattle.ovs_fields.specs.Equality.{equal_from_same, same_from_equal}
-use Rattle.ovs_fields.specs.declared.key.Key.{Key}
 use Rattle.ovs_fields.specs.declared.mask.Mask.{Mask}
-use Rattle.ovs_fields.specs.Packed.{numbers, bits}
+use Rattle.ovs_fields.specs.Packed.{bits}
 use Rattle.megaflow_table.specs.declared.entry.Entry.{Entry}
 use Rattle.megaflow_table.specs.declared.megaflows.Megaflows.TheInside.{Inside}
 use Rattle.megaflow_table.specs.Entries.{has_mask}
@@ -118,17 +118,17 @@ removed_used old new mask key changes room used here m some =
     ]
 
 -- where a subtable that is not empty stands
-pub in_use : (subtables : Subtables) (mask : List ℕ) (subtable : Subtable) (e : Key × ℕ) (es : List (Key × ℕ)) → subtable_of subtables mask ≡ Some subtable → subtable.numbers.entries ≡ e ∷ es → HasNumberUnder subtables mask
+pub in_use : (subtables : Subtables) (mask : List ℕ) (subtable : Subtable) (e : List ℕ × ℕ) (es : List (List ℕ × ℕ)) → subtable_of subtables mask ≡ Some subtable → entries_of subtable.numbers ≡ e ∷ es → HasNumberUnder subtables mask
 in_use subtables mask subtable e es at entries some = (
-  numbers e.0,
+  e.0,
   e.1,
-  ap (option_and_then (λ (s : Subtable). number_in s (numbers e.0))) at
-      ∙ ap (λ (fs : List (Key × ℕ)). lookup (λ (k : Key). same (numbers e.0) (numbers k)) fs) entries
-      ∙ cond-true (same (numbers e.0) (numbers e.0)) (Some e.1) (lookup (λ (k : Key). same (numbers e.0) (numbers k)) es) (same_from_equal (numbers e.0) (numbers e.0) refl),
+  ap (option_and_then (λ (s : Subtable). number_in s e.0)) at
+      ∙ ap (λ (fs : List (List ℕ × ℕ)). lookup (same e.0) fs) entries
+      ∙ cond-true (same e.0 e.0) (Some e.1) (lookup (same e.0) es) (same_from_equal e.0 e.0 refl),
 )
 
 -- a list that is not empty has a first
-pub first_of : (es : List (Key × ℕ)) (empty : Bool) → (length es ≡ 0 → empty ≡ true) → empty ≡ false → (e : Key × ℕ) × (rest : List (Key × ℕ)) × (es ≡ e ∷ rest)
+pub first_of : (es : List (List ℕ × ℕ)) (empty : Bool) → (es ≡ [] → empty ≡ true) → empty ≡ false → (e : List ℕ × ℕ) × (rest : List (List ℕ × ℕ)) × (es ≡ e ∷ rest)
 first_of [] empty says not_empty = absurd (false≢true (sym not_empty ∙ says refl))
 first_of (e ∷ es) empty says not_empty = (e, es, refl)
 

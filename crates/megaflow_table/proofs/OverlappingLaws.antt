@@ -12,9 +12,9 @@ use Rattle.std.proofs.lemmas.Map.Entries.{place_from_lookup, lookup_from_place}
 use Rattle.std.proofs.lemmas.Map.Keys.{IsDistinct-head, IsDistinct-tail}
 use Rattle.std.proofs.lemmas.Nat.{and_or_self}
 use Rattle.std.proofs.lemmas.Option.{none-some, same_Some, option_and_then_some}
+use Rattle.masked_map.specs.Maps.{agreeing, entries_of, HasDistinctKeys}
 use Rattle.spec_keys.specs.Keys.{agree, masked, joined, same, covers, common_bits}
 use Rattle.ovs_fields.specs.Equality.{equal_from_same, same_from_equal, same_equivalence}
-use Rattle.ovs_fields.specs.declared.key.Key.{Key}
 use Rattle.ovs_fields.specs.declared.mask.Mask.{Mask}
 use Rattle.ovs_fields.specs.Packed.{numbers, bits}
 use Rattle.megaflow_table.specs.declared.entry.Entry.{Entry}
@@ -22,7 +22,7 @@ use Rattle.megaflow_table.specs.Entries.{overlaps}
 use Rattle.megaflow_table.specs.Live.{IsIn}
 use Rattle.megaflow_table.specs.Parts.{IsConsistent, masked_key}
 use Rattle.megaflow_table.specs.Subtables.{Subtable, Subtables, number_in, subtable_of, number_under}
-use Rattle.megaflow_table.specs.Overlaps.{agreeing, overlapping_in, HasDistinctKeys, HasDistinctMasks, IsScanned, AreScanned}
+use Rattle.megaflow_table.specs.Overlaps.{overlapping_in, HasDistinctMasks, IsScanned, AreScanned}
 use Rattle.megaflow_table.proofs.OverlapLaws.{masked_common}
 use Rattle.megaflow_table.proofs.RisingLaws.{AreDistinct, in_appended, in_first, in_second, distinct_appended, sorted_filter}
 
@@ -66,45 +66,45 @@ overlap_covered key mask e covered =
 
 -- ---- numbers at keys that pass a test
 
-module _ (q : Key → Bool) where
-  abbrev passing : List (Key × ℕ) → List ℕ
-  passing es = values_of (filter (λ (e : Key × ℕ). q e.0) es)
+module _ (q : List ℕ → Bool) where
+  abbrev passing : List (List ℕ × ℕ) → List ℕ
+  passing es = values_of (filter (λ (e : List ℕ × ℕ). q e.0) es)
 
-  passing_place : (n : ℕ) (es : List (Key × ℕ)) → IsIn n (passing es) → (j : ℕ) × (k : Key) × (slice_get es j ≡ Some (k, n)) × (q k ≡ true)
+  passing_place : (n : ℕ) (es : List (List ℕ × ℕ)) → IsIn n (passing es) → (j : ℕ) × (k : List ℕ) × (slice_get es j ≡ Some (k, n)) × (q k ≡ true)
   passing_place n [] none = absurd none
   passing_place n (p ∷ es) is_in = at (q p.0) refl (passing_place n es) is_in
     where
-      at : (b : Bool) → q p.0 ≡ b → (IsIn n (passing es) → (j : ℕ) × (k : Key) × (slice_get es j ≡ Some (k, n)) × (q k ≡ true))
-          → IsIn n (values_of (cond b (p ∷ filter (λ (e : Key × ℕ). q e.0) es) (filter (λ (e : Key × ℕ). q e.0) es)))
-          → (j : ℕ) × (k : Key) × (slice_get (p ∷ es) j ≡ Some (k, n)) × (q k ≡ true)
+      at : (b : Bool) → q p.0 ≡ b → (IsIn n (passing es) → (j : ℕ) × (k : List ℕ) × (slice_get es j ≡ Some (k, n)) × (q k ≡ true))
+          → IsIn n (values_of (cond b (p ∷ filter (λ (e : List ℕ × ℕ). q e.0) es) (filter (λ (e : List ℕ × ℕ). q e.0) es)))
+          → (j : ℕ) × (k : List ℕ) × (slice_get (p ∷ es) j ≡ Some (k, n)) × (q k ≡ true)
       at true passes tail (inl equal) = (0, p.0, ap (λ (m : ℕ). Some (p.0, m)) (sym equal), passes)
       at true passes tail (inr later) = let place = tail later in (suc place.0, place.1, place.2, place.3)
       at false fails tail later = let place = tail later in (suc place.0, place.1, place.2, place.3)
 
-  passing_at : (n : ℕ) (es : List (Key × ℕ)) (j : ℕ) (k : Key) → slice_get es j ≡ Some (k, n) → q k ≡ true → IsIn n (passing es)
+  passing_at : (n : ℕ) (es : List (List ℕ × ℕ)) (j : ℕ) (k : List ℕ) → slice_get es j ≡ Some (k, n) → q k ≡ true → IsIn n (passing es)
   passing_at n [] j k there passes = absurd (none-some (k, n) there)
-  passing_at n (p ∷ es) zero k there passes = at (q p.0) (ap (λ (e : Key × ℕ). q e.0) (same_Some p (k, n) there) ∙ passes) (ap (λ (e : Key × ℕ). e.1) (sym (same_Some p (k, n) there)))
+  passing_at n (p ∷ es) zero k there passes = at (q p.0) (ap (λ (e : List ℕ × ℕ). q e.0) (same_Some p (k, n) there) ∙ passes) (ap (λ (e : List ℕ × ℕ). e.1) (sym (same_Some p (k, n) there)))
     where
-      at : (b : Bool) → b ≡ true → n ≡ p.1 → IsIn n (values_of (cond b (p ∷ filter (λ (e : Key × ℕ). q e.0) es) (filter (λ (e : Key × ℕ). q e.0) es)))
+      at : (b : Bool) → b ≡ true → n ≡ p.1 → IsIn n (values_of (cond b (p ∷ filter (λ (e : List ℕ × ℕ). q e.0) es) (filter (λ (e : List ℕ × ℕ). q e.0) es)))
       at true passes equal = inl equal
       at false fails equal = absurd (false≢true fails)
   passing_at n (p ∷ es) (suc j) k there passes = at (q p.0) (passing_at n es j k there passes)
     where
-      at : (b : Bool) → IsIn n (passing es) → IsIn n (values_of (cond b (p ∷ filter (λ (e : Key × ℕ). q e.0) es) (filter (λ (e : Key × ℕ). q e.0) es)))
+      at : (b : Bool) → IsIn n (passing es) → IsIn n (values_of (cond b (p ∷ filter (λ (e : List ℕ × ℕ). q e.0) es) (filter (λ (e : List ℕ × ℕ). q e.0) es)))
       at true later = inr later
       at false later = later
 
 -- a key that no key here is the same as
-other_keys : (key : Key) (es : List (Key × ℕ)) → AllByRecursion (λ (k : Key). same (numbers key) (numbers k) ≡ false) (keys_of es) → (j : ℕ) (k : Key) (n : ℕ) → slice_get es j ≡ Some (k, n)
-    → numbers key ≡ numbers k → ⊥
+other_keys : (key : List ℕ) (es : List (List ℕ × ℕ)) → AllByRecursion (λ (k : List ℕ). same key k ≡ false) (keys_of es) → (j : ℕ) (k : List ℕ) (n : ℕ) → slice_get es j ≡ Some (k, n)
+    → key ≡ k → ⊥
 other_keys key [] others j k n at equal = none-some (k, n) at
 other_keys key (p ∷ es) others zero k n at equal =
-    false≢true (sym others.0 ∙ same_from_equal (numbers key) (numbers p.0) (equal ∙ ap (λ (q : Key × ℕ). numbers q.0) (sym (same_Some p (k, n) at))))
+    false≢true (sym others.0 ∙ same_from_equal key p.0 (equal ∙ ap (λ (q : List ℕ × ℕ). q.0) (sym (same_Some p (k, n) at))))
 other_keys key (p ∷ es) others (suc j) k n at equal = other_keys key es others.1 j k n at equal
 
 -- entries with distinct masked keys have distinct numbers
-distinct_passing : (look : ℕ → Option Entry) (q : Key → Bool) (es : List (Key × ℕ)) → IsDistinct (λ (a b : Key). same (numbers a) (numbers b)) (keys_of es)
-    → ((j : ℕ) (k : Key) (n : ℕ) → slice_get es j ≡ Some (k, n) → (e : Entry) × (look n ≡ Some e) × (numbers k ≡ masked_key e)) → AreDistinct (passing q es)
+distinct_passing : (look : ℕ → Option Entry) (q : List ℕ → Bool) (es : List (List ℕ × ℕ)) → IsDistinct same (keys_of es)
+    → ((j : ℕ) (k : List ℕ) (n : ℕ) → slice_get es j ≡ Some (k, n) → (e : Entry) × (look n ≡ Some e) × (k ≡ masked_key e)) → AreDistinct (passing q es)
 distinct_passing look q [] keys held = tt
 distinct_passing look q (p ∷ es) keys held =
     at (q p.0)
@@ -112,11 +112,11 @@ distinct_passing look q (p ∷ es) keys held =
     let place = passing_place q p.1 es is_in in
     let first = held 0 p.0 p.1 refl in
     let second = held (suc place.0) place.1 p.1 place.2 in
-    other_keys p.0 es (IsDistinct-head (λ (a b : Key). same (numbers a) (numbers b)) p.0 (keys_of es) keys) place.0 place.1 p.1 place.2
+    other_keys p.0 es (IsDistinct-head same p.0 (keys_of es) keys) place.0 place.1 p.1 place.2
     (first.2 ∙ ap masked_key (same_Some first.0 second.0 (sym first.1 ∙ second.1)) ∙ sym second.2))
-    (distinct_passing look q es (IsDistinct-tail (λ (a b : Key). same (numbers a) (numbers b)) p.0 (keys_of es) keys) (λ j k n there. held (suc j) k n there))
+    (distinct_passing look q es (IsDistinct-tail same p.0 (keys_of es) keys) (λ j k n there. held (suc j) k n there))
   where
-    at : (b : Bool) → (IsIn p.1 (passing q es) → ⊥) → AreDistinct (passing q es) → AreDistinct (values_of (cond b (p ∷ filter (λ (e : Key × ℕ). q e.0) es) (filter (λ (e : Key × ℕ). q e.0) es)))
+    at : (b : Bool) → (IsIn p.1 (passing q es) → ⊥) → AreDistinct (passing q es) → AreDistinct (values_of (cond b (p ∷ filter (λ (e : List ℕ × ℕ). q e.0) es) (filter (λ (e : List ℕ × ℕ). q e.0) es)))
     at true other tail = (other, tail)
     at false other tail = tail
 
@@ -203,36 +203,36 @@ module _ (look : ℕ → Option Entry) (key mask : List ℕ) where
             )
 
     -- what stands at a place is an entry's
-    held : HasDistinctKeys t.1 → (j : ℕ) (k : Key) (n : ℕ) → slice_get t.1.numbers.entries j ≡ Some (k, n) → (e : Entry) × (look n ≡ Some e) × (bits e.mask ≡ bits t.0) × (numbers k ≡ masked_key e)
-    held keys j k n at = filled.named (numbers k) n (lookup_from_place (same_equivalence (λ (k : Key). numbers k)) t.1.numbers.entries j k n keys at)
+    held : HasDistinctKeys t.1.numbers → (j : ℕ) (k : List ℕ) (n : ℕ) → slice_get (entries_of t.1.numbers) j ≡ Some (k, n) → (e : Entry) × (look n ≡ Some e) × (bits e.mask ≡ bits t.0) × (k ≡ masked_key e)
+    held keys j k n at = filled.named k n (lookup_from_place (same_equivalence (λ (k : List ℕ). k)) (entries_of t.1.numbers) j k n keys at)
 
     -- the test by the masked key of an entry is that by the entry
-    tested : (k : Key) (e : Entry) → bits e.mask ≡ bits t.0 → numbers k ≡ masked_key e → agree key (numbers k) (common_bits mask (bits t.0)) ≡ overlaps key mask e
+    tested : (k : List ℕ) (e : Entry) → bits e.mask ≡ bits t.0 → k ≡ masked_key e → agree key k (common_bits mask (bits t.0)) ≡ overlaps key mask e
     tested k e of is =
         ap₂ (λ (a m : List ℕ). agree key a (common_bits mask m)) is (sym of)
         ∙ ap (same (masked key (common_bits mask (bits e.mask)))) (masked_common (numbers e.key) mask (bits e.mask))
 
-    scanned : HasDistinctKeys t.1 → AreOf (λ m. m ≡ bits t.0) (agreeing key (common_bits mask (bits t.0)) t.1.numbers.entries)
+    scanned : HasDistinctKeys t.1.numbers → AreOf (λ m. m ≡ bits t.0) (agreeing key (common_bits mask (bits t.0)) (entries_of t.1.numbers))
     scanned keys = record {
       sound = λ n is_in.
-          let place = passing_place passes n t.1.numbers.entries is_in in
+          let place = passing_place passes n (entries_of t.1.numbers) is_in in
           let there = held keys place.0 place.1 n place.2 in
           (there.0, there.1, there.2, sym (tested place.1 there.0 there.2 there.3) ∙ place.3);
       whole = λ n e is of holds.
-          let place = place_from_lookup (λ (k : Key). same (masked_key e) (numbers k)) t.1.numbers.entries n (filled.indexed n e is of) in
-          passing_at passes n t.1.numbers.entries place.0 place.1 place.2 (tested place.1 e of (sym (equal_from_same (masked_key e) (numbers place.1) place.3)) ∙ holds);
-      distinct = distinct_passing look passes t.1.numbers.entries keys (λ j k n at. let there = held keys j k n at in (there.0, there.1, there.3));
+          let place = place_from_lookup (same (masked_key e)) (entries_of t.1.numbers) n (filled.indexed n e is of) in
+          passing_at passes n (entries_of t.1.numbers) place.0 place.1 place.2 (tested place.1 e of (sym (equal_from_same (masked_key e) place.1 place.3)) ∙ holds);
+      distinct = distinct_passing look passes (entries_of t.1.numbers) keys (λ j k n at. let there = held keys j k n at in (there.0, there.1, there.3));
     }
       where
-        passes : Key → Bool
-        passes k = agree key (numbers k) (common_bits mask (bits t.0))
+        passes : List ℕ → Bool
+        passes k = agree key k (common_bits mask (bits t.0))
 
     -- so either way
     one_of : IsScanned mask t → AreOf (λ m. m ≡ bits t.0) (overlapping_in key mask t)
     one_of is_scanned = at (covers mask (bits t.0)) refl
       where
         at : (b : Bool) → covers mask (bits t.0) ≡ b
-            → AreOf (λ m. m ≡ bits t.0) (cond b (option_to_list (number_in t.1 (masked key (bits t.0)))) (agreeing key (common_bits mask (bits t.0)) t.1.numbers.entries))
+            → AreOf (λ m. m ≡ bits t.0) (cond b (option_to_list (number_in t.1 (masked key (bits t.0)))) (agreeing key (common_bits mask (bits t.0)) (entries_of t.1.numbers)))
         at true covered = probed covered (number_in t.1 (masked key (bits t.0))) refl
         at false other = scanned (is_scanned other)
 

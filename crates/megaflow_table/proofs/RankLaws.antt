@@ -56,6 +56,12 @@ ranks-set_value test (t ∷ es) v w at same_hits = by (test t.0) at (ranks-set_v
     by true here rest = λ i. (bits t.0, (same_hits ∙ ap (λ (s : Subtable). s.hits) (sym (same_Some t.1 v here))) i) ∷ ranks es
     by false later rest = ap (λ (r : List (List ℕ × ℕ)). (bits t.0, t.1.hits) ∷ r) (rest later same_hits)
 
+-- the same at a place
+pub ranks-set_value_at : (es : List (Mask × Subtable)) (i : ℕ) (t : Mask × Subtable) (w : Subtable) → slice_get es i ≡ Some t → w.hits ≡ t.1.hits → ranks (set_value_at es i w) ≡ ranks es
+ranks-set_value_at [] i t w at same_hits = refl
+ranks-set_value_at (u ∷ es) zero t w at same_hits = λ i. (bits u.0, (same_hits ∙ ap (λ (v : Mask × Subtable). v.1.hits) (sym (same_Some u t at))) i) ∷ ranks es
+ranks-set_value_at (u ∷ es) (suc i) t w at same_hits = ap (λ (r : List (List ℕ × ℕ)). (bits u.0, u.1.hits) ∷ r) (ranks-set_value_at es i t w at same_hits)
+
 -- what is found by keys is found by lists
 pub reordered_at : (es fs : List (Mask × Subtable)) → ((q : Mask) → lookup (λ (k : Mask). same (bits q) (bits k)) fs ≡ lookup (λ (k : Mask). same (bits q) (bits k)) es)
     → (m : List ℕ) → lookup (λ (k : Mask). same m (bits k)) fs ≡ lookup (λ (k : Mask). same m (bits k)) es

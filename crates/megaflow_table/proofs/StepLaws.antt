@@ -1,6 +1,6 @@
 -- What each call that changes the table leaves.
 use Rattle.std.proofs.Common.{◌≡◌, ℕ, ◌<◌, ◌≤◌, cond, ◌==◌, List, [], ◌∷◌, ◌++◌, false, nat_eq, Option, Some, None, refl, sym, ap, subst, ◌∙◌, arith}
-use Rattle.std.specs.Prelude.{is_some, All, IsSome, filter, not, vec_len, vec_capacity}
+use Rattle.std.specs.Prelude.{All, filter, not, vec_len, vec_capacity}
 use Rattle.std.specs.Option.{option_map}
 use Rattle.std.specs.Map.{lookup}
 use Rattle.std.proofs.lemmas.Option.{none-some, same_Some}
@@ -8,12 +8,15 @@ use Rattle.indexmap.specs.IndexMap.{spare}
 use Rattle.ovs_fields.specs.declared.mask.Mask.{Mask}
 use Rattle.ovs_fields.specs.Packed.{numbers, bits}
 use Rattle.megaflow_table.specs.declared.entry.Entry.{Entry}
+use Rattle.megaflow_table.specs.declared.megaflows.Placed.{Placed}
 use Rattle.megaflow_table.specs.declared.megaflows.Megaflows.TheInside.{Inside}
 use Rattle.megaflow_table.specs.Entries.{Flows, overlaps, without}
 use Rattle.megaflow_table.specs.Order.{AddsMask}
-use Rattle.megaflow_table.specs.Subtables.{Subtables, HasRoomUnder, HasNumbers, IsFresh, IsRanked, KeepsRoom, KeepsNumbers, ChangesOnly, subtable_of, number_under, order_of}
+use Rattle.megaflow_table.specs.Subtables.{Subtables, HasRoomUnder, HasNumbers, AreUnderMasks, IsFresh, IsFreshUnder, IsRanked, KeepsRoom, KeepsNumbers, ChangesOnly, subtable_of, number_under, order_of}
 use Rattle.megaflow_table.specs.Live.{IsIn}
 use Rattle.megaflow_table.specs.Parts.{IsConsistent, IsTable, masked_key, entries_by, look_in, flows_in}
+use Rattle.megaflow_table.specs.declared.subtables.Fresh.{Fresh}
+use Rattle.megaflow_table.proofs.SubtableLaws.{kept_masked}
 use Rattle.megaflow_table.proofs.EntryLaws.{all_by}
 use Rattle.megaflow_table.proofs.OrderLaws.{kept_used, added_used, same_ranked}
 use Rattle.megaflow_table.proofs.SoundLaws.{removed_sound, removed_entries, added_sound, added_entries}
@@ -35,32 +38,32 @@ pub record IsGrown (a b : Inside) : Type 0 where
   pub entries_room : spare a.entries ≤ spare b.entries
   pub subtables : KeepsNumbers a.subtables b.subtables
   pub order : order_of b.subtables ≡ order_of a.subtables
-  pub has_fresh : IsSome a.fresh → IsSome b.fresh
   pub fresh : IsFresh b.fresh
 
 module _ (a b : Inside) (table : IsTable a) (grown : IsGrown a b) where
   grown_sound : IsConsistent b.live.items (look_in b) (number_under b.subtables)
   grown_sound =
       moved_sound a.live.items b.live.items (look_in a) (look_in b) (number_under a.subtables) (number_under b.subtables) grown.items
-      (λ n. ap (λ (es : List (ℕ × Entry)). lookup (nat_eq n) es) grown.entries) grown.subtables.numbers table.consistent
+      (λ n. ap (λ (es : List (ℕ × Placed)). option_map (λ (p : Placed). p.entry) (lookup (nat_eq n) es)) grown.entries) grown.subtables.numbers table.consistent
 
-  pub grown_table : b.room ≡ a.room → IsTable b
-  grown_table same_room = record {
+  pub grown_table : b.room ≡ a.room → b.fresh ≡ a.fresh → IsTable b
+  grown_table same_room same_fresh = record {
     consistent = grown_sound;
     room = λ mask is. let before = table.room mask (ap (option_map (λ m. bits m)) (sym same_room) ∙ is) in record {
       entries = omega (arith, before.entries, grown.entries_room);
       live = omega (arith, before.live, grown.len, grown.capacity);
       subtables = omega (arith, before.subtables, grown.subtables.room.subtables);
       subtable = λ subtable at. let was = grown.subtables.room.within mask subtable at in let roomy = before.subtable was.0 was.1 in omega (arith, roomy, was.2);
-      fresh = grown.has_fresh before.fresh;
+      fresh = ap (option_map (λ (f : Fresh). bits f.mask)) same_fresh ∙ before.fresh;
     };
     fresh = grown.fresh;
+    masked = kept_masked a.subtables b.subtables grown.subtables.room table.masked;
     used = kept_used a.subtables b.subtables grown.subtables table.used;
     ranked = same_ranked a.subtables b.subtables grown.order table.ranked;
   }
 
   pub ready_table : (mask : Mask) → b.room ≡ Some mask → 0 < spare b.entries → vec_len b.live < vec_capacity b.live → 0 < spare b.subtables
-      → HasRoomUnder b.subtables (bits mask) → IsSome b.fresh → IsTable b
+      → HasRoomUnder b.subtables (bits mask) → IsFreshUnder b.fresh (bits mask) → IsTable b
   ready_table mask room entries live subtables subtable fresh = record {
     consistent = grown_sound;
     room = λ other is. record {
@@ -68,9 +71,10 @@ module _ (a b : Inside) (table : IsTable a) (grown : IsGrown a b) where
       live = live;
       subtables = subtables;
       subtable = λ i at. subtable i (ap (subtable_of b.subtables) (same_Some (bits mask) other (ap (option_map (λ m. bits m)) (sym room) ∙ is)) ∙ at);
-      fresh = fresh;
+      fresh = fresh ∙ sym (ap (option_map (λ m. bits m)) room) ∙ is;
     };
     fresh = grown.fresh;
+    masked = kept_masked a.subtables b.subtables grown.subtables.room table.masked;
     used = kept_used a.subtables b.subtables grown.subtables table.used;
     ranked = same_ranked a.subtables b.subtables grown.order table.ranked;
   }
@@ -89,6 +93,7 @@ counted_table a subtables table keeps ranked = record {
     fresh = before.fresh;
   };
   fresh = table.fresh;
+  masked = kept_masked a.subtables subtables keeps.room table.masked;
   used = kept_used a.subtables subtables keeps table.used;
   ranked = ranked;
 }
@@ -120,9 +125,10 @@ module _ (a b : Inside) (number : ℕ) (e : Entry) (table : IsTable a) (less : I
       live = omega (arith, before.live, less.len, less.capacity);
       subtables = omega (arith, before.subtables, less.subtables_room.subtables);
       subtable = λ subtable at. let was = less.subtables_room.within mask subtable at in let roomy = before.subtable was.0 was.1 in omega (arith, roomy, was.2);
-      fresh = ap is_some less.fresh ∙ before.fresh;
+      fresh = ap (option_map (λ (f : Fresh). bits f.mask)) less.fresh ∙ before.fresh;
     };
-    fresh = λ subtable is. table.fresh subtable (sym less.fresh ∙ is);
+    fresh = λ f is. table.fresh f (sym less.fresh ∙ is);
+    masked = kept_masked a.subtables b.subtables less.subtables_room table.masked;
     used = less.used;
     ranked = less.ranked;
   }
@@ -143,6 +149,7 @@ pub record IsMore (a b : Inside) (e : Entry) : Type 0 where
   pub changes : ChangesOnly a.subtables b.subtables (bits e.mask) (masked_key e) (Some e.number)
   pub fresh : IsFresh b.fresh
   pub order : AddsMask (bits e.mask) (order_of a.subtables) (order_of b.subtables)
+  pub masked : AreUnderMasks b.subtables
   pub ranked : IsRanked b.subtables
   pub room : b.room ≡ None
   pub limit : b.limit ≡ a.limit
@@ -155,6 +162,7 @@ module _ (a b : Inside) (e : Entry) (table : IsTable a) (more : IsMore a b e) (a
         (added_sound a.live.items (look_in a) (number_under a.subtables) table.consistent e above free (look_in b) more.entries (number_under b.subtables) more.changes);
     room = λ mask is. absurd (none-some mask (ap (option_map (λ m. bits m)) (sym more.room) ∙ is));
     fresh = more.fresh;
+    masked = more.masked;
     used = added_used a.subtables b.subtables (bits e.mask) (masked_key e) e.number more.changes more.order table.used;
     ranked = more.ranked;
   }

@@ -2,15 +2,16 @@
 -- a hash table for each mask).
 use Rattle.std.specs.Prelude.{◌≡◌, ℕ, ◌<◌, ◌≤◌, ◌&&◌, if◌then◌else◌, List, [], map, Option, Some, IsSome}
 use Rattle.std.specs.Map.{values_of}
-use Rattle.std.specs.Option.{option_and_then}
+use Rattle.std.specs.Option.{option_and_then, option_map}
 use Rattle.std.specs.declared.hash.FoldHasher.{FoldHasher}
 use Rattle.std.specs.declared.hash.BuildHasherDefault.{BuildHasherDefault}
 use Rattle.indexmap.specs.IndexMap.{IndexMap, get_by, spare}
+use Rattle.masked_map.specs.Maps.{mask_of, entries_of, room_of, value_at}
 use Rattle.spec_keys.specs.Keys.{same}
-use Rattle.ovs_fields.specs.declared.key.Key.{Key}
 use Rattle.ovs_fields.specs.declared.mask.Mask.{Mask}
-use Rattle.ovs_fields.specs.Packed.{numbers, bits}
+use Rattle.ovs_fields.specs.Packed.{bits}
 pub use Rattle.megaflow_table.specs.declared.subtables.Subtable.{Subtable}
+use Rattle.megaflow_table.specs.declared.subtables.Fresh.{Fresh}
 use Rattle.megaflow_table.specs.Order.{Order, AreFalling}
 
 abbrev pub Subtables : Type 0
@@ -18,7 +19,7 @@ Subtables = IndexMap Mask Subtable (BuildHasherDefault FoldHasher)
 
 -- the number that a subtable has for a masked key
 abbrev pub number_in : Subtable → List ℕ → Option ℕ
-number_in subtable key = get_by (λ (k : Key). same key (numbers k)) subtable.numbers
+number_in subtable key = value_at subtable.numbers key
 
 -- the subtable of a mask
 abbrev pub subtable_of : Subtables → List ℕ → Option Subtable
@@ -39,6 +40,10 @@ order_of subtables = ranks subtables.entries
 abbrev pub IsRanked : Subtables → Type 0
 IsRanked subtables = AreFalling (values_of (order_of subtables))
 
+-- the numbers of each subtable stand at keys under its mask
+abbrev pub AreUnderMasks : Subtables → Type 0
+AreUnderMasks subtables = (mask : List ℕ) (subtable : Subtable) → subtable_of subtables mask ≡ Some subtable → mask_of subtable.numbers ≡ mask
+
 -- there is a number under this mask, and one under the mask of each subtable
 abbrev pub HasNumberUnder : Subtables → List ℕ → Type 0
 HasNumberUnder subtables mask = IsSome (subtable_of subtables mask) → (key : List ℕ) × (n : ℕ) × (number_under subtables mask key ≡ Some n)
@@ -56,28 +61,35 @@ ChangesOnly old new mask key number =
 
 -- one more number fits into the subtable of a mask, if there is one
 abbrev pub HasRoomUnder : Subtables → List ℕ → Type 0
-HasRoomUnder subtables mask = (subtable : Subtable) → subtable_of subtables mask ≡ Some subtable → 0 < spare subtable.numbers
+HasRoomUnder subtables mask = (subtable : Subtable) → subtable_of subtables mask ≡ Some subtable → 0 < room_of subtable.numbers
 
--- As many more masks fit as before, and as many more numbers into each subtable that is still there.
+-- As many more masks fit as before, and each subtable that is still there has the mask that it had, and as many more
+-- numbers fit into it.
 pub record KeepsRoom (old new : Subtables) : Type 0 where
   pub subtables : spare old ≤ spare new
-  pub within : (m : List ℕ) (subtable : Subtable) → subtable_of new m ≡ Some subtable → (before : Subtable) × (subtable_of old m ≡ Some before) × (spare before.numbers ≤ spare subtable.numbers)
+  pub within : (m : List ℕ) (subtable : Subtable) → subtable_of new m ≡ Some subtable
+      → (before : Subtable) × (subtable_of old m ≡ Some before) × (room_of before.numbers ≤ room_of subtable.numbers) × (mask_of subtable.numbers ≡ mask_of before.numbers)
 
 -- The numbers stay as well.
 pub record KeepsNumbers (old new : Subtables) : Type 0 where
   pub room : KeepsRoom old new
   pub numbers : (m k : List ℕ) → number_under new m k ≡ number_under old m k
 
--- A subtable with no numbers and no hits, which has room for one number.
-pub record IsEmptyWithRoom (subtable : Subtable) : Type 0 where
-  pub numbers : subtable.numbers.entries ≡ []
-  pub room : 0 < spare subtable.numbers
+-- A subtable of a mask with no numbers and no hits, which has room for one number.
+pub record IsEmptyUnder (mask : List ℕ) (subtable : Subtable) : Type 0 where
+  pub under : mask_of subtable.numbers ≡ mask
+  pub numbers : entries_of subtable.numbers ≡ []
+  pub room : 0 < room_of subtable.numbers
   pub hits : subtable.hits ≡ 0
 
 -- the fresh subtable, if there is one, is such a one
-abbrev pub IsFresh : Option Subtable → Type 0
-IsFresh fresh = (subtable : Subtable) → fresh ≡ Some subtable → IsEmptyWithRoom subtable
+abbrev pub IsFresh : Option Fresh → Type 0
+IsFresh fresh = (f : Fresh) → fresh ≡ Some f → IsEmptyUnder (bits f.mask) f.subtable
+
+-- there is a fresh subtable for a mask
+abbrev pub IsFreshUnder : Option Fresh → List ℕ → Type 0
+IsFreshUnder fresh mask = option_map (λ (f : Fresh). bits f.mask) fresh ≡ Some mask
 
 -- the subtable of a mask is there and has no numbers
 abbrev pub IsEmptied : Subtables → List ℕ → Type 0
-IsEmptied subtables mask = (subtable : Subtable) × (subtable_of subtables mask ≡ Some subtable) × (subtable.numbers.entries ≡ [])
+IsEmptied subtables mask = (subtable : Subtable) × (subtable_of subtables mask ≡ Some subtable) × (entries_of subtable.numbers ≡ [])

@@ -34,11 +34,17 @@
 //!
 //! The entries of one mask stand in one *subtable*, which has the number of each at its key under that mask, hashed. A
 //! lookup masks the key by one mask after the other and probes its subtable: one hash and one probe for each mask,
-//! however many entries have it. A subtable goes with its last entry, so that no lookup probes an empty one.
+//! however many entries have it. A subtable goes with its last entry, so that no lookup probes an empty one. What it has
+//! by keys is a map of `masked_map`: under most masks that makes, hashes and compares 40 bytes of a key in place of its
+//! 160, and nothing is hashed where the subtable has one entry.
 //!
 //! The subtables stand by falling number of hits. A hit mostly only counts: a subtable has to move where the one before it
 //! has as many hits as it had. It then changes places with the first of those, which a binary search finds. A new mask
 //! comes last, and one that goes leaves the others in their order.
+//!
+//! With each entry stands the place where the subtable of its mask was seen last. So a hit compares that mask with the
+//! one of the entry, and hashes it only where another subtable stands there now. The place is a hint: nothing but the
+//! time of a hit depends on it.
 //!
 //! `overlaps` goes by subtables too. Where the new mask covers that of a subtable, at most one entry there overlaps, and
 //! a probe finds it. Else each entry of the subtable is tested. So a new mask that covers all others costs one probe for
@@ -48,7 +54,8 @@
 //! walk over the entries goes by. Whoever installs gives the greatest number so far, so it is appended. A removal finds
 //! its place by a binary search and moves the numbers behind it.
 //!
-//! `reserve` makes room in each of these, and an empty subtable for the case that the mask is new.
+//! `reserve` makes room in each of these, and an empty subtable of the mask, for the case that it is new or its last entry
+//! goes before the next one comes. A subtable that is left of an earlier call serves where it is of the same mask.
 //!
 //! # What is left to others
 //!

@@ -11,13 +11,20 @@ use crate::live::{first_above, remove_live};
 use crate::overlaps::overlapping;
 use crate::ranks::{count_hit, rank_at};
 use crate::subtables::{
-    Subtable, Subtables, insert_under, number_in, remove_under, reserve_fresh, reserve_under,
+    Fresh, Subtables, insert_under, number_in, remove_under, reserve_fresh, reserve_under,
 };
 use crate::visits::Visits;
 use indexmap::IndexMap;
-use ovs_fields::{Key, Mask, masked};
+use ovs_fields::{Key, Mask};
 use std::alloc::{AllocError, Global};
 use std::marker::Model;
+
+/// A live entry, and the place where the subtable of its mask was seen last.
+#[derive(Drop)]
+struct Placed {
+    entry: Entry,
+    place: usize,
+}
 
 /// The live megaflows of a port, no two of which overlap.
 #[derive(Drop)]
@@ -26,12 +33,12 @@ pub struct Megaflows {
     limit: u32,
     /// The numbers of the live entries, in rising order.
     live: Vec<u32>,
-    entries: IndexMap<u32, Entry>,
+    entries: IndexMap<u32, Placed>,
     subtables: Subtables,
     /// The mask for whose next entry there is room.
     room: Option<Mask>,
-    /// An empty subtable with room for one entry, which a new mask takes.
-    fresh: Option<Subtable>,
+    /// An empty subtable of that mask, which it takes if it is new.
+    fresh: Option<Fresh>,
 }
 
 impl Model for Megaflows {
@@ -92,7 +99,8 @@ impl Megaflows {
     pub fn get(&self, number: u32) -> Option<&Entry>
         ensures { option_copied result ≡ entry_of number self.now.entries }
     {
-        self.entries.get(&number)
+        let placed = self.entries.get(&number)?;
+        Some(&placed.entry)
     }
 
     /// The number of the entry that covers a key. It takes no memory, and one probe for each mask until it is found, those
@@ -102,10 +110,10 @@ impl Megaflows {
             ≡ option_map (λ e. e.number) (covering (numbers key.now) self.now.entries) }
     {
         'subtables: for i in 0..self.subtables.len() {
-            let Some((mask, subtable)) = self.subtables.get_index(i) else {
+            let Some((_, subtable)) = self.subtables.get_index(i) else {
                 unreachable!()
             };
-            let found = number_in(subtable, mask, key);
+            let found = number_in(subtable, key);
             if found.is_some() {
                 return found;
             }
@@ -154,11 +162,11 @@ impl Megaflows {
         ensures room { self.new.room ≡ self.old.room }
         ensures limit { self.new.limit ≡ self.old.limit }
     {
-        let Some(entry) = self.entries.get_mut(&number) else {
+        let Some(placed) = self.entries.get_mut(&number) else {
             unreachable!()
         };
-        entry.hit(length, time);
-        count_hit(&mut self.subtables, &entry.mask);
+        placed.entry.hit(length, time);
+        placed.place = count_hit(&mut self.subtables, &placed.entry.mask, placed.place);
     }
 
     /// Gives an entry the actions and visits of a version, and answers the visits that it had. Its counts stay. It takes
@@ -173,10 +181,10 @@ impl Megaflows {
         ensures room { self.new.room ≡ self.old.room }
         ensures limit { self.new.limit ≡ self.old.limit }
     {
-        let Some(entry) = self.entries.get_mut(&number) else {
+        let Some(placed) = self.entries.get_mut(&number) else {
             unreachable!()
         };
-        entry.change(version, actions, visits)
+        placed.entry.change(version, actions, visits)
     }
 
     /// Leaves an entry owing nothing. It takes no memory.
@@ -187,10 +195,10 @@ impl Megaflows {
         ensures room { self.new.room ≡ self.old.room }
         ensures limit { self.new.limit ≡ self.old.limit }
     {
-        let Some(entry) = self.entries.get_mut(&number) else {
+        let Some(placed) = self.entries.get_mut(&number) else {
             unreachable!()
         };
-        entry.pay();
+        placed.entry.pay();
     }
 
     /// Takes an entry out. It takes no memory.
@@ -201,14 +209,10 @@ impl Megaflows {
         ensures room { self.new.room ≡ self.old.room }
         ensures limit { self.new.limit ≡ self.old.limit }
     {
-        let Some(entry) = self.entries.swap_remove(&number) else {
+        let Some(Placed { entry, .. }) = self.entries.swap_remove(&number) else {
             unreachable!()
         };
-        remove_under(
-            &mut self.subtables,
-            &entry.mask,
-            &masked(&entry.key, &entry.mask),
-        );
+        remove_under(&mut self.subtables, &entry.mask, &entry.key);
         remove_live(&mut self.live, number);
     }
 
@@ -223,7 +227,7 @@ impl Megaflows {
         self.entries.reserve(1)?;
         self.subtables.reserve(1)?;
         reserve_under(&mut self.subtables, mask)?;
-        reserve_fresh(self.alloc, &mut self.fresh)?;
+        reserve_fresh(self.alloc, &mut self.fresh, mask)?;
         self.room = Some(*mask);
         Ok(())
     }
@@ -241,14 +245,14 @@ impl Megaflows {
     {
         self.room = None;
         let number = entry.number;
-        insert_under(
+        let place = insert_under(
             &mut self.subtables,
             &mut self.fresh,
             &entry.mask,
-            masked(&entry.key, &entry.mask),
+            &entry.key,
             number,
         );
-        let Ok(_) = self.entries.insert(number, entry) else {
+        let Ok(_) = self.entries.insert(number, Placed { entry, place }) else {
             unreachable!()
         };
         let Ok(_) = self.live.push(number) else {

@@ -3,10 +3,12 @@
 ghost use Rattle.std.specs.Prelude.{◌≡◌, ◌++◌, IfOk, OnOk};
 ghost use Rattle.std.specs.List.{flat_map};
 ghost use Rattle.ovs_fields.specs.Packed.{numbers, bits};
-ghost use Rattle.megaflow_table.specs.Overlaps.{agreeing, overlapping_in, HasDistinctKeys, HasDistinctMasks, IsScanned, AreScanned};
+ghost use Rattle.masked_map.specs.Maps.{mask_of};
+ghost use Rattle.megaflow_table.specs.Subtables.{AreUnderMasks};
+ghost use Rattle.megaflow_table.specs.Overlaps.{overlapping_in, HasDistinctMasks, IsScanned, AreScanned};
 
 use crate::subtables::{Subtable, Subtables, number_in};
-use ovs_fields::{Key, Mask, agree, and, covers};
+use ovs_fields::{Key, Mask, covers};
 use std::alloc::{AllocError, Global};
 
 /// The numbers of the entries that overlap one of this key and mask, subtable by subtable.
@@ -16,6 +18,7 @@ pub(crate) fn overlapping(
     key: &Key,
     mask: &Mask,
 ) -> Result<Vec<u32>, AllocError>
+    requires { AreUnderMasks subtables.now }
     ensures found { IfOk result
         (λ v. v.items
         ≡ flat_map (overlapping_in (numbers key.now) (bits mask.now)) subtables.now.entries) }
@@ -43,6 +46,7 @@ fn add_overlapping(
     key: &Key,
     mask: &Mask,
 ) -> Result<(), AllocError>
+    requires { mask_of subtable.now.numbers ≡ bits subtable_mask.now }
     ensures found { OnOk result
         (found.new.items
         ≡ found.old.items ++ overlapping_in (numbers key.now) (bits mask.now)
@@ -50,30 +54,10 @@ fn add_overlapping(
     ensures scanned { OnOk result (IsScanned (bits mask.now) (subtable_mask.now, subtable.now)) }
 {
     if !covers(mask, subtable_mask) {
-        return add_agreeing(found, subtable, key, &and(mask, subtable_mask));
+        return subtable.numbers.add_agreeing(found, key, mask);
     }
-    if let Some(number) = number_in(subtable, subtable_mask, key) {
+    if let Some(number) = number_in(subtable, key) {
         found.push(number)?;
-    }
-    Ok(())
-}
-
-/// Adds the numbers that a subtable has at keys that agree with this one on a mask.
-fn add_agreeing(
-    found: &mut Vec<u32>,
-    subtable: &Subtable,
-    key: &Key,
-    mask: &Mask,
-) -> Result<(), AllocError>
-    ensures found { OnOk result
-        (found.new.items
-        ≡ found.old.items ++ agreeing (numbers key.now) (bits mask.now) subtable.now.numbers.entries) }
-    ensures keys { HasDistinctKeys subtable.now }
-{
-    'entries: for (masked_key, number) in subtable.numbers.iter() {
-        if agree(key, masked_key, mask) {
-            found.push(*number)?;
-        }
     }
     Ok(())
 }

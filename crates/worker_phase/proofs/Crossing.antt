@@ -9,8 +9,7 @@ use Rattle.atomic_table.proofs.shared.Shared.TheSendSync as shared
 use Rattle.board_steps.specs.contracts.step.Step as step
 use Rattle.exact_cache.specs.contracts.cache.ExactCache as exact
 use Rattle.flow_stats.specs.contracts.totals.Totals as totals
-use Rattle.megaflow_table.specs.contracts.entry.Entry as entry
-use Rattle.megaflow_table.specs.contracts.megaflows.Megaflows as megaflows
+use Rattle.megaflow_table.proofs.Crossing.{megaflows_send}
 use Rattle.pmd_board.specs.contracts.board.Board as board
 use Rattle.port_caches.specs.contracts.caches.PortCaches as caches
 use Rattle.port_caches.specs.contracts.lists.HeldList as held
@@ -20,7 +19,7 @@ use Rattle.run_case.specs.declared.case.Case.{Ghosts}
 use Rattle.run_edits.specs.contracts.edits.RunEdits as run_edits
 use Rattle.spec_actions.specs.contracts.action.DpAction as dp_action
 use Rattle.spec_keys.specs.contracts.field_id.FieldId as field_id
-use Rattle.staged_lookup.proofs.Crossing.{key_send, mask_send}
+use Rattle.staged_lookup.proofs.Crossing.{key_send}
 use Rattle.tuple_classifier.proofs.Crossing.{actions_sync, matching_sync}
 use Rattle.upcall_queue.specs.contracts.pass.Pass as pass
 use Rattle.upcall_queue.specs.contracts.queue.UpcallQueue as queue
@@ -61,12 +60,6 @@ dp_action_send = search (sendable, crosses, field_id_send) depth 100 fits 20000
 
 step_send : IsSend (step.the_field).row
 step_send = search (sendable, crosses) depth 100 fits 20000
-
-entry_send : IsSend (entry.the_field).row
-entry_send = search (sendable, crosses, key_send, mask_send) depth 100 fits 20000
-
-megaflows_send : IsSend (megaflows.the_field).row
-megaflows_send = search (sendable, crosses, entry_send, key_send, mask_send) depth 100 fits 20000
 
 exact_send : IsSend (exact.the_field).row
 exact_send = search (sendable, crosses, key_send) depth 100 fits 20000

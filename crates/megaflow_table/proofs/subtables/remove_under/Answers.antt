@@ -1,6 +1,6 @@
 use Rattle.std.proofs.Common.{List, None, refl, sym, ap, subst, ◌∙◌}
 use Rattle.std.proofs.lemmas.Bool.{cond-true}
-use Rattle.spec_keys.specs.Keys.{same}
+use Rattle.spec_keys.specs.Keys.{same, masked}
 use Rattle.ovs_fields.specs.Equality.{same_from_equal}
 use Rattle.ovs_fields.specs.declared.mask.Mask.{Mask}
 use Rattle.ovs_fields.specs.Packed.{numbers, bits}
@@ -32,7 +32,7 @@ returns-then-remove_number-clause-hits c =
 pub returns-then-remove_number-clause-used : goal.returns-then-remove_number-clause-used
 returns-then-remove_number-clause-used c =
     let gone = updated_at {K = Mask} (λ (r : Mask). bits r) c.remove_number.new.subtables c.shift_remove.new.self (bits c.args.mask.now) None c.shift_remove.ensures.updates in
-    removed_used c.args.subtables.now c.shift_remove.new.self (bits c.args.mask.now) (numbers c.args.masked_key.now)
+    removed_used c.args.subtables.now c.shift_remove.new.self (bits c.args.mask.now) (masked (numbers c.args.key.now) (bits c.args.mask.now))
     (returns-then-remove_number-clause-changes c) (returns-then-remove_number-clause-room c) c.requires.were_used
     (none_in_use c.shift_remove.new.self (bits c.args.mask.now)
     (gone (bits c.args.mask.now)
@@ -49,7 +49,7 @@ returns-else-remove_number-clause-hits c m some = ap (hits_of m) c.remove_number
 
 pub returns-else-remove_number-clause-used : goal.returns-else-remove_number-clause-used
 returns-else-remove_number-clause-used c =
-    removed_used c.args.subtables.now c.remove_number.new.subtables (bits c.args.mask.now) (numbers c.args.masked_key.now) c.remove_number.ensures.changes c.remove_number.ensures.room c.requires.were_used
+    removed_used c.args.subtables.now c.remove_number.new.subtables (bits c.args.mask.now) (masked (numbers c.args.key.now) (bits c.args.mask.now)) c.remove_number.ensures.changes c.remove_number.ensures.room c.requires.were_used
     (c.remove_number.ensures.in_use c.if-remove_number.false)
 
 pub returns-else-remove_number-clause-ranked : goal.returns-else-remove_number-clause-ranked

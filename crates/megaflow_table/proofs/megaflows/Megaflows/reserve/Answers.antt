@@ -14,9 +14,8 @@ invariant_of-self c =
       entries_room = omega arith;
       subtables = same_subtables c.self.inside.subtables c.self.inside.subtables refl;
       order = refl;
-      has_fresh = λ some. some;
       fresh = c.self.invariant.fresh;
-    }) refl
+    }) refl refl
 
 pub invariant_of-self-in_err-reserve-2 : goal.invariant_of-self-in_err-reserve-2
 invariant_of-self-in_err-reserve-2 c =
@@ -28,9 +27,8 @@ invariant_of-self-in_err-reserve-2 c =
       entries_room = c.reserve-2.ensures.room.0;
       subtables = same_subtables c.self.inside.subtables c.self.inside.subtables refl;
       order = refl;
-      has_fresh = λ some. some;
       fresh = c.self.invariant.fresh;
-    }) refl
+    }) refl refl
 
 pub invariant_of-self-in_err-reserve-3 : goal.invariant_of-self-in_err-reserve-3
 invariant_of-self-in_err-reserve-3 c =
@@ -42,9 +40,8 @@ invariant_of-self-in_err-reserve-3 c =
       entries_room = c.reserve-2.ensures.room.0;
       subtables = kept_whole c.self.inside.subtables c.reserve-3.new.self c.reserve-3.ensures.entries c.reserve-3.ensures.room.0;
       order = ap ranks c.reserve-3.ensures.entries;
-      has_fresh = λ some. some;
       fresh = c.self.invariant.fresh;
-    }) refl
+    }) refl refl
 
 pub invariant_of-self-in_err-reserve_under : goal.invariant_of-self-in_err-reserve_under
 invariant_of-self-in_err-reserve_under c =
@@ -56,9 +53,8 @@ invariant_of-self-in_err-reserve_under c =
       entries_room = c.reserve-2.ensures.room.0;
       subtables = joined_subtables c.self.inside.subtables c.reserve-3.new.self c.reserve_under.new.subtables (kept_whole c.self.inside.subtables c.reserve-3.new.self c.reserve-3.ensures.entries c.reserve-3.ensures.room.0) c.reserve_under.ensures.keeps;
       order = c.reserve_under.ensures.order ∙ ap ranks c.reserve-3.ensures.entries;
-      has_fresh = λ some. some;
       fresh = c.self.invariant.fresh;
-    }) refl
+    }) refl refl
 
 pub invariant_of-self-in_err-reserve_fresh : goal.invariant_of-self-in_err-reserve_fresh
 invariant_of-self-in_err-reserve_fresh c =
@@ -70,9 +66,8 @@ invariant_of-self-in_err-reserve_fresh c =
       entries_room = c.reserve-2.ensures.room.0;
       subtables = joined_subtables c.self.inside.subtables c.reserve-3.new.self c.reserve_under.new.subtables (kept_whole c.self.inside.subtables c.reserve-3.new.self c.reserve-3.ensures.entries c.reserve-3.ensures.room.0) c.reserve_under.ensures.keeps;
       order = c.reserve_under.ensures.order ∙ ap ranks c.reserve-3.ensures.entries;
-      has_fresh = c.reserve_fresh.ensures.stays;
       fresh = c.reserve_fresh.ensures.fresh;
-    }) refl
+    }) refl c.in_err-reserve_fresh.ensures.err
 
 pub invariant_of-self-2 : goal.invariant_of-self-2
 invariant_of-self-2 c =
@@ -84,7 +79,6 @@ invariant_of-self-2 c =
       entries_room = c.reserve-2.ensures.room.0;
       subtables = joined_subtables c.self.inside.subtables c.reserve-3.new.self c.reserve_under.new.subtables (kept_whole c.self.inside.subtables c.reserve-3.new.self c.reserve-3.ensures.entries c.reserve-3.ensures.room.0) c.reserve_under.ensures.keeps;
       order = c.reserve_under.ensures.order ∙ ap ranks c.reserve-3.ensures.entries;
-      has_fresh = c.reserve_fresh.ensures.stays;
       fresh = c.reserve_fresh.ensures.fresh;
     }) c.args.mask.now refl
     (omega (arith, c.in_ok-reserve-2.ensures.ok)) (omega (arith, c.in_ok-reserve.ensures.ok)) (omega (arith, c.in_ok-reserve-3.ensures.ok, c.reserve_under.ensures.keeps.room.subtables))
