@@ -28,7 +28,7 @@ use Rattle.tuple_classifier.proofs.TablesLaws.{rules_of}
 pub have_no_rule : (version number : ℕ) (live : List LiveRule) (lists : List (List OfAction)) (ts : List Table) → AreTablesOf version live lists ts → number ≡ version + 1 → HaveNoRule number ts
 have_no_rule version number live lists ts is next table i t s at_t at =
     let rules = rules_of ts table t (rules_in table (plain_rules live)) at_t (is.classified table) in
-    (of_mask (bits s.staged.mask) (rules_in table (plain_rules live)), (rules.ranked.subtables.each i s at).staged, fresh)
+    (of_mask (bits s.staged.mask) (rules_in table (plain_rules live)), (rules.kept.subtables.each i s at).staged, fresh)
   where
     fresh : (r : Rule) → Among r (of_mask (bits s.staged.mask) (rules_in table (plain_rules live))) → r.number ≡ number → ⊥
     fresh r m e =

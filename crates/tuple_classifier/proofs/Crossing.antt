@@ -17,6 +17,7 @@ use Rattle.tuple_classifier.specs.contracts.sorted.SortedNumbers as sorted
 use Rattle.tuple_classifier.specs.contracts.indexes.Indexes as indexes
 use Rattle.tuple_classifier.specs.contracts.live.LiveRule as live_rule
 use Rattle.tuple_classifier.specs.contracts.subtable.Subtable as subtable
+use Rattle.tuple_classifier.specs.contracts.subtables.Subtables as subtables
 use Rattle.tuple_classifier.specs.contracts.table.Table as table
 use Rattle.tuple_classifier.specs.contracts.tables.Tables as tables
 
@@ -92,6 +93,12 @@ subtable_send = search (sendable, crosses, staged_send, indexes_send) depth 100 
 subtable_sync : IsSync (subtable.the_field).row
 subtable_sync = search (sendable, crosses, staged_sync, indexes_sync) depth 100 fits 20000
 
+subtables_send : IsSend (subtables.the_field).row
+subtables_send = search (sendable, crosses, mask_send, subtable_send) depth 100 fits 20000
+
+subtables_sync : IsSync (subtables.the_field).row
+subtables_sync = search (sendable, crosses, mask_sync, subtable_sync) depth 100 fits 20000
+
 prefixes_send : IsSend (prefixes.the_field).row
 prefixes_send = search (sendable, crosses, prefix_trie_send) depth 100 fits 20000
 
@@ -99,10 +106,10 @@ prefixes_sync : IsSync (prefixes.the_field).row
 prefixes_sync = search (sendable, crosses, prefix_trie_sync) depth 100 fits 20000
 
 table_send : IsSend (table.the_field).row
-table_send = search (sendable, crosses, prefixes_send, subtable_send) depth 100 fits 20000
+table_send = search (sendable, crosses, prefixes_send, subtables_send) depth 100 fits 20000
 
 table_sync : IsSync (table.the_field).row
-table_sync = search (sendable, crosses, prefixes_sync, subtable_sync) depth 100 fits 20000
+table_sync = search (sendable, crosses, prefixes_sync, subtables_sync) depth 100 fits 20000
 
 pub tables_send : IsSend (tables.the_field).row
 tables_send = search (sendable, crosses, table_send, live_rule_send, actions_send) depth 100 fits 20000

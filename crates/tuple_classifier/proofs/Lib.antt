@@ -6,6 +6,7 @@ pub mod Crossing
 pub mod EditLaws
 pub mod GivenLaws
 pub mod HoldLaws
+pub mod KeptLaws
 pub mod Lengths
 pub mod LiveLaws
 pub mod Mapped
@@ -16,6 +17,7 @@ pub mod OrderLaws
 pub mod PartLaws
 pub mod PassLaws
 pub mod PlaceLaws
+pub mod PlacedLaws
 pub mod Places
 pub mod PriorityLaws
 pub mod Seen

@@ -1,34 +1,10 @@
--- The places of masks among subtables.
-use Rattle.std.proofs.Common.{◌≡◌, ℕ, zero, suc, ◌+◌, ◌<◌, ◌≤◌, Bool, true, false, List, [], ◌∷◌, ◌++◌, append-nil, length, set, get_or, take, drop, slice_get, Some, inl, inr, ◌⊎◌, refl, sym, ap, ◌∙◌, subst, arith}
-use Rattle.std.specs.List.{remove}
+-- Elements of lists by their places, as one is replaced, put in or taken out.
+use Rattle.std.proofs.Common.{◌≡◌, ℕ, zero, suc, ◌+◌, ◌-◌, ◌<◌, ◌≤◌, Bool, true, false, List, [], ◌∷◌, ◌++◌, length, set, get_or, take, slice_get, Some, inl, inr, ◌⊎◌, refl, sym, ap, ◌∙◌, arith}
+use Rattle.std.specs.List.{insert, remove, swap_remove}
 use Rattle.std.proofs.lemmas.Bool.{cases_eq}
-use Rattle.std.proofs.lemmas.List.{drop_all, take_all}
 use Rattle.std.proofs.lemmas.Option.{slice_get-get_or, slice_get_within, same_Some}
 use Rattle.spec_keys.specs.Keys.{same}
 use Rattle.ovs_fields.specs.Equality.{equal_from_same, same_from_equal}
-use Rattle.ovs_fields.specs.Packed.{bits}
-use Rattle.tuple_classifier.specs.declared.subtable.Subtable.{Subtable}
-
-pub there : (ss : List Subtable) (i : ℕ) (x s : Subtable) → i < length ss → x ≡ get_or ss i x → slice_get ss i ≡ Some s → x ≡ s
-there ss i x s le is at = same_Some x s (ap Some is ∙ sym (slice_get-get_or ss i x le) ∙ at)
-
-pub has_mask : (ss : List Subtable) (mask : List ℕ) (i : ℕ) (x : Subtable) (hit t : Bool) → i < length ss → x ≡ get_or ss i x → hit ≡ same (bits x.staged.mask) mask → hit ≡ t
-    → (s : Subtable) → slice_get ss i ≡ Some s → same (bits s.staged.mask) mask ≡ t
-has_mask ss mask i x hit t le is test so s at = ap (λ (v : Subtable). same (bits v.staged.mask) mask) (sym (there ss i x s le is at)) ∙ sym test ∙ so
-
-pub not_yet : (ss : List Subtable) (mask : List ℕ) (i : ℕ) (x : Subtable) (hit : Bool) → i < length ss → x ≡ get_or ss i x → hit ≡ same (bits x.staged.mask) mask → hit ≡ false
-    → ((j : ℕ) (s : Subtable) → j < i → slice_get ss j ≡ Some s → same (bits s.staged.mask) mask ≡ false)
-    → (j : ℕ) (s : Subtable) → j < i + 1 → slice_get ss j ≡ Some s → same (bits s.staged.mask) mask ≡ false
-not_yet ss mask i x hit le is test so before j s below at =
-    elim (cases_eq j i) [
-      | inl e ↦ has_mask ss mask i x hit false le is test so s (subst (λ (k : ℕ). slice_get ss k ≡ Some s) e at)
-      | inr other ↦ before j s (omega arith) at
-    ]
-
-pub nowhere : (ss : List Subtable) (mask : List ℕ) (i : ℕ) → length ss ≤ i
-    → ((j : ℕ) (s : Subtable) → j < i → slice_get ss j ≡ Some s → same (bits s.staged.mask) mask ≡ false)
-    → (j : ℕ) (s : Subtable) → slice_get ss j ≡ Some s → same (bits s.staged.mask) mask ≡ false
-nowhere ss mask i all before j s at = let within = slice_get_within ss j s at in before j s (omega arith) at
 
 pub turned : (a b : List ℕ) (t : Bool) → same a b ≡ t → same b a ≡ t
 turned a b true h = same_from_equal b a (sym (equal_from_same a b h))
@@ -40,7 +16,7 @@ turned a b false h = at (same b a) refl
 
 -- ---- one in the place of another
 
-pub at_set : (ss : List Subtable) (i j : ℕ) (s t u : Subtable) → slice_get ss i ≡ Some s → slice_get (set ss i t) j ≡ Some u
+pub at_set : {X : Type 0} (ss : List X) (i j : ℕ) (s t u : X) → slice_get ss i ≡ Some s → slice_get (set ss i t) j ≡ Some u
     → ((j ≡ i) × (t ≡ u)) ⊎ ((j ≡ i → ⊥) × (slice_get ss j ≡ Some u))
 at_set [] i j s t u is at = absurd (cc)
 at_set (w ∷ ss) zero zero s t u is at = inl (refl, same_Some t u at)
@@ -52,12 +28,12 @@ at_set (w ∷ ss) (suc i) (suc j) s t u is at = up (at_set ss i j s t u is at)
     up (inl e) = inl (ap suc e.0, e.1)
     up (inr e) = inr (λ (q : suc j ≡ suc i). e.0 (omega arith), e.1)
 
-pub set_at : (ss : List Subtable) (i : ℕ) (s t : Subtable) → slice_get ss i ≡ Some s → slice_get (set ss i t) i ≡ Some t
+pub set_at : {X : Type 0} (ss : List X) (i : ℕ) (s t : X) → slice_get ss i ≡ Some s → slice_get (set ss i t) i ≡ Some t
 set_at [] i s t is = absurd (cc)
 set_at (w ∷ ss) zero s t is = refl
 set_at (w ∷ ss) (suc i) s t is = set_at ss i s t is
 
-pub set_elsewhere : (ss : List Subtable) (i j : ℕ) (t u : Subtable) → (j ≡ i → ⊥) → slice_get ss j ≡ Some u → slice_get (set ss i t) j ≡ Some u
+pub set_elsewhere : {X : Type 0} (ss : List X) (i j : ℕ) (t u : X) → (j ≡ i → ⊥) → slice_get ss j ≡ Some u → slice_get (set ss i t) j ≡ Some u
 set_elsewhere [] i j t u other at = at
 set_elsewhere (w ∷ ss) zero zero t u other at = absurd (other refl)
 set_elsewhere (w ∷ ss) zero (suc j) t u other at = at
@@ -66,7 +42,7 @@ set_elsewhere (w ∷ ss) (suc i) (suc j) t u other at = set_elsewhere ss i j t u
 
 -- ---- one more at the end
 
-pub at_end_of : (ss : List Subtable) (t : Subtable) (j : ℕ) (s : Subtable) → slice_get (ss ++ t ∷ []) j ≡ Some s → (slice_get ss j ≡ Some s) ⊎ ((j ≡ length ss) × (t ≡ s))
+pub at_end_of : {X : Type 0} (ss : List X) (t : X) (j : ℕ) (s : X) → slice_get (ss ++ t ∷ []) j ≡ Some s → (slice_get ss j ≡ Some s) ⊎ ((j ≡ length ss) × (t ≡ s))
 at_end_of [] t zero s at = inr (refl, same_Some t s at)
 at_end_of [] t (suc j) s at = inl at
 at_end_of (u ∷ ss) t zero s at = inl at
@@ -76,11 +52,11 @@ at_end_of (u ∷ ss) t (suc j) s at = up (at_end_of ss t j s at)
     up (inl e) = inl e
     up (inr e) = inr (ap suc e.0, e.1)
 
-pub end_at : (ss : List Subtable) (t : Subtable) → slice_get (ss ++ t ∷ []) (length ss) ≡ Some t
+pub end_at : {X : Type 0} (ss : List X) (t : X) → slice_get (ss ++ t ∷ []) (length ss) ≡ Some t
 end_at [] t = refl
 end_at (u ∷ ss) t = end_at ss t
 
-pub before_end : (ss : List Subtable) (t : Subtable) (j : ℕ) (s : Subtable) → slice_get ss j ≡ Some s → slice_get (ss ++ t ∷ []) j ≡ Some s
+pub before_end : {X : Type 0} (ss : List X) (t : X) (j : ℕ) (s : X) → slice_get ss j ≡ Some s → slice_get (ss ++ t ∷ []) j ≡ Some s
 before_end [] t j s at = absurd (cc)
 before_end (u ∷ ss) t zero s at = at
 before_end (u ∷ ss) t (suc j) s at = before_end ss t j s at
@@ -92,14 +68,6 @@ pub moved : ℕ → ℕ → ℕ
 moved zero j = suc j
 moved (suc p) zero = zero
 moved (suc p) (suc j) = suc (moved p j)
-
-pub moved_apart : (p i j : ℕ) → moved p i ≡ moved p j → i ≡ j
-unfolding moved
-moved_apart zero i j e = omega arith
-moved_apart (suc p) zero zero e = refl
-moved_apart (suc p) zero (suc j) e = absurd (let f : zero ≡ suc (moved p j) = e in omega arith)
-moved_apart (suc p) (suc i) zero e = absurd (let f : suc (moved p i) ≡ zero = e in omega arith)
-moved_apart (suc p) (suc i) (suc j) e = let f : suc (moved p i) ≡ suc (moved p j) = e in ap suc (moved_apart p i j (omega arith))
 
 pub moved_not : (p j : ℕ) → moved p j ≡ p → ⊥
 unfolding moved
@@ -115,7 +83,7 @@ moved_less (suc p) zero (suc j) less = omega arith
 moved_less (suc p) (suc i) zero less = absurd (omega (arith, less))
 moved_less (suc p) (suc i) (suc j) less = let ih = moved_less p i j (omega (arith, less)) in omega (arith, ih)
 
-pub at_removed : (ss : List Subtable) (p j : ℕ) (u : Subtable) → slice_get (remove ss p) j ≡ Some u → slice_get ss (moved p j) ≡ Some u
+pub at_removed : {X : Type 0} (ss : List X) (p j : ℕ) (u : X) → slice_get (remove ss p) j ≡ Some u → slice_get ss (moved p j) ≡ Some u
 unfolding moved
 at_removed [] zero j u at = absurd (cc)
 at_removed [] (suc p) j u at = absurd (cc)
@@ -123,21 +91,66 @@ at_removed (w ∷ ss) zero j u at = at
 at_removed (w ∷ ss) (suc p) zero u at = at
 at_removed (w ∷ ss) (suc p) (suc j) u at = at_removed ss p j u at
 
--- the others are still there
-pub removed_at : (ss : List Subtable) (p i : ℕ) (u : Subtable) → (i ≡ p → ⊥) → slice_get ss i ≡ Some u → (j : ℕ) × (slice_get (remove ss p) j ≡ Some u)
-removed_at [] p i u other at = absurd (cc)
-removed_at (w ∷ ss) zero zero u other at = absurd (other refl)
-removed_at (w ∷ ss) zero (suc i) u other at = (i, at)
-removed_at (w ∷ ss) (suc p) zero u other at = (0, at)
-removed_at (w ∷ ss) (suc p) (suc i) u other at = let r = removed_at ss p i u (λ e. other (ap suc e)) at in (suc r.0, r.1)
+-- ---- one put in
 
--- ---- as the code goes
+-- where an element of the list that one was put into comes from
+pub data Came {X : Type 0} (xs : List X) (p : ℕ) (x : X) (i : ℕ) (u : X) : Type 0 where
+  before : i < p → slice_get xs i ≡ Some u → Came xs p x i u
+  itself : i ≡ p → x ≡ u → Came xs p x i u
+  behind : (j : ℕ) → p ≤ j → i ≡ j + 1 → slice_get xs j ≡ Some u → Came xs p x i u
 
-pub at_place : (ss given : List Subtable) (i : ℕ) (x : Subtable) → given ≡ ss → i < length given → x ≡ get_or ss i x → slice_get ss i ≡ Some x
-at_place ss given i x is le at = let same_length : length given ≡ length ss = ap length is in slice_get-get_or ss i x (omega arith) ∙ ap Some (sym at)
+pub came : {X : Type 0} (xs : List X) (p : ℕ) (x : X) (i : ℕ) (u : X) → p ≤ length xs → slice_get (insert xs p x) i ≡ Some u → Came xs p x i u
+came xs zero x zero u within at = itself refl (same_Some x u at)
+came xs zero x (suc i) u within at = behind i (omega arith) (omega arith) at
+came [] (suc p) x i u within at = absurd (omega (arith, within))
+came (y ∷ xs) (suc p) x zero u within at = before (omega arith) at
+came {X} (y ∷ xs) (suc p) x (suc i) u within at = up (came xs p x i u (omega (arith, within)) at)
+  where
+    up : Came xs p x i u → Came (y ∷ xs) (suc p) x (suc i) u
+    up (before less a) = before (omega (arith, less)) a
+    up (itself e is) = itself (ap suc e) is
+    up (behind j more e a) = behind (suc j) (omega (arith, more)) (omega (arith, e)) a
 
--- a list that was lent and written whole
-pub written_whole : (xs ys : List Subtable) (n : ℕ) → length ys ≡ length xs → n ≡ length xs → take n (ys ++ drop (length ys) xs) ≡ ys
-written_whole xs ys n same all =
-    ap (λ (zs : List Subtable). take n (ys ++ zs)) (drop_all (length ys) xs (omega (arith, same)))
-    ∙ ap (take n) (append-nil ys) ∙ take_all n ys (omega (arith, same, all))
+-- ---- the last in the place of one
+
+at_taken : {X : Type 0} (n : ℕ) (xs : List X) (j : ℕ) (u : X) → slice_get (take n xs) j ≡ Some u → (j < n) × (slice_get xs j ≡ Some u)
+at_taken zero xs j u at = absurd (cc)
+at_taken (suc n) [] j u at = absurd (cc)
+at_taken (suc n) (x ∷ xs) zero u at = (omega arith, at)
+at_taken (suc n) (x ∷ xs) (suc j) u at = let r = at_taken n xs j u at in ((let l = r.0 in omega (arith, l)), r.1)
+
+taken_at : {X : Type 0} (n : ℕ) (xs : List X) (j : ℕ) (u : X) → j < n → slice_get xs j ≡ Some u → slice_get (take n xs) j ≡ Some u
+taken_at zero xs j u less at = absurd (omega (arith, less))
+taken_at (suc n) [] j u less at = absurd (cc)
+taken_at (suc n) (x ∷ xs) zero u less at = at
+taken_at (suc n) (x ∷ xs) (suc j) u less at = taken_at n xs j u (omega (arith, less)) at
+
+module _ {X : Type 0} (xs : List X) (p : ℕ) (d : X) (within : p < length xs) where
+  last : slice_get xs (length xs - 1) ≡ Some (get_or xs (length xs - 1) d)
+  last = slice_get-get_or xs (length xs - 1) d (omega (arith, within))
+
+  pub at_swapped : (j : ℕ) (u : X) → slice_get (swap_remove xs p d) j ≡ Some u
+      → (j < length xs - 1) × (((j ≡ p) × (slice_get xs (length xs - 1) ≡ Some u)) ⊎ ((j ≡ p → ⊥) × (slice_get xs j ≡ Some u)))
+  at_swapped j u at =
+      let t = at_taken (length xs - 1) (set xs p (get_or xs (length xs - 1) d)) j u at in
+      (t.0, by (at_set xs p j (get_or xs p d) (get_or xs (length xs - 1) d) u (slice_get-get_or xs p d within) t.1))
+    where
+      by : ((j ≡ p) × (get_or xs (length xs - 1) d ≡ u)) ⊎ ((j ≡ p → ⊥) × (slice_get xs j ≡ Some u)) → ((j ≡ p) × (slice_get xs (length xs - 1) ≡ Some u)) ⊎ ((j ≡ p → ⊥) × (slice_get xs j ≡ Some u))
+      by (inl h) = inl (h.0, last ∙ ap Some h.1)
+      by (inr h) = inr h
+
+  -- the others are still there
+  pub swapped_at : (i : ℕ) (u : X) → (i ≡ p → ⊥) → slice_get xs i ≡ Some u → (j : ℕ) × (slice_get (swap_remove xs p d) j ≡ Some u)
+  swapped_at i u other at = by (cases_eq i (length xs - 1))
+    where
+      le : i < length xs
+      le = slice_get_within xs i u at
+
+      by : (i ≡ length xs - 1) ⊎ (i ≡ length xs - 1 → ⊥) → (j : ℕ) × (slice_get (swap_remove xs p d) j ≡ Some u)
+      by (inl e) =
+          let is : get_or xs (length xs - 1) d ≡ u = same_Some (get_or xs (length xs - 1) d) u (sym last ∙ ap (slice_get xs) (sym e) ∙ at) in
+          (p, taken_at (length xs - 1) (set xs p (get_or xs (length xs - 1) d)) p u (before_last p within (λ q. other (e ∙ sym q))) (set_at xs p (get_or xs p d) (get_or xs (length xs - 1) d) (slice_get-get_or xs p d within) ∙ ap Some is))
+        where
+          before_last : (k : ℕ) → k < length xs → (k ≡ length xs - 1 → ⊥) → k < length xs - 1
+          before_last k lt ne = omega (arith, lt, ne)
+      by (inr ne) = (i, taken_at (length xs - 1) (set xs p (get_or xs (length xs - 1) d)) i u (omega (arith, le, ne)) (set_elsewhere xs p i (get_or xs (length xs - 1) d) u other at))

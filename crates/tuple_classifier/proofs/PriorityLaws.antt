@@ -1,6 +1,7 @@
 -- The priorities of rules, kept as numbers.
-use Rattle.std.proofs.Common.{◌≡◌, ℕ, ◌<◌, ◌≤◌, Bool, true, false, nat_le, ◌==◌, List, refl, sym, ap, ◌∙◌, subst, arith, eqb-true, eq-eqb}
+use Rattle.std.proofs.Common.{◌≡◌, ℕ, ◌<◌, ◌≤◌, Bool, true, false, nat_le, ◌==◌, List, Option, Some, None, refl, sym, ap, ◌∙◌, subst, arith, eqb-true, eq-eqb}
 use Rattle.std.specs.List.{list_any, count_by}
+use Rattle.std.specs.Option.{option_eq}
 use Rattle.std.proofs.lemmas.Bool.{leb-true, le-leb, leb-false, false≢true}
 use Rattle.spec_tables.specs.Rules.{Rule}
 use Rattle.translation_laws.proofs.MemberLaws.{Among, list_any_from-Among}
@@ -47,3 +48,10 @@ module _ (ns ms : List ℕ) (greatest : ℕ) (is : (floor : ℕ) → list_any (�
       let low = leb-true floor greatest (sym (is floor) ∙ h) in
       let high = leb-true greatest m.0 m.2 in
       list_any_from-Among (λ k. nat_le floor k) m.0 ms m.1 (le-leb floor m.0 (omega (arith, low, high)))
+
+-- two greatest that test equal are
+pub same_greatest : (a b : Option ℕ) → option_eq (λ (x y : ℕ). x == y) a b ≡ true → a ≡ b
+same_greatest None None e = refl
+same_greatest None (Some y) e = absurd (false≢true e)
+same_greatest (Some x) None e = absurd (false≢true e)
+same_greatest (Some x) (Some y) e = ap Some (eqb-true x y e)

@@ -9,6 +9,7 @@ use Rattle.ovs_fields.specs.Packed.{bits}
 use Rattle.tuple_classifier.specs.declared.live.LiveRule.{LiveRule}
 use Rattle.tuple_classifier.specs.declared.subtable.Subtable.{Subtable}
 use Rattle.tuple_classifier.specs.declared.table.Table.{Table}
+use Rattle.tuple_classifier.specs.Kept.{by_place}
 use Rattle.tuple_classifier.specs.Live.{live_view, live_rules, plain_rule, plain_rules}
 use Rattle.tuple_classifier.specs.Parts.{AreSubtablesOf, of_mask}
 use Rattle.tuple_classifier.specs.Subtables.{IsSubtableOf}
@@ -60,10 +61,10 @@ module _ (lists : List (List OfAction)) where
   -- so it is in each table
   pub seen_in : (t : Table) (table : ℕ) (live : List LiveRule) → IsTableOf t (rules_in table (plain_rules live)) → IsTableOf t (rules_in table (live_rules lists live))
   seen_in t table live are = record {
-    ranked = record {
-      subtables = subst (AreSubtablesOf t.subtables.items) (in_table table live)
-          (subtables_same t.subtables.items (filter (λ (l : LiveRule). l.rule.table == table) live) (subst (AreSubtablesOf t.subtables.items) (sym (in_table_plain table live)) are.ranked.subtables));
-      falling = are.ranked.falling;
+    kept = record {
+      subtables = subst (AreSubtablesOf (by_place t.subtables)) (in_table table live)
+          (subtables_same (by_place t.subtables) (filter (λ (l : LiveRule). l.rule.table == table) live) (subst (AreSubtablesOf (by_place t.subtables)) (sym (in_table_plain table live)) are.kept.subtables));
+      falling = are.kept.falling;
     };
     prefixed = subst (AreOf t.prefixes) (in_table table live)
         (are_same plain_rule (live_view lists) (λ l. refl) t.prefixes (filter (λ (l : LiveRule). l.rule.table == table) live) (subst (AreOf t.prefixes) (sym (in_table_plain table live)) are.prefixed));

@@ -1,9 +1,9 @@
 -- The subtables of a table, as rules come and go.
-use Rattle.std.proofs.Common.{◌≡◌, ℕ, ◌≤◌, nat_le, Bool, true, false, ◌&&◌, ◌==◌, not, if◌then◌else◌, List, [], ◌∷◌, ◌++◌, append-nil, length, set, filter, slice_get, Option, Some, None, inl, inr, ◌⊎◌, refl, sym, ap, ap₂, ◌∙◌, subst, arith, eqb-true}
-use Rattle.std.specs.List.{find, remove, count_by}
+use Rattle.std.proofs.Common.{◌≡◌, ℕ, ◌-◌, ◌<◌, ◌≤◌, nat_le, Bool, true, false, ◌&&◌, ◌==◌, not, if◌then◌else◌, List, [], ◌∷◌, ◌++◌, append-nil, length, set, filter, slice_get, Option, Some, None, inl, inr, ◌⊎◌, refl, sym, ap, ap₂, ◌∙◌, subst, arith, eqb-true}
+use Rattle.std.specs.List.{find, swap_remove, count_by}
 use Rattle.std.proofs.lemmas.Bool.{cases_eq, cond-true, cond-false, false≢true}
 use Rattle.std.proofs.lemmas.List.Elements.{filter-append}
-use Rattle.std.proofs.lemmas.Option.{same_Some}
+use Rattle.std.proofs.lemmas.Option.{slice_get_within, same_Some}
 use Rattle.spec_keys.specs.Keys.{same}
 use Rattle.spec_tables.specs.Rules as tables
 use Rattle.spec_tables.specs.Rules.{Rule, is_same_match}
@@ -15,12 +15,14 @@ use Rattle.ovs_fields.specs.Packed.{bits}
 use Rattle.tuple_classifier.specs.declared.subtable.Subtable.{Subtable}
 use Rattle.staged_lookup.specs.Numbered.{AreDistinct, without}
 use Rattle.tuple_classifier.specs.Numbers.{numbers_in}
-use Rattle.tuple_classifier.specs.Order.{AreRankedOf}
+use Rattle.tuple_classifier.specs.Order.{IsFallingAlong}
 use Rattle.tuple_classifier.specs.Parts.{AreApart, AreSubtablesOf, HasMask, of_mask}
+use Rattle.tuple_classifier.specs.Placed.{IsOrderOf, AreWithin, in_order}
 use Rattle.tuple_classifier.specs.Subtables.{IsSubtableOf}
 use Rattle.staged_lookup.proofs.Members.{count-cons}
 use Rattle.tuple_classifier.proofs.OrderLaws.{falling_same}
-use Rattle.tuple_classifier.proofs.Places.{turned, at_set, set_at, set_elsewhere, at_end_of, end_at, before_end, moved, moved_apart, at_removed, removed_at}
+use Rattle.tuple_classifier.proofs.PlacedLaws.{order_within, once_in, place_in, at_in_order, in_order_at}
+use Rattle.tuple_classifier.proofs.Places.{turned, at_set, set_at, set_elsewhere, at_end_of, end_at, before_end, at_swapped, swapped_at}
 use Rattle.staged_lookup.proofs.Removed.{all_stay}
 use Rattle.tuple_classifier.proofs.PriorityLaws.{any_priority}
 use Rattle.tuple_classifier.proofs.WinnerLaws.{one_of_number}
@@ -164,14 +166,11 @@ pub same_in_place : (ss : List Subtable) (rs : List Rule) (i : ℕ) (s t : Subta
 same_in_place ss rs i s t are is e own = put_in_place ss rs rs i s t are is e own (λ m other. refl) are.covered
 
 -- one that has the same rules stands in the same order
-pub ranked_in_place : (ss : List Subtable) (rs : List Rule) (i : ℕ) (s t : Subtable) → AreRankedOf ss rs → slice_get ss i ≡ Some s → bits t.staged.mask ≡ bits s.staged.mask
-    → IsSubtableOf t (of_mask (bits s.staged.mask) rs) → AreRankedOf (set ss i t) rs
-ranked_in_place ss rs i s t are is e own = record {
-  subtables = same_in_place ss rs i s t are.subtables is e own;
-  falling = falling_same ss i s t is (λ floor.
-      any_priority (of_mask (bits s.staged.mask) rs) (numbers_in t.indexes.priorities.items.items) own.indexed.prioritised (λ n. nat_le floor n)
-      ∙ sym (any_priority (of_mask (bits s.staged.mask) rs) (numbers_in s.indexes.priorities.items.items) (are.subtables.each i s is).indexed.prioritised (λ n. nat_le floor n))) are.falling;
-}
+pub falls_in_place : (ss : List Subtable) (order : List ℕ) (rs : List Rule) (i : ℕ) (s t : Subtable) → AreSubtablesOf ss rs → slice_get ss i ≡ Some s → IsSubtableOf t (of_mask (bits s.staged.mask) rs)
+    → IsFallingAlong ss order → IsFallingAlong (set ss i t) order
+falls_in_place ss order rs i s t are is own = falling_same ss order i s t is (λ floor.
+    any_priority (of_mask (bits s.staged.mask) rs) (numbers_in t.indexes.priorities.items.items) own.indexed.prioritised (λ n. nat_le floor n)
+    ∙ sym (any_priority (of_mask (bits s.staged.mask) rs) (numbers_in s.indexes.priorities.items.items) (are.each i s is).indexed.prioritised (λ n. nat_le floor n)))
 
 pub take_in_place : (ss : List Subtable) (rs : List Rule) (i : ℕ) (s t : Subtable) (r : Rule) → AreSubtablesOf ss rs → AreDistinct rs → Among r rs → slice_get ss i ≡ Some s → bits t.staged.mask ≡ bits s.staged.mask
     → same (bits s.staged.mask) r.matching.mask ≡ true → IsSubtableOf t (without r.number (of_mask (bits s.staged.mask) rs)) → AreSubtablesOf (set ss i t) (without r.number rs)
@@ -220,24 +219,65 @@ insert_at_end ss rs t r are is new own = record { apart = apart; each = each; co
     covered x (inr (inl q)) = (length ss, t, end_at ss t, same_from_equal x.matching.mask (bits t.staged.mask) (ap (λ (y : Rule). y.matching.mask) q ∙ sym is))
     covered x (inr (inr h)) = absurd h
 
--- ---- a mask without rules
+-- ---- subtables at other places
 
-pub drop_mask : (ss : List Subtable) (rs : List Rule) (p : ℕ) (s : Subtable) → AreSubtablesOf ss rs → slice_get ss p ≡ Some s → of_mask (bits s.staged.mask) rs ≡ [] → AreSubtablesOf (remove ss p) rs
-drop_mask ss rs p s are is none = record {
-  apart = λ j k u v ju kv alike. moved_apart p j k (are.apart (moved p j) (moved p k) u v (at_removed ss p j u ju) (at_removed ss p k v kv) alike);
-  each = λ j u at. are.each (moved p j) u (at_removed ss p j u at);
-  covered = λ r m. covers r m (are.covered r m);
+-- each stood somewhere before, no two at one place, and those that have rules are still there
+relocated : (ss ts : List Subtable) (rs : List Rule) → AreSubtablesOf ss rs → (stood : (j : ℕ) (u : Subtable) → slice_get ts j ≡ Some u → (i : ℕ) × (slice_get ss i ≡ Some u))
+    → ((j k : ℕ) (u v : Subtable) (ju : slice_get ts j ≡ Some u) (kv : slice_get ts k ≡ Some v) → (stood j u ju).0 ≡ (stood k v kv).0 → j ≡ k)
+    → ((r : Rule) (i : ℕ) (s : Subtable) → Among r rs → slice_get ss i ≡ Some s → same r.matching.mask (bits s.staged.mask) ≡ true → (j : ℕ) × (slice_get ts j ≡ Some s)) → AreSubtablesOf ts rs
+relocated ss ts rs are stood one there = record {
+  apart = λ j k u v ju kv alike. one j k u v ju kv (are.apart (stood j u ju).0 (stood k v kv).0 u v (stood j u ju).1 (stood k v kv).1 alike);
+  each = λ j u at. are.each (stood j u at).0 u (stood j u at).1;
+  covered = λ r m. let h = are.covered r m in let t = there r h.0 h.1 m h.2 h.3 in (t.0, h.1, t.1, h.3);
 }
+
+-- in an order that has each place once
+pub are_in_order : (ss : List Subtable) (order : List ℕ) (rs : List Rule) → IsOrderOf (length ss) order → AreSubtablesOf ss rs → AreSubtablesOf (in_order ss order) rs
+are_in_order ss order rs is are = relocated ss (in_order ss order) rs are stood one there
   where
-    covers : (r : Rule) → Among r rs → HasMask ss r.matching.mask → HasMask (remove ss p) r.matching.mask
-    covers r m h = by (cases_eq h.0 p)
-      where
-        by : (h.0 ≡ p) ⊎ (h.0 ≡ p → ⊥) → HasMask (remove ss p) r.matching.mask
-        by (inl q) =
-            let is_s : h.1 ≡ s = same_Some h.1 s (sym h.2 ∙ ap (slice_get ss) q ∙ is) in
-            let there : Among r (of_mask (bits s.staged.mask) rs) = Among_in-filter (λ (x : Rule). same x.matching.mask (bits s.staged.mask)) r rs m (ap (λ (x : Subtable). same r.matching.mask (bits x.staged.mask)) (sym is_s) ∙ h.3) in
-            absurd (subst (λ (ys : List Rule). Among r ys) none there)
-        by (inr q) = let a = removed_at ss p h.0 h.1 q h.2 in (a.0, h.1, a.1, h.3)
+    inside : AreWithin (length ss) order
+    inside = order_within (length ss) order is
+
+    stood : (j : ℕ) (u : Subtable) → slice_get (in_order ss order) j ≡ Some u → (i : ℕ) × (slice_get ss i ≡ Some u)
+    stood j u at = let a = in_order_at ss order inside j u at in (a.0, a.2)
+
+    one : (j k : ℕ) (u v : Subtable) (ju : slice_get (in_order ss order) j ≡ Some u) (kv : slice_get (in_order ss order) k ≡ Some v) → (stood j u ju).0 ≡ (stood k v kv).0 → j ≡ k
+    one j k u v ju kv e =
+        let a = in_order_at ss order inside j u ju in
+        let b = in_order_at ss order inside k v kv in
+        once_in (length ss) order is j k a.0 a.1 (b.1 ∙ ap Some (sym e))
+
+    there : (r : Rule) (i : ℕ) (s : Subtable) → Among r rs → slice_get ss i ≡ Some s → same r.matching.mask (bits s.staged.mask) ≡ true → (j : ℕ) × (slice_get (in_order ss order) j ≡ Some s)
+    there r i s m at alike = let k = place_in (length ss) order is i (slice_get_within ss i s at) in (k.0, at_in_order ss order inside k.0 i s k.1 at)
+
+-- where one stood before the last took a place
+abbrev Stood : List Subtable → ℕ → ℕ → Subtable → Type 0
+Stood ss p j u = ((j ≡ p) × (slice_get ss (length ss - 1) ≡ Some u)) ⊎ ((j ≡ p → ⊥) × (slice_get ss j ≡ Some u))
+
+-- without a mask that has no rules, whose place the last one takes
+pub drop_mask : (ss : List Subtable) (rs : List Rule) (p : ℕ) (s d : Subtable) → AreSubtablesOf ss rs → slice_get ss p ≡ Some s → of_mask (bits s.staged.mask) rs ≡ [] → AreSubtablesOf (swap_remove ss p d) rs
+drop_mask ss rs p s d are is none =
+    relocated ss (swap_remove ss p d) rs are (λ j u at. stood j u (at_swapped ss p d inside j u at).1)
+    (λ j k u v ju kv. let a = at_swapped ss p d inside j u ju in let b = at_swapped ss p d inside k v kv in one j k u v a.0 b.0 a.1 b.1) there
+  where
+    inside : p < length ss
+    inside = slice_get_within ss p s is
+
+    stood : (j : ℕ) (u : Subtable) → Stood ss p j u → (i : ℕ) × (slice_get ss i ≡ Some u)
+    stood j u (inl h) = (length ss - 1, h.1)
+    stood j u (inr h) = (j, h.1)
+
+    one : (j k : ℕ) (u v : Subtable) → j < length ss - 1 → k < length ss - 1 → (a : Stood ss p j u) (b : Stood ss p k v) → (stood j u a).0 ≡ (stood k v b).0 → j ≡ k
+    one j k u v jl kl (inl h) (inl g) e = h.0 ∙ sym g.0
+    one j k u v jl kl (inl h) (inr g) e = absurd (omega (arith, kl, e))
+    one j k u v jl kl (inr h) (inl g) e = absurd (omega (arith, jl, e))
+    one j k u v jl kl (inr h) (inr g) e = e
+
+    there : (r : Rule) (i : ℕ) (t : Subtable) → Among r rs → slice_get ss i ≡ Some t → same r.matching.mask (bits t.staged.mask) ≡ true → (j : ℕ) × (slice_get (swap_remove ss p d) j ≡ Some t)
+    there r i t m at alike = swapped_at ss p d inside i t (λ (e : i ≡ p).
+        let is_s : t ≡ s = same_Some t s (sym at ∙ ap (slice_get ss) e ∙ is) in
+        let has : Among r (of_mask (bits s.staged.mask) rs) = Among_in-filter (λ (x : Rule). same x.matching.mask (bits s.staged.mask)) r rs m (ap (λ (x : Subtable). same r.matching.mask (bits x.staged.mask)) (sym is_s) ∙ alike) in
+        subst (λ (ys : List Rule). Among r ys) none has) at
 
 -- ---- a rule by its match and priority
 
@@ -287,20 +327,6 @@ nowhere_clashes ss rs r are m new =
     let h = are.covered r m in
     false≢true (sym (new h.0 h.1 h.2) ∙ turned r.matching.mask (bits h.1.staged.mask) true h.3)
 
--- ---- no rules, and one with a match
-
-pub no_subtables : AreRankedOf [] []
-no_subtables = record {
-  subtables = record {
-    apart = λ i j s t at_i at_j alike. absurd (nothing i s at_i);
-    each = λ i s at. absurd (nothing i s at);
-    covered = λ r m. absurd m;
-  };
-  falling = λ i j s t less at_i at_j. absurd (nothing i s at_i);
-}
-  where
-    nothing : (i : ℕ) (s : Subtable) → slice_get [] i ≡ Some s → ⊥
-    nothing i s e = cc
-
+-- a rule with a match
 abbrev pub rule_with : Match → Rule
 rule_with m = record { number = 0; table = 0; priority = 0; cookie = 0; matching = match_view m; actions = [] }

@@ -12,6 +12,7 @@ use Rattle.staged_lookup.specs.Subtables.{HasNoRule}
 use Rattle.staged_lookup.proofs.Removed.{all_stay}
 use Rattle.tuple_classifier.specs.declared.table.Table.{Table}
 use Rattle.tuple_classifier.specs.ByTable.{HasRules, AreClassified, HaveNoRule}
+use Rattle.tuple_classifier.specs.Kept.{by_place}
 use Rattle.tuple_classifier.specs.Tables.{IsTableOf}
 use Rattle.tuple_classifier.proofs.Lengths.{not_equal}
 use Rattle.tuple_classifier.proofs.TableLaws.{is_at, filter_swapped, find_filter, untrue}
@@ -53,7 +54,7 @@ one_more_new ts t number empty new table i u s at_u at = by (at_end ts t table)
     by (inl e) = new table i u s (sym e ∙ at_u) at
     by (inr h) =
         let is : u ≡ t = same_Some u t (sym at_u ∙ h.1) in
-        ([], (empty.ranked.subtables.each i s (ap (λ (v : Table). slice_get v.subtables.items i) (sym is) ∙ at)).staged, λ r m e. absurd m)
+        ([], (empty.kept.subtables.each i s (ap (λ (v : Table). slice_get (by_place v.subtables) i) (sym is) ∙ at)).staged, λ r m e. absurd m)
 
 -- the rules of a table that is there
 pub rules_of : (ts : List Table) (i : ℕ) (t : Table) (rs : List Rule) → slice_get ts i ≡ Some t → HasRules (slice_get ts i) rs → IsTableOf t rs

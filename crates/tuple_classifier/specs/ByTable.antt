@@ -7,6 +7,7 @@ use Rattle.staged_lookup.specs.declared.rank.Rank.{Rank}
 use Rattle.staged_lookup.specs.Subtables.{HasNoRule}
 use Rattle.tuple_classifier.specs.declared.subtable.Subtable.{Subtable}
 use Rattle.tuple_classifier.specs.declared.table.Table.{Table}
+use Rattle.tuple_classifier.specs.Kept.{by_place}
 use Rattle.tuple_classifier.specs.Ranks.{rank_of}
 use Rattle.tuple_classifier.specs.Tables.{IsTableOf}
 
@@ -21,7 +22,7 @@ AreClassified tables rules = (table : ℕ) → HasRules (slice_get tables table)
 
 -- none of the rules has this number
 abbrev pub HaveNoRule : ℕ → List Table → Type 0
-HaveNoRule number tables = (table i : ℕ) (t : Table) (s : Subtable) → slice_get tables table ≡ Some t → slice_get t.subtables.items i ≡ Some s → HasNoRule number s.staged
+HaveNoRule number tables = (table i : ℕ) (t : Table) (s : Subtable) → slice_get tables table ≡ Some t → slice_get (by_place t.subtables) i ≡ Some s → HasNoRule number s.staged
 
 -- one of the rules is in this table, with this match and rank
 pub record HaveRuleOf (ts : List Table) (table : ℕ) (m : tables.Match) (rank : Rank) : Type 0 where

@@ -1,11 +1,13 @@
 pub mod ByTable
 pub mod Held
 pub mod Indexes
+pub mod Kept
 pub mod Live
 pub mod Numbers
 pub mod Order
 pub mod Parts
 pub mod Passes
+pub mod Placed
 pub mod Ranks
 pub mod Subtables
 pub mod Tables

@@ -6,12 +6,12 @@ use Rattle.translation_laws.specs.Members.{Among}
 use Rattle.address_prefixes.specs.Addresses.{AreOf}
 use Rattle.staged_lookup.specs.declared.rank.Rank.{Rank}
 use Rattle.tuple_classifier.specs.declared.table.Table.{Table}
-use Rattle.tuple_classifier.specs.Order.{AreRankedOf}
+use Rattle.tuple_classifier.specs.Kept.{AreKeptOf}
 use Rattle.tuple_classifier.specs.Ranks.{rank_of}
 
 -- its subtables have these rules, and its prefixes are those that they state
 pub record IsTableOf (t : Table) (rs : List Rule) : Type 0 where
-  pub ranked : AreRankedOf t.subtables.items rs
+  pub kept : AreKeptOf t.subtables rs
   pub prefixed : AreOf t.prefixes rs
 
 -- it has a rule with this match and rank

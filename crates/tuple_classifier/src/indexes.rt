@@ -18,7 +18,7 @@ pub(crate) struct Indexes {
 }
 
 impl Indexes {
-    ghost use Rattle.tuple_classifier.specs.Order.{IsNotBelow};
+    ghost use Rattle.tuple_classifier.specs.Order.{IsNotBelow, HasGreatest};
     ghost use Rattle.tuple_classifier.specs.Indexes.{AreIndexes, HaveRoom, HavePriority};
 
     /// Those of no rules of a mask. It takes no memory.
@@ -65,6 +65,13 @@ impl Indexes {
             → result ≡ list_any (λ r. nat_le floor r.priority) rs }
     {
         self.priorities.reaches(floor)
+    }
+
+    /// The greatest priority of the rules, if there are any.
+    pub(crate) fn greatest(&self) -> Option<u16>
+        ensures { HasGreatest self.now result }
+    {
+        self.priorities.greatest()
     }
 
     /// Whether one of the rules has a greater priority than all of the rules of others.

@@ -39,12 +39,15 @@
 //!   stage and the third, where a probe is made in two steps: no rule of a mask matches a key that begins with none of the
 //!   prefixes of its length.
 //!
-//! The subtables of a table stand by falling greatest priority, as Open vSwitch has them (NSDI 2015, section 5.2;
-//! lib/pvector.h). `look` goes over them once, and ends at the first that has no priority as great as that of the best rule
-//! so far: neither that mask nor those behind it can win, and they consult nothing. Each mask that it went over reaches the
-//! winner's priority, since the winner is in one of them and those before that one have none less; so it went over just
-//! the masks that consult their bits (`proofs/PassLaws`). Where a rule that comes or goes changes the greatest priority of
-//! its mask, the subtable changes places with its neighbours until it stands right (`order`).
+//! The subtables of a table stand in a hash map by their masks, and beside it is the order in which `look` goes over them: by
+//! falling greatest priority, as Open vSwitch has it (NSDI 2015, section 5.2; `subtables_map` and `subtables` of
+//! lib/classifier.h). It has the places of the subtables in the map, of 4 bytes each, so that a subtable stays where it is as
+//! others come and rules change. `look` goes along the order once, and ends at the first subtable that has no priority as
+//! great as that of the best rule so far: neither that mask nor those behind it can win, and they consult nothing. Each mask
+//! that it went over reaches the winner's priority, since the winner is in one of them and those before that one have none
+//! less; so it went over just the masks that consult their bits (`proofs/PassLaws`). Where a rule that comes or goes changes
+//! the greatest priority of its mask, the place of the subtable moves within the order (`order`). A mask whose last rule goes
+//! leaves the map, where the last subtable takes its place, which then stands in the order in place of the last one's.
 //!
 //! The live rules stand beside the subtables in the order of their numbers, each in a box of its own, and each has the
 //! place of its actions among the lists of actions that edits gave. The same places stand by number too, so that the
@@ -59,10 +62,13 @@
 //!   mask. A probe takes no hash where all rules of the mask are alike under the stage, as routes are in the Ethernet type.
 //! - The first mask of a lookup that has a prefix of an address takes a walk of its trie, of a step for each node on the way.
 //!   Those after it take none, so the time of a lookup grows by the masks that it goes over, and hardly by the prefixes.
-//! - An add or a strict word takes a few probes and a walk of each trie, and moves a subtable past those that its greatest
-//!   priority passes. The sorted lists are of different priorities, so an add moves what stands after its place in one only
-//!   where no rule of the mask has the priority yet, and a strict delete only where no other rule has it. Else they change a
-//!   count. A strict delete also moves the addresses of the live rules of greater numbers, of 8 bytes each.
+//! - An add or a strict word finds the subtable of its mask by one hash, however many masks there are, and then takes a few
+//!   probes and a walk of each trie. The sorted lists are of different priorities, so an add moves what stands after its place
+//!   in one only where no rule of the mask has the priority yet, and a strict delete only where no other rule has it. Else they
+//!   change a count. A strict delete also moves the addresses of the live rules of greater numbers, of 8 bytes each.
+//! - Where it brings a new mask, or changes the greatest priority of one, where the mask belongs in the order is found by a
+//!   binary search, and the places behind, of 4 bytes each, move by one. A mask that stood there before, or goes, is first found
+//!   by a pass over these, and a mask that goes takes a second one.
 //! - A loose word passes once over the live rules.
 //! - The actions of an edit stay until the tables are dropped, even where no live rule has them any more, and so do the
 //!   four bytes that say where those of a number are. The actions of a rule take two reads.

@@ -13,6 +13,7 @@ ghost use Rattle.staged_lookup.specs.Numbered.{AreDistinct};
 ghost use Rattle.staged_lookup.specs.Subtables.{tested_part, found_rank};
 ghost use Rattle.staged_lookup.specs.Subtables as by_stages;
 ghost use Rattle.staged_lookup.specs.declared.probe.Probe.TheVariants as probes;
+ghost use Rattle.tuple_classifier.specs.Kept.{ranked};
 ghost use Rattle.tuple_classifier.specs.Order.{AreRankedOf};
 ghost use Rattle.tuple_classifier.specs.Parts.{of_mask};
 ghost use Rattle.tuple_classifier.specs.Passes.{HasPassed, GoesOn};
@@ -20,6 +21,7 @@ ghost use Rattle.tuple_classifier.specs.Ranks.{rank_of, floor_of, best_of_pair};
 ghost use Rattle.tuple_classifier.specs.Subtables.{IsSubtableOf};
 
 use crate::subtable::Subtable;
+use crate::subtables::Subtables;
 use address_prefixes::{AddressLookups, AddressPrefixes};
 use ovs_fields::{Key, Mask, or};
 use staged_lookup::{Probe, Rank, better};
@@ -29,22 +31,22 @@ const ETHERNET: u8 = 1;
 
 /// The number of the winner for a key. The bits that the lookup consults are added.
 pub(crate) fn look(
-    subtables: &[Subtable],
+    subtables: &Subtables,
     prefixes: &AddressPrefixes,
     key: &Key,
     consulted: &mut Mask,
 ) -> Option<u32>
     requires { (rs : List Rule) × (AreOf prefixes.now rs) }
-    ensures winner { (rs : List Rule) → AreRankedOf subtables.now rs → AreOf prefixes.now rs
+    ensures winner { (rs : List Rule) → AreRankedOf (ranked subtables.now) rs → AreOf prefixes.now rs
         → AreDistinct rs → result ≡ option_map (λ r. r.number) (winner rs (numbers key.now)) }
-    ensures consulted { (rs : List Rule) → AreRankedOf subtables.now rs → AreOf prefixes.now rs
+    ensures consulted { (rs : List Rule) → AreRankedOf (ranked subtables.now) rs → AreOf prefixes.now rs
         → AreDistinct rs
         → bits consulted.new ≡ added (bits consulted.old) (consults rs (numbers key.now)) }
 {
     let mut known = AddressLookups::none();
     let mut best = None;
     'subtables: for i in 0..subtables.len() {
-        let subtable = &subtables[i];
+        let subtable = subtables.at(i);
         if !subtable.indexes.reaches(priority_to_beat(best)) {
             return number_of(best);
         }

@@ -1,79 +1,115 @@
-//! The order of the subtables of a table: by falling greatest priority.
+//! The order in which lookups go over the subtables of a table: by falling greatest priority. It has their places in the
+//! map of masks.
 
-ghost use Rattle.std.specs.Prelude.{◌≡◌, ◌<◌, ◌+◌, List, length, IsTrue, IsFalse};
-ghost use Rattle.spec_tables.specs.Rules.{Rule};
-ghost use Rattle.tuple_classifier.specs.Order.{IsFalling, IsFallingBut, Precede, AreTurned, AreOrdered};
-ghost use Rattle.tuple_classifier.specs.Parts.{AreSubtablesOf};
+ghost use Rattle.std.specs.Prelude.{◌≡◌, ◌<◌, ◌≤◌, ◌+◌, ℕ, ◌==◌, if◌then◌else◌, List, length, slice_get, swap_remove, Some, IsTrue, IsFalse, vec_len, vec_capacity};
+ghost use Rattle.indexmap.specs.IndexMap.{values, index_map_len};
+ghost use Rattle.tuple_classifier.specs.Numbers.{times};
+ghost use Rattle.tuple_classifier.specs.Order.{IsNotBelow, IsFallingAlong, IsFallingBut, HasGreatest};
+ghost use Rattle.tuple_classifier.specs.Placed.{IsOrderOf, AreWithin};
+ghost use Rattle.tuple_classifier.specs.declared.subtable.Subtable.{Subtable};
 
-use crate::subtable::Subtable;
+use crate::subtable::ByMask;
 
-/// Moves the subtable at a place to where it belongs, where the others stand in order. It takes no memory.
-pub(crate) fn put_in_order(subtables: &mut [Subtable], place: usize)
-    requires { place < length subtables.old }
-    ensures rules { (rs : List Rule)
-        → AreSubtablesOf subtables.old rs → AreSubtablesOf subtables.new rs }
-    ensures length { length subtables.new ≡ length subtables.old }
-    ensures falling { IsFallingBut place subtables.old → IsFalling subtables.new }
+/// Moves a subtable to where it belongs, where the others stand in order and its greatest priority may not be what it was.
+/// It takes no memory.
+pub(crate) fn settle(by_mask: &ByMask, order: &mut Vec<u32>, place: usize, before: Option<u16>)
+    requires order { IsOrderOf (index_map_len by_mask.now) order.old.items }
+    requires within { place < index_map_len by_mask.now }
+    ensures order { IsOrderOf (index_map_len by_mask.now) order.new.items }
+    ensures falling { IsFallingBut place (values by_mask.now) order.old.items
+        → ((s : Subtable) → slice_get (values by_mask.now) place ≡ Some s → HasGreatest s.indexes before
+        → IsFallingAlong (values by_mask.now) order.old.items)
+        → IsFallingAlong (values by_mask.now) order.new.items }
 {
-    let risen = raise(subtables, place);
-    lower(subtables, risen);
+    if by_mask[place].indexes.greatest() == before {
+        return;
+    }
+    let moved = order.remove(position_of(order, place));
+    enter(by_mask, order, moved);
 }
 
-/// Moves the subtable at a place before those that have no greater priority than it, and tells where it is then.
-fn raise(subtables: &mut [Subtable], place: usize) -> usize
-    requires { place < length subtables.old }
-    ensures within { result < length subtables.new }
-    ensures rules { (rs : List Rule)
-        → AreSubtablesOf subtables.old rs → AreSubtablesOf subtables.new rs }
-    ensures length { length subtables.new ≡ length subtables.old }
-    ensures falling { IsFallingBut place subtables.old → IsFallingBut result subtables.new }
-    ensures precede { IsFallingBut place subtables.old → Precede result subtables.new }
+/// Puts the place of a subtable, which the order doesn't have and has room for, where it belongs.
+pub(crate) fn enter(by_mask: &ByMask, order: &mut Vec<u32>, place: u32)
+    requires places { AreWithin (index_map_len by_mask.now) order.old.items }
+    requires within { place < index_map_len by_mask.now }
+    requires room { vec_len order.old < vec_capacity order.old }
+    ensures places { (p : ℕ)
+        → times p order.new.items ≡ times p order.old.items + (if place == p then 1 else 0) }
+    ensures falling { IsFallingAlong (values by_mask.now) order.old.items
+        → IsFallingAlong (values by_mask.now) order.new.items }
 {
-    let mut at = place;
-    'subtables: while is_above_last(subtables, at) {
-        subtables.swap(at - 1, at);
-        at -= 1;
-    }
-    at
+    let index = index_for(by_mask, order, place as usize);
+    let Ok(()) = order.insert(index, place) else {
+        unreachable!()
+    };
 }
 
-/// Moves the subtable at a place behind those that have a greater priority than it, where none before it has a less one.
-fn lower(subtables: &mut [Subtable], place: usize)
-    requires { place < length subtables.old }
-    ensures rules { (rs : List Rule)
-        → AreSubtablesOf subtables.old rs → AreSubtablesOf subtables.new rs }
-    ensures length { length subtables.new ≡ length subtables.old }
-    ensures falling { IsFallingBut place subtables.old → Precede place subtables.old
-        → IsFalling subtables.new }
+/// Takes the place of a subtable out, and has the last one take its place, as the map does. It takes no memory.
+pub(crate) fn leave(order: &mut Vec<u32>, place: usize, last: usize)
+    requires order { IsOrderOf (last + 1) order.old.items }
+    requires within { place ≤ last }
+    ensures order { IsOrderOf last order.new.items }
+    ensures falling { (ss : List Subtable) (d : Subtable) → length ss ≡ last + 1
+        → IsFallingBut place ss order.old.items
+        → IsFallingAlong (swap_remove ss place d) order.new.items }
 {
-    let mut at = place;
-    'subtables: while is_below_next(subtables, at) {
-        subtables.swap(at, at + 1);
-        at += 1;
+    let freed = order.remove(position_of(order, place));
+    if place < last {
+        let index = position_of(order, last);
+        order[index] = freed;
     }
 }
 
-/// Whether the subtable at a place has a greater priority than the one before it, if there is one.
-fn is_above_last(subtables: &[Subtable], at: usize) -> bool
-    requires { at < length subtables.now }
-    ensures above { IsTrue result → (0 < at) × AreTurned at subtables.now }
-    ensures not_above { IsFalse result → 0 < at → AreOrdered at subtables.now }
+/// Where in the order a subtable belongs: before the first that has no priority as great as its greatest.
+fn index_for(by_mask: &ByMask, order: &[u32], place: usize) -> usize
+    requires places { AreWithin (index_map_len by_mask.now) order.now }
+    requires within { place < index_map_len by_mask.now }
+    ensures bound { result ≤ length order.now }
+    ensures before { IsFallingAlong (values by_mask.now) order.now → (i p : ℕ) (s t : Subtable)
+        → i < result → slice_get order.now i ≡ Some p
+        → slice_get (values by_mask.now) p ≡ Some s → slice_get (values by_mask.now) place ≡ Some t
+        → IsNotBelow s.indexes t.indexes }
+    ensures behind { IsFallingAlong (values by_mask.now) order.now → (i p : ℕ) (s t : Subtable)
+        → result ≤ i → slice_get order.now i ≡ Some p
+        → slice_get (values by_mask.now) p ≡ Some s → slice_get (values by_mask.now) place ≡ Some t
+        → IsNotBelow t.indexes s.indexes }
 {
-    if at == 0 {
-        return false;
+    let mut low = 0;
+    let mut high = order.len();
+    'halves: while low < high {
+        let middle = low + (high - low) / 2;
+        if is_above(by_mask, place, order[middle] as usize) {
+            high = middle;
+        } else {
+            low = middle + 1;
+        }
     }
-    subtables[at].indexes.is_above(&subtables[at - 1].indexes)
+    low
 }
 
-/// Whether the subtable behind a place, if there is one, has a greater priority than the one at the place.
-fn is_below_next(subtables: &[Subtable], at: usize) -> bool
-    requires { at < length subtables.now }
-    ensures below { IsTrue result → (at + 1 < length subtables.now) × AreTurned (at + 1) subtables.now }
-    ensures not_below { IsFalse result
-        → at + 1 < length subtables.now → AreOrdered (at + 1) subtables.now }
+/// Whether the subtable at one place has a greater priority than that at another.
+fn is_above(by_mask: &ByMask, place: usize, other: usize) -> bool
+    requires within { place < index_map_len by_mask.now }
+    requires other_within { other < index_map_len by_mask.now }
+    ensures above { IsTrue result → (s t : Subtable)
+        → slice_get (values by_mask.now) place ≡ Some s → slice_get (values by_mask.now) other ≡ Some t
+        → IsNotBelow s.indexes t.indexes }
+    ensures not_above { IsFalse result → (s t : Subtable)
+        → slice_get (values by_mask.now) place ≡ Some s → slice_get (values by_mask.now) other ≡ Some t
+        → IsNotBelow t.indexes s.indexes }
 {
-    if at + 1 >= subtables.len() {
-        return false;
+    by_mask[place].indexes.is_above(&by_mask[other].indexes)
+}
+
+/// Where in the order a place stands, which it has.
+fn position_of(order: &[u32], place: usize) -> usize
+    requires { 0 < times place order.now }
+    ensures { slice_get order.now result ≡ Some place }
+{
+    'places: for i in 0..order.len() {
+        if order[i] as usize == place {
+            return i;
+        }
     }
-    is_above_last(subtables, at + 1)
+    unreachable!()
 }

@@ -11,6 +11,7 @@ ghost use Rattle.staged_lookup.specs.Subtables.{HasNoRule};
 ghost use Rattle.translation_laws.specs.Members.{Among};
 
 use crate::indexes::Indexes;
+use indexmap::IndexMap;
 use ovs_fields::{Key, Mask};
 use rule_tables::Match;
 use staged_lookup::Rank;
@@ -22,6 +23,9 @@ pub(crate) struct Subtable {
     pub(crate) staged: staged_lookup::Subtable,
     pub(crate) indexes: Indexes,
 }
+
+/// The subtable of each mask.
+pub(crate) type ByMask = IndexMap<Mask, Subtable>;
 
 impl Subtable {
     ghost use Rattle.tuple_classifier.specs.Subtables.{IsSubtableOf, Holds};

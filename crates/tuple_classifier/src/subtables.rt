@@ -1,6 +1,7 @@
-ghost use Rattle.std.specs.Prelude.{◌≡◌, ◌<◌, ◌==◌, ◌&&◌, ◌++◌, [], ◌∷◌, ℕ, List, true, false, length, slice_get, Some, IfSome, IfOk, IsNone, OnOk, OnErr};
+ghost use Rattle.std.specs.Prelude.{◌≡◌, ◌<◌, ◌==◌, ◌&&◌, ◌++◌, [], ◌∷◌, ℕ, List, true, false, length, slice_get, Some, None, IfSome, IsNone, IfOk, OnOk, OnErr};
 ghost use Rattle.std.specs.List.{find};
 ghost use Rattle.std.specs.Option.{option_map};
+ghost use Rattle.indexmap.specs.IndexMap.{values, index_map_len, get_by};
 ghost use Rattle.spec_keys.specs.Keys.{same};
 ghost use Rattle.spec_tables.specs.Rules.{Rule, is_same_match};
 ghost use Rattle.ovs_fields.specs.Packed.{bits};
@@ -8,70 +9,177 @@ ghost use Rattle.rule_tables.specs.Views.{match_view};
 ghost use Rattle.staged_lookup.specs.Numbered.{AreDistinct, without};
 ghost use Rattle.staged_lookup.specs.Ranks.{rank_of};
 ghost use Rattle.staged_lookup.specs.Subtables.{HasNoRule};
-ghost use Rattle.tuple_classifier.specs.Order.{AreRankedOf, IsFallingBut};
-ghost use Rattle.tuple_classifier.specs.Parts.{AreSubtablesOf, IsSubtableOfOne};
+ghost use Rattle.tuple_classifier.specs.Order.{IsFallingBut};
+ghost use Rattle.tuple_classifier.specs.Parts.{AreSubtablesOf, IsSubtableOfOne, of_mask};
+ghost use Rattle.tuple_classifier.specs.Placed.{AreKeyed, IsOrderOf};
 ghost use Rattle.tuple_classifier.specs.Subtables.{Holds};
 ghost use Rattle.tuple_classifier.specs.declared.subtable.Subtable.{Subtable};
 ghost use Rattle.translation_laws.specs.Members.{Among};
 
-use crate::order::put_in_order;
-use crate::subtable::Subtable;
+use crate::order::{enter, leave, settle};
+use crate::subtable::{ByMask, Subtable};
+use indexmap::IndexMap;
 use ovs_fields::Mask;
 use rule_tables::Match;
 use staged_lookup::Rank;
 use std::alloc::{AllocError, Global};
 
-/// Adds a rule to the subtables of a table, none of which has a rule of its number. The only error is out of memory, and
-/// then they have the same rules.
-pub(crate) fn insert_rule(
-    alloc: Global,
-    subtables: &mut Vec<Subtable>,
-    matching: &Match,
-    rank: Rank,
-) -> Result<(), AllocError>
-    requires { (i : ℕ) (s : Subtable) → slice_get subtables.old.items i ≡ Some s
-        → HasNoRule rank.number s.staged }
-    ensures ok { OnOk result
-        ((rs : List Rule) (r : Rule) → AreRankedOf subtables.old.items rs
-        → r.matching ≡ match_view matching.now → rank_of r ≡ rank
-        → AreRankedOf subtables.new.items (rs ++ r ∷ [])) }
-    ensures err { OnErr result
-        ((rs : List Rule) → AreRankedOf subtables.old.items rs
-        → AreRankedOf subtables.new.items rs) }
-{
-    let place = add_rule(alloc, subtables, matching, rank)?;
-    put_in_order(subtables, place);
-    Ok(())
+/// The subtables of a table.
+#[derive(Drop)]
+pub(crate) struct Subtables {
+    pub(crate) by_mask: ByMask,
+    /// Their places in the map, in the order in which lookups go over them.
+    pub(crate) order: Vec<u32>,
+    pub ghost keyed: { AreKeyed by_mask.entries },
+    pub ghost placed: { IsOrderOf (index_map_len by_mask) order.items },
 }
 
-/// Adds a rule to the subtable of its mask, and tells where that is. It may not stand in order then.
-fn add_rule(
-    alloc: Global,
-    subtables: &mut Vec<Subtable>,
-    matching: &Match,
-    rank: Rank,
-) -> Result<usize, AllocError>
-    requires { (i : ℕ) (s : Subtable) → slice_get subtables.old.items i ≡ Some s
-        → HasNoRule rank.number s.staged }
-    ensures within { IfOk result (λ place. place < length subtables.new.items) }
-    ensures ok { IfOk result
-        (λ place. (rs : List Rule) (r : Rule) → AreRankedOf subtables.old.items rs
-        → r.matching ≡ match_view matching.now → rank_of r ≡ rank
-        → AreSubtablesOf subtables.new.items (rs ++ r ∷ [])
-        × IsFallingBut place subtables.new.items) }
-    ensures err { OnErr result
-        ((rs : List Rule) → AreRankedOf subtables.old.items rs
-        → AreRankedOf subtables.new.items rs) }
-{
-    match place_of_mask(subtables, &matching.mask) {
-        Some(place) => {
-            subtables[place].insert(matching, rank)?;
-            Ok(place)
+impl Subtables {
+    ghost use Rattle.tuple_classifier.specs.Kept.{AreKeptOf, by_place, ranked};
+
+    /// None. It takes no memory.
+    pub(crate) fn new(alloc: Global) -> Subtables
+        ensures { AreKeptOf result [] }
+    {
+        Subtables {
+            by_mask: IndexMap::new(alloc),
+            order: Vec::new(alloc),
         }
-        None => {
-            let subtable = one_rule(alloc, matching, rank)?;
-            subtables.push(subtable)?;
-            Ok(subtables.len() - 1)
+    }
+
+    /// How many there are.
+    pub(crate) fn len(&self) -> usize
+        ensures { result ≡ length (ranked self.now) }
+    {
+        self.order.len()
+    }
+
+    /// The one that a lookup comes to after so many others.
+    pub(crate) fn at(&self, index: usize) -> &Subtable
+        requires { index < length (ranked self.now) }
+        ensures { slice_get (ranked self.now) index ≡ Some result.now }
+    {
+        &self.by_mask[self.order[index] as usize]
+    }
+
+    /// Adds a rule, whose number none of them has. The only error is out of memory, and then they have the same rules.
+    pub(crate) fn insert(
+        &mut self,
+        alloc: Global,
+        matching: &Match,
+        rank: Rank,
+    ) -> Result<(), AllocError>
+        requires { (i : ℕ) (s : Subtable) → slice_get (by_place self.old) i ≡ Some s
+            → HasNoRule rank.number s.staged }
+        ensures ok { OnOk result
+            ((rs : List Rule) (r : Rule) → AreKeptOf self.old rs
+            → r.matching ≡ match_view matching.now → rank_of r ≡ rank
+            → AreKeptOf self.new (rs ++ r ∷ [])) }
+        ensures err { OnErr result
+            ((rs : List Rule) → AreKeptOf self.old rs → AreKeptOf self.new rs) }
+    {
+        match place_of_mask(&self.by_mask, &matching.mask) {
+            Some(place) => self.insert_at(place, matching, rank),
+            None => self.insert_new(alloc, matching, rank),
+        }
+    }
+
+    /// Adds a rule to the subtable of its mask, which is at a place.
+    fn insert_at(&mut self, place: usize, matching: &Match, rank: Rank) -> Result<(), AllocError>
+        requires within { place < index_map_len self.old.by_mask }
+        requires mask { (s : Subtable) → slice_get (by_place self.old) place ≡ Some s
+            → same (bits s.staged.mask) (bits matching.now.mask) ≡ true }
+        requires new { (s : Subtable) → slice_get (by_place self.old) place ≡ Some s
+            → HasNoRule rank.number s.staged }
+        ensures ok { OnOk result
+            ((rs : List Rule) (r : Rule) → AreKeptOf self.old rs
+            → r.matching ≡ match_view matching.now → rank_of r ≡ rank
+            → AreKeptOf self.new (rs ++ r ∷ [])) }
+        ensures err { OnErr result
+            ((rs : List Rule) → AreKeptOf self.old rs → AreKeptOf self.new rs) }
+    {
+        let before = self.by_mask[place].indexes.greatest();
+        self.by_mask[place].insert(matching, rank)?;
+        settle(&self.by_mask, &mut self.order, place, before);
+        Ok(())
+    }
+
+    /// Adds a rule whose mask none of them has.
+    fn insert_new(&mut self, alloc: Global, matching: &Match, rank: Rank) -> Result<(), AllocError>
+        requires absent { get_by (λ m. same (bits matching.now.mask) (bits m)) self.old.by_mask ≡ None }
+        requires none { (i : ℕ) (s : Subtable) → slice_get (by_place self.old) i ≡ Some s
+            → same (bits s.staged.mask) (bits matching.now.mask) ≡ false }
+        ensures ok { OnOk result
+            ((rs : List Rule) (r : Rule) → AreKeptOf self.old rs
+            → r.matching ≡ match_view matching.now → rank_of r ≡ rank
+            → AreKeptOf self.new (rs ++ r ∷ [])) }
+        ensures err { OnErr result
+            ((rs : List Rule) → AreKeptOf self.old rs → AreKeptOf self.new rs) }
+    {
+        let Ok(place) = u32::try_from(self.by_mask.len()) else {
+            return Err(AllocError);
+        };
+        let subtable = one_rule(alloc, matching, rank)?;
+        self.order.reserve(1)?;
+        self.by_mask.insert(matching.mask, subtable)?;
+        enter(&self.by_mask, &mut self.order, place);
+        Ok(())
+    }
+
+    /// Takes a rule out, and its mask with the last rule. It takes no memory.
+    pub(crate) fn take(&mut self, matching: &Match, rank: Rank)
+        requires { (i : ℕ) (s : Subtable) → slice_get (by_place self.old) i ≡ Some s
+            → same (bits s.staged.mask) (bits matching.now.mask) ≡ true → Holds s rank }
+        ensures { (rs : List Rule) (r : Rule) → AreKeptOf self.old rs → AreDistinct rs
+            → Among r rs → r.matching ≡ match_view matching.now → rank_of r ≡ rank
+            → AreKeptOf self.new (without r.number rs) }
+    {
+        if let Some(place) = place_of_mask(&self.by_mask, &matching.mask) {
+            self.take_at(place, rank);
+        }
+    }
+
+    /// Takes a rule of the mask of the subtable at a place out, and the subtable with its last rule.
+    fn take_at(&mut self, place: usize, rank: Rank)
+        requires within { place < index_map_len self.old.by_mask }
+        requires holds { (s : Subtable) → slice_get (by_place self.old) place ≡ Some s → Holds s rank }
+        ensures { (rs : List Rule) (r : Rule) (s : Subtable) → AreKeptOf self.old rs → AreDistinct rs
+            → Among r rs → rank_of r ≡ rank → slice_get (by_place self.old) place ≡ Some s
+            → same (bits s.staged.mask) r.matching.mask ≡ true
+            → AreKeptOf self.new (without r.number rs) }
+    {
+        let before = self.by_mask[place].indexes.greatest();
+        self.by_mask[place].take(rank);
+        if self.by_mask[place].is_empty() {
+            self.drop_at(place);
+        } else {
+            settle(&self.by_mask, &mut self.order, place, before);
+        }
+    }
+
+    /// Drops the subtable at a place, which has no rules.
+    fn drop_at(&mut self, place: usize)
+        requires { place < index_map_len self.old.by_mask }
+        ensures { (rs : List Rule) → AreSubtablesOf (by_place self.old) rs
+            → IsFallingBut place (by_place self.old) self.old.order.items
+            → ((s : Subtable) → slice_get (by_place self.old) place ≡ Some s
+            → of_mask (bits s.staged.mask) rs ≡ [])
+            → AreKeptOf self.new rs }
+    {
+        leave(&mut self.order, place, self.by_mask.len() - 1);
+        self.by_mask.swap_remove_index(place);
+    }
+
+    /// The number of the rule with this match and priority.
+    pub(crate) fn find(&self, matching: &Match, priority: u16) -> Option<u32>
+        ensures { (rs : List Rule) → AreSubtablesOf (by_place self.now) rs
+            → result ≡ option_map (λ r. r.number)
+            (find (λ r. (r.priority == priority) && is_same_match r.matching
+            (match_view matching.now)) rs) }
+    {
+        match place_of_mask(&self.by_mask, &matching.mask) {
+            Some(place) => self.by_mask[place].find(&matching.key, priority),
+            None => None,
         }
     }
 }
@@ -85,60 +193,16 @@ fn one_rule(alloc: Global, matching: &Match, rank: Rank) -> Result<Subtable, All
     Ok(subtable)
 }
 
-/// Takes a rule out of the subtables of a table, and its mask with the last rule. It takes no memory.
-pub(crate) fn take_rule(subtables: &mut Vec<Subtable>, matching: &Match, rank: Rank)
-    requires { (i : ℕ) (s : Subtable) → slice_get subtables.old.items i ≡ Some s
-        → same (bits s.staged.mask) (bits matching.now.mask) ≡ true → Holds s rank }
-    ensures { (rs : List Rule) (r : Rule) → AreRankedOf subtables.old.items rs → AreDistinct rs
-        → Among r rs → r.matching ≡ match_view matching.now → rank_of r ≡ rank
-        → AreRankedOf subtables.new.items (without r.number rs) }
-{
-    if let Some(place) = place_of_mask(subtables, &matching.mask) {
-        subtables[place].take(rank);
-        settle(subtables, place);
-    }
-}
-
-/// Drops the subtable at a place, if it has no rules, and else moves it to where it belongs.
-fn settle(subtables: &mut Vec<Subtable>, place: usize)
-    requires { place < length subtables.old.items }
-    ensures { (rs : List Rule) → AreSubtablesOf subtables.old.items rs
-        → IsFallingBut place subtables.old.items → AreRankedOf subtables.new.items rs }
-{
-    if subtables[place].is_empty() {
-        subtables.remove(place);
-    } else {
-        put_in_order(subtables, place);
-    }
-}
-
-/// The number of the rule with this match and priority.
-pub(crate) fn find_rule(subtables: &[Subtable], matching: &Match, priority: u16) -> Option<u32>
-    ensures { (rs : List Rule) → AreSubtablesOf subtables.now rs
-        → result ≡ option_map (λ r. r.number)
-        (find (λ r. (r.priority == priority) && is_same_match r.matching
-        (match_view matching.now)) rs) }
-{
-    match place_of_mask(subtables, &matching.mask) {
-        Some(place) => subtables[place].find(&matching.key, priority),
-        None => None,
-    }
-}
-
 /// The place of the subtable of a mask.
-fn place_of_mask(subtables: &[Subtable], mask: &Mask) -> Option<usize>
+fn place_of_mask(by_mask: &ByMask, mask: &Mask) -> Option<usize>
+    requires { AreKeyed by_mask.now.entries }
     ensures some { IfSome result
-        (λ i. (i < length subtables.now)
-        × ((s : Subtable) → slice_get subtables.now i ≡ Some s
+        (λ i. (i < index_map_len by_mask.now)
+        × ((s : Subtable) → slice_get (values by_mask.now) i ≡ Some s
         → same (bits s.staged.mask) (bits mask.now) ≡ true)) }
-    ensures none { IsNone result → (i : ℕ) (s : Subtable) → slice_get subtables.now i ≡ Some s
+    ensures none { IsNone result → (i : ℕ) (s : Subtable) → slice_get (values by_mask.now) i ≡ Some s
         → same (bits s.staged.mask) (bits mask.now) ≡ false }
+    ensures absent { IsNone result → get_by (λ m. same (bits mask.now) (bits m)) by_mask.now ≡ None }
 {
-    'subtables: for i in 0..subtables.len() {
-        let subtable = &subtables[i];
-        if *subtable.staged.mask() == *mask {
-            return Some(i);
-        }
-    }
-    None
+    by_mask.get_index_of(mask)
 }

@@ -13,8 +13,7 @@ ghost use Rattle.staged_lookup.specs.Subtables.{HasNoRule};
 ghost use Rattle.tuple_classifier.specs.declared.subtable.Subtable.{Subtable};
 
 use crate::lookup::look;
-use crate::subtable::Subtable;
-use crate::subtables::{find_rule, insert_rule, take_rule};
+use crate::subtables::Subtables;
 use address_prefixes::AddressPrefixes;
 use ovs_fields::{Key, Mask};
 use rule_tables::Match;
@@ -26,11 +25,12 @@ use std::alloc::{AllocError, Global};
 pub(crate) struct Table {
     /// The prefixes of the addresses that they state.
     pub(crate) prefixes: AddressPrefixes,
-    /// Those of each mask, by falling greatest priority.
-    pub(crate) subtables: Vec<Subtable>,
+    /// Those of each mask.
+    pub(crate) subtables: Subtables,
 }
 
 impl Table {
+    ghost use Rattle.tuple_classifier.specs.Kept.{by_place};
     ghost use Rattle.tuple_classifier.specs.Tables.{IsTableOf, HasRuleOf};
 
     /// No rules. It takes no memory.
@@ -39,7 +39,7 @@ impl Table {
     {
         Table {
             prefixes: AddressPrefixes::new(alloc),
-            subtables: Vec::new(alloc),
+            subtables: Subtables::new(alloc),
         }
     }
 
@@ -51,7 +51,7 @@ impl Table {
         matching: &Match,
         rank: Rank,
     ) -> Result<(), AllocError>
-        requires new { (i : ℕ) (s : Subtable) → slice_get self.old.subtables.items i ≡ Some s
+        requires new { (i : ℕ) (s : Subtable) → slice_get (by_place self.old.subtables) i ≡ Some s
             → HasNoRule rank.number s.staged }
         requires few { (rs : List Rule) × (AreOf self.old.prefixes rs) × (length rs + 1 < 2 ^ 32) }
         ensures ok { OnOk result
@@ -62,7 +62,7 @@ impl Table {
             ((rs : List Rule) → IsTableOf self.old rs → IsTableOf self.new rs) }
     {
         self.prefixes.insert(matching)?;
-        match insert_rule(alloc, &mut self.subtables, matching, rank) {
+        match self.subtables.insert(alloc, matching, rank) {
             Ok(()) => Ok(()),
             Err(error) => {
                 self.prefixes.remove(matching);
@@ -78,7 +78,7 @@ impl Table {
             → Among r rs → r.matching ≡ match_view matching.now → rank_of r ≡ rank
             → IsTableOf self.new (without r.number rs) }
     {
-        take_rule(&mut self.subtables, matching, rank);
+        self.subtables.take(matching, rank);
         self.prefixes.remove(matching);
     }
 
@@ -89,7 +89,7 @@ impl Table {
             (find (λ r. (r.priority == priority) && is_same_match r.matching
             (match_view matching.now)) rs) }
     {
-        find_rule(&self.subtables, matching, priority)
+        self.subtables.find(matching, priority)
     }
 
     /// The number of the winner for a key. The bits that the lookup consults are added.

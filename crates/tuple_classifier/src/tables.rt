@@ -21,8 +21,7 @@ use std::marker::Model;
 /// The rules of one version of the tables, by their masks.
 #[derive(Drop)]
 pub struct Tables {
-    /// The rules of each table, by their masks. They stand first, since the search for `Send` goes down a step for each
-    /// field before the one that it is at.
+    /// The rules of each table, by their masks.
     tables: Vec<Table>,
     /// The live rules, in the order of their numbers.
     live: Vec<Box<LiveRule>>,

@@ -2,10 +2,11 @@ use Rattle.std.proofs.Common.{List}
 use Rattle.spec_tables.specs.Rules.{Rule}
 use Rattle.ovs_fields.specs.Packed.{numbers, bits}
 use Rattle.address_prefixes.specs.Addresses.{AreOf, AreKnown}
+use Rattle.tuple_classifier.specs.Kept.{ranked}
 use Rattle.tuple_classifier.specs.Order.{AreRankedOf}
 use Rattle.tuple_classifier.proofs.PassLaws.{IsPassed}
 use Rattle.tuple_classifier.proofs.lookup.look.Given as goal
 
 abbrev pub invariant-subtables : goal.invariant-subtables
-invariant-subtables l = (rs : List Rule) → AreRankedOf l.subtables rs → AreOf l.prefixes rs →
-    AreKnown l.known (numbers l.key) rs × IsPassed (numbers l.key) (bits l.fn.consulted) rs l.subtables l.i l.best (bits l.consulted)
+invariant-subtables l = (rs : List Rule) → AreRankedOf (ranked l.subtables) rs → AreOf l.prefixes rs →
+    AreKnown l.known (numbers l.key) rs × IsPassed (numbers l.key) (bits l.fn.consulted) rs (ranked l.subtables) l.i l.best (bits l.consulted)

@@ -6,11 +6,11 @@ use Rattle.tuple_classifier.proofs.TableLaws.{rule_with}
 use Rattle.tuple_classifier.proofs.table.Table.insert.Goals as goal
 
 pub returns-in_err-insert-clause-err : goal.returns-in_err-insert-clause-err
-returns-in_err-insert-clause-err c = on_err_always c.from_residual.result _ (λ rs are. record { ranked = are.ranked; prefixed = c.in_err-insert.ensures.err rs are.prefixed })
+returns-in_err-insert-clause-err c = on_err_always c.from_residual.result _ (λ rs are. record { kept = are.kept; prefixed = c.in_err-insert.ensures.err rs are.prefixed })
 
 pub returns-in-Ok-clause-ok : goal.returns-in-Ok-clause-ok
 returns-in-Ok-clause-ok c rs r are is of_rank = record {
-  ranked = c.in-Ok.ensures.ok rs r are.ranked is of_rank;
+  kept = c.in-Ok.ensures.ok rs r are.kept is of_rank;
   prefixed = c.in_ok-insert.ensures.ok rs (rs ++ r ∷ []) r are.prefixed is (λ p. count-one_more p rs r);
 }
 
@@ -24,6 +24,6 @@ pub returns-in-Err-clause-err : goal.returns-in-Err-clause-err
 returns-in-Err-clause-err c rs are =
     let r = rule_with c.args.matching.now in
     record {
-      ranked = c.in-Err.ensures.err rs are.ranked;
+      kept = c.in-Err.ensures.err rs are.kept;
       prefixed = c.remove.ensures (rs ++ r ∷ []) rs r (c.in_ok-insert.ensures.ok rs (rs ++ r ∷ []) r are.prefixed refl (λ p. count-one_more p rs r)) refl (λ p. count-one_more p rs r);
     }

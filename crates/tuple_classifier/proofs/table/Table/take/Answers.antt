@@ -9,10 +9,10 @@ use Rattle.tuple_classifier.proofs.Places.{turned}
 use Rattle.tuple_classifier.proofs.TableLaws.{among_part}
 use Rattle.tuple_classifier.proofs.table.Table.take.Goals as goal
 
-pub take_rule-requires : goal.take_rule-requires
-take_rule-requires c i s at same_mask =
+pub take-requires : goal.take-requires
+take-requires c i s at same_mask =
     let has = c.requires in
-    has_rule s c.args.rank (of_mask (bits s.staged.mask) has.rules) has.rule (has.are.ranked.subtables.each i s at)
+    has_rule s c.args.rank (of_mask (bits s.staged.mask) has.rules) has.rule (has.are.kept.subtables.each i s at)
     (among_part (bits s.staged.mask) has.rules has.rule has.among (ap (λ k. same k (bits s.staged.mask)) (ap (λ m. m.mask) has.matching_is) ∙ turned (bits s.staged.mask) (bits c.args.matching.now.mask) true same_mask)) has.rank_is
 
 pub remove-requires : goal.remove-requires
@@ -20,6 +20,6 @@ remove-requires c = let has = c.requires in (has.rules, has.rule, has.are.prefix
 
 pub returns : goal.returns
 returns c rs r are distinct m is of_rank = record {
-  ranked = c.take_rule.ensures rs r are.ranked distinct m is of_rank;
+  kept = c.take.ensures rs r are.kept distinct m is of_rank;
   prefixed = c.remove.ensures rs (without r.number rs) r are.prefixed is (λ p. sym (count-without p r rs m distinct));
 }
