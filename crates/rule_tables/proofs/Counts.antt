@@ -1,5 +1,5 @@
 -- Counts of the elements that pass a test.
-use Rattle.std.proofs.Common.{◌≡◌, ℕ, zero, suc, ◌+◌, Bool, true, false, cond, ◌||◌, List, [], ◌∷◌, Option, Some, None, refl, sym, ap, ap₂, ◌∙◌, arith, inl, inr, zero-add}
+use Rattle.std.proofs.Common.{◌≡◌, ℕ, zero, suc, ◌+◌, ◌≤◌, Bool, true, false, cond, ◌||◌, List, [], ◌∷◌, take, Option, Some, None, refl, sym, ap, ap₂, ◌∙◌, arith, inl, inr, zero-add}
 use Rattle.std.specs.Prelude.{slice_get, count_by}
 use Rattle.std.specs.Int.{from_bool}
 use Rattle.std.specs.List.{filter_map, cons_option, list_any}
@@ -42,6 +42,13 @@ count_one q (z ∷ zs) (suc place) x at passes others =
     count_by-cons q z zs
     ∙ ap₂ (λ (b : Bool) (n : ℕ). cond b 1 0 + n) (others 0 z refl (λ e. omega arith))
     (count_one q zs place x at passes (λ i y there apart. others (suc i) y there (λ e. apart (omega arith))))
+
+pub count_by-take : {A : Type 0} (q : A → Bool) (n : ℕ) (xs : List A) → count_by q (take n xs) ≤ count_by q xs
+count_by-take q zero xs = omega arith
+count_by-take q (suc n) [] = omega arith
+count_by-take q (suc n) (x ∷ xs) =
+    let rest : count_by q (take n xs) ≤ count_by q xs = count_by-take q n xs in
+    omega (arith, count_by-cons q x (take n xs), count_by-cons q x xs)
 
 -- whether some element passes, by how many do
 pub any_counted : {A : Type 0} (p : A → Bool) (xs : List A) (b : Bool) → count_by p xs ≡ cond b 1 0 → list_any p xs ≡ b

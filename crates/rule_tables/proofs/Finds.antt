@@ -1,16 +1,19 @@
 -- The places that are found by identities, as rules come and go.
-use Rattle.std.proofs.Common.{◌≡◌, ℕ, ◌<◌, Bool, true, false, cond, ◌&&◌, ◌==◌, List, [], ◌∷◌, ◌++◌, length, Option, Some, None, refl, sym, ap, ap₂, ◌∙◌, subst, arith, inl, inr, length-append}
+use Rattle.std.proofs.Common.{◌≡◌, ℕ, ◌<◌, Bool, true, false, cond, ◌&&◌, ◌==◌, List, [], ◌∷◌, ◌++◌, length, Option, Some, None, refl, sym, ap, ap₂, ◌∙◌, subst, arith, inl, inr, length-append, eq-eqb}
 use Rattle.std.specs.Prelude.{slice_get, is_some, if◌then◌else◌, count_by, map, not}
 use Rattle.std.specs.Map.{lookup}
-use Rattle.std.proofs.lemmas.Bool.{cases_Bool, false_from_ne_true, both_ways, cond-true, cond-false}
+use Rattle.std.proofs.lemmas.Bool.{cases_Bool, false≢true, false_from_ne_true, both_ways, eqb-true, cond-true, cond-false}
 use Rattle.std.proofs.lemmas.Option.{none-some, same_Some, slice_get_within, slice_get_cases}
+use Rattle.spec_tables.specs.declared.edit_word.EditWord.{EditWord}
+use Rattle.spec_tables.specs.declared.edit_word.EditWord.TheVariants.{Add, Modify, ModifyStrict, Delete, DeleteStrict}
 use Rattle.spec_tables.specs.Rules as tables
 use Rattle.spec_tables.specs.Edits.{Edit, is_named_by, table_of}
 use Rattle.rule_tables.specs.declared.identity.RuleIdentity.{RuleIdentity}
 use Rattle.rule_tables.specs.declared.rule.Rule.{Rule}
 use Rattle.rule_tables.specs.declared.stored.StoredRule.{StoredRule}
 use Rattle.rule_tables.specs.Views.{match_view, rule_view}
-use Rattle.rule_tables.specs.Stored.{picks, acts_on, ended, with_end, ended_by, identity_of, is_same_identity, AreFound}
+use Rattle.rule_tables.specs.Givings.{is_place}
+use Rattle.rule_tables.specs.Stored.{is_modify, picks, acts_on, ended, with_end, ended_by, identity_of, is_same_identity, AreFound}
 use Rattle.rule_tables.proofs.Counts.{count_none, count_one}
 use Rattle.rule_tables.proofs.Endings.{follows_is}
 use Rattle.rule_tables.proofs.Ends.{length-ended, length-with_end, ended_cases, with_end_cases}
@@ -99,6 +102,14 @@ module _ (xs : List StoredRule) (find : RuleIdentity → Option ℕ) (found : Ar
 
 -- ---- the rule that an edit names
 
+-- a modify that is not loose is strict
+pub strict_modify : (word : EditWord) → is_modify word ≡ true → (word ≡ Modify → ⊥) → word ≡ ModifyStrict
+strict_modify Add is other = absurd (false≢true is)
+strict_modify Modify is other = absurd (other refl)
+strict_modify ModifyStrict is other = refl
+strict_modify Delete is other = absurd (false≢true is)
+strict_modify DeleteStrict is other = absurd (false≢true is)
+
 -- this is the identity that an edit names, and the edit picks by name
 pub record IsNamed (e : Edit) (identity : RuleIdentity) : Type 0 where
   pub strict : (r : Rule) → picks e r ≡ is_named_by e (rule_view r [])
@@ -150,6 +161,18 @@ module _ (xs : List StoredRule) (find : RuleIdentity → Option ℕ) (found : Ar
         | inl on ↦ ap (λ (o : Option ℕ). not (is_some o) && picks e x.rule) on ∙ picked_other i x at on other
         | inr (gone, ends) ↦ ap (λ (o : Option ℕ). not (is_some o) && picks e x.rule) ends
       ]
+
+  -- it acts on the one that stands where the identity leads
+  pub acts_where_found : (i : ℕ) (x : StoredRule) → slice_get xs i ≡ Some x → is_place (find identity) i ≡ acts_on e x
+  acts_where_found i x at = by (find identity) refl
+    where
+      by : (o : Option ℕ) → find identity ≡ o → is_place o i ≡ acts_on e x
+      by None is = sym (idle i x at (λ some. none-some i (sym is ∙ some)))
+      by (Some place) is =
+          elim (cases_Bool (place == i)) [
+            | inl here ↦ here ∙ sym (acts i x at (is ∙ ap (λ (k : ℕ). Some k) (eqb-true place i here)))
+            | inr other ↦ other ∙ sym (idle i x at (λ some. both_ways (place == i) other (eq-eqb place i (same_Some place i (sym is ∙ some)))))
+          ]
 
   -- it acts on one rule, or on none
   pub count_named : (old : Option ℕ) → old ≡ find identity → count_by (acts_on e) xs ≡ (if is_some old then 1 else 0)

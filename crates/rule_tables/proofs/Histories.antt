@@ -52,7 +52,7 @@ pub no_rules_past : (n changes v : ℕ) (rules : ℕ → List Rule) → n + 1 �
 no_rules_past n changes v rules past = get_or_past (versions_to n rules) v [] (omega (arith, length-versions_to n rules))
 
 -- versions that are alike up to one
-same_versions : (n : ℕ) (f g : ℕ → List Rule) → ((v : ℕ) → v ≤ n → g v ≡ f v) → versions_to n g ≡ versions_to n f
+pub same_versions : (n : ℕ) (f g : ℕ → List Rule) → ((v : ℕ) → v ≤ n → g v ≡ f v) → versions_to n g ≡ versions_to n f
 same_versions n f g alike = to (n + 1) (omega arith)
   where
     to : (k : ℕ) → k ≤ n + 1 → map g (range_with_len 0 k) ≡ map f (range_with_len 0 k)

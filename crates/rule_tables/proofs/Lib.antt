@@ -5,8 +5,11 @@ mod Endings
 mod Ends
 mod FilterMaps
 mod Finds
+mod GivingLog
+mod GivingSteps
 pub mod Histories
 mod Identities
+mod Led
 mod Lives
 mod Modified
 mod Numbered

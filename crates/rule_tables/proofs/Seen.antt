@@ -17,7 +17,7 @@ use Rattle.rule_tables.proofs.Modified.{as_added}
 use Rattle.rule_tables.proofs.Numbered.{rule_numbered-rules_at}
 
 -- where the stored rule of a number stands
-numbered_there : (number : ℕ) (xs : List StoredRule) (s : StoredRule) → Some s ≡ stored_numbered number xs → (i : ℕ) × (slice_get xs i ≡ Some s) × (s.rule.number ≡ number)
+pub numbered_there : (number : ℕ) (xs : List StoredRule) (s : StoredRule) → Some s ≡ stored_numbered number xs → (i : ℕ) × (slice_get xs i ≡ Some s) × (s.rule.number ≡ number)
 numbered_there number [] s is = absurd (none-some s (sym is))
 numbered_there number (x ∷ xs) s is =
     elim (cases_Bool (x.rule.number == number)) [

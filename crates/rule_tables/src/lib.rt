@@ -28,10 +28,11 @@
 //! live from the version of that number on, up to the first version without it. The stored rules stand in the order of
 //! their numbers, which have gaps where edits add nothing; a number is found by binary search.
 //!
-//! Each modify is kept once as well, as a *modification*: its version and its edit. A rule is given the modifications that
-//! were made since it was added and that pick it. In a version it has the actions of the last one that it was given by
-//! then, and the cookie of the last one that has a cookie. So a modify takes memory for itself alone, however many rules
-//! it reaches, and thousands of modifies of thousands of rules don't take memory by the square.
+//! Each modify is kept once as well, as a *modification*: its version and its edit. That a rule was given one is a
+//! *giving* in a log: which modification it is, and where the giving before it of the same rule stands. A rule leads to
+//! its last one, so what it was given is found along the log, the newest first, past all that other rules were given. In a
+//! version it has the actions of the first of these that isn't later, and the cookie of the first from there on that has
+//! one. A modify only acts on rules that are live, so a rule that is gone is given nothing more.
 //!
 //! All that an edit writes is of its own version, and earlier versions don't see it: an end of a life and a modification
 //! come after them, and so does the number of a new rule.
@@ -40,14 +41,19 @@
 //! (the table, the priority and the match) to the place of the live rule that has it. The mask is hashed with the key,
 //! since routes to nested networks share their key. `apply` takes all memory before it changes anything. For an add that
 //! is the copy of the actions, room for the rule, and last the entry of the map, which is all or nothing by itself; for a
-//! modify it is the copy of the edit and room for it.
+//! modify it is the copy of the edit, room in the log for as many givings as there are rules that it acts on, which are
+//! counted first, and room for the modification.
 //!
 //! # What it costs
 //!
 //! - An add or a strict word takes the same time whatever rules there are, but for the growth of the tables, which double.
-//! - A loose word passes once over the stored rules. Of one that is gone it reads the end of its life alone.
-//! - `cookie` and `actions` find the rule by binary search, and test each modification. `scan` tests each stored rule.
-//! - A rule takes 368 bytes and 336 more for its identity in the map, and a modification takes 400, besides their actions.
+//! - A loose delete passes once over the stored rules, and a loose modify twice: it counts, and then gives. Of a rule that
+//!   is gone each reads the end of its life alone.
+//! - `cookie` and `actions` find the rule by binary search, and go back along what it was given. In the last version that
+//!   is one step for the actions, and for the cookie as many as it was given without one. `scan` tests each stored rule.
+//! - A rule takes 384 bytes and 336 more for its identity in the map, and a modification takes 400, besides their actions.
+//!   A giving takes 24. There are no more of them than changes, but thousands of loose modifies of thousands of rules make
+//!   them by the square.
 //!
 //! # What is left to others
 //!
@@ -56,6 +62,7 @@
 
 mod actions;
 mod edit;
+mod givings;
 mod identity;
 mod matching;
 mod rule;

@@ -1,11 +1,11 @@
-ghost use Rattle.std.specs.Prelude.{◌≡◌, ℕ, List, Option, Some, None, slice_get};
+ghost use Rattle.std.specs.Prelude.{◌≡◌, ℕ, List, Option, Some, None, IfSome, true, slice_get};
 ghost use Rattle.std.specs.Option.{option_map};
 ghost use Rattle.spec_tables.specs.Rules.{is_beaten, better, rules_in, winner};
 ghost use Rattle.spec_tables.specs.Live.{rule_numbered};
 ghost use Rattle.ovs_fields.specs.Packed.{numbers};
 ghost use Rattle.rule_tables.specs.declared.stored.Modification.{Modification};
 ghost use Rattle.rule_tables.specs.Candidates.{is_candidate};
-ghost use Rattle.rule_tables.specs.Stored.{stored_in, stored_numbered, rules_at, AreInOrder};
+ghost use Rattle.rule_tables.specs.Stored.{stored_in, stored_numbered, rules_at, is_alive, AreInOrder};
 
 use crate::stored::StoredRule;
 use ovs_fields::{Key, agree};
@@ -34,7 +34,9 @@ pub(crate) fn stored_at(rules: &[StoredRule], number: u32) -> Option<&StoredRule
 /// The stored rule of a number, if it is live in a version.
 pub(crate) fn find_live(rules: &[StoredRule], version: u32, number: u32) -> Option<&StoredRule>
     requires { AreInOrder rules.now }
-    ensures { (made : List Modification) → option_map (λ s. stored_in made version s.now) result ≡ rule_numbered number (rules_at made version rules.now) }
+    ensures rule { (made : List Modification) → option_map (λ s. stored_in made version s.now) result ≡ rule_numbered number (rules_at made version rules.now) }
+    ensures live { IfSome result (λ s. is_alive version s.now ≡ true) }
+    ensures stored { IfSome result (λ s. stored_numbered number rules.now ≡ Some s.now) }
 {
     let stored = stored_at(rules, number)?;
     if stored.is_live(version) {

@@ -1,13 +1,12 @@
-ghost use Rattle.std.specs.Prelude.{◌≡◌, ◌<◌, length, map, count_by, Option, Some, None};
-ghost use Rattle.std.specs.Option.{option_map, ForSome};
+ghost use Rattle.std.specs.Prelude.{◌≡◌, ◌<◌, length, map, count_by, None};
+ghost use Rattle.std.specs.Option.{ForSome};
 ghost use Rattle.std.specs.HashMap.{get};
-ghost use Rattle.rule_tables.specs.Stored.{acts_on, ended_by, last_given, with_end, is_same_identity, AreFound};
+ghost use Rattle.rule_tables.specs.Stored.{acts_on, ended_by, with_end, is_same_identity, AreFound};
 
 use crate::actions::Actions;
 use crate::edit::Edit;
 use crate::identity::RuleIdentity;
 use crate::rule::Rule;
-use spec_actions::OfAction;
 use std::alloc::Global;
 use std::collections::HashMap;
 
@@ -19,19 +18,21 @@ pub(crate) struct Modification {
     pub(crate) edit: Edit,
 }
 
-/// A rule with its actions as its edit added it, and the end of its life.
+/// A rule with its actions as its edit added it, the end of its life, and where what it was given is told.
 #[derive(Debug, Drop)]
 pub(crate) struct StoredRule {
     pub(crate) rule: Rule,
     pub(crate) actions: Actions,
     /// The first version without the rule, if there is one. Its first version is its number.
     pub(crate) gone: Option<u32>,
+    /// The place in the log of what it was given last, if it was given anything.
+    pub(crate) given: Option<usize>,
 }
 
 impl StoredRule {
     ghost use Rattle.spec_tables.specs.Edits.{rule_of};
     ghost use Rattle.rule_tables.specs.Views.{rule_view};
-    ghost use Rattle.rule_tables.specs.Stored.{actions_in, cookie_in, is_given, is_alive};
+    ghost use Rattle.rule_tables.specs.Stored.{is_alive};
 
     /// The rule that an edit adds, with these actions. It takes no memory.
     pub(crate) fn new(number: u32, edit: &Edit, actions: Actions) -> StoredRule
@@ -39,6 +40,7 @@ impl StoredRule {
         ensures rule { rule_view result.rule result.actions ≡ rule_of number edit.now }
         ensures number { result.rule.number ≡ number }
         ensures gone { result.gone ≡ None }
+        ensures given { result.given ≡ None }
     {
         StoredRule {
             rule: Rule {
@@ -50,6 +52,7 @@ impl StoredRule {
             },
             actions,
             gone: None,
+            given: None,
         }
     }
 
@@ -65,64 +68,11 @@ impl StoredRule {
     }
 
     /// Whether an edit acts on the rule: it is live in the last version, and the edit picks it.
-    fn is_acted_on(&self, edit: &Edit) -> bool
+    pub(crate) fn is_acted_on(&self, edit: &Edit) -> bool
         ensures { result ≡ acts_on edit.now self.now }
     {
         self.gone.is_none() && edit.picks(&self.rule)
     }
-
-    /// Whether the rule has been given a modification by a version.
-    fn is_given(&self, modification: &Modification, version: u32) -> bool
-        ensures { result ≡ is_given version self.now modification.now }
-    {
-        self.rule.number < modification.version
-            && modification.version <= version
-            && modification.edit.picks(&self.rule)
-    }
-
-    /// The cookie that the rule has in a version.
-    pub(crate) fn cookie_in(&self, modifications: &[Modification], version: u32) -> u64
-        ensures { result ≡ cookie_in modifications.now version self.now }
-    {
-        let mut cookie = self.rule.cookie;
-        'modifications: for modification in modifications {
-            if self.is_given(modification, version) {
-                cookie = modification.edit.cookie.unwrap_or(cookie);
-            }
-        }
-        cookie
-    }
-
-    /// The actions that the rule has in a version.
-    pub(crate) fn actions_in<'a>(
-        &'a self,
-        modifications: &'a [Modification],
-        version: u32,
-    ) -> &'a [OfAction]
-        ensures { result.now ≡ actions_in modifications.now version self.now }
-    {
-        match last_given(self, modifications, version) {
-            Some(modification) => modification.edit.actions.as_slice(),
-            None => self.actions.as_slice(),
-        }
-    }
-}
-
-/// The last of the modifications that a rule has been given by a version.
-fn last_given<'a>(
-    stored: &StoredRule,
-    modifications: &'a [Modification],
-    version: u32,
-) -> Option<&'a Modification>
-    ensures { option_map (λ m. m.now) result ≡ last_given modifications.now version stored.now }
-{
-    let mut last = None;
-    'modifications: for modification in modifications {
-        if stored.is_given(modification, version) {
-            last = Some(modification);
-        }
-    }
-    last
 }
 
 /// On how many rules an edit acts.

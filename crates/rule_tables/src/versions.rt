@@ -9,6 +9,7 @@ ghost use Rattle.rule_tables.specs.History.{newest, rules_of, added_as, edited_b
 
 use crate::actions::Actions;
 use crate::edit::Edit;
+use crate::givings::{Giving, actions_in, cookie_in, give_modification};
 use crate::identity::RuleIdentity;
 use crate::rule::Rule;
 use crate::search::{find_live, stored_at, winner_of};
@@ -28,6 +29,8 @@ pub struct VersionedRules {
     rules: Vec<StoredRule>,
     /// What the modifies made, in the order of their versions.
     modifications: Vec<Modification>,
+    /// What each rule was given of them, as a log.
+    givings: Vec<Giving>,
     /// The place among these of the live rule of each identity.
     places: HashMap<RuleIdentity, u32>,
     /// The last version: how many edits were applied.
@@ -62,6 +65,7 @@ impl VersionedRules {
             alloc,
             rules: Vec::new(alloc),
             modifications: Vec::new(alloc),
+            givings: Vec::new(alloc),
             places: HashMap::new(alloc),
             last: 0,
             changes: 0,
@@ -133,7 +137,7 @@ impl VersionedRules {
         ensures { option_map (λ r. r.cookie) (rule_numbered number (rules_of self.now v)) ≡ Some result }
     {
         match find_live(&self.rules, v, number) {
-            Some(stored) => stored.cookie_in(&self.modifications, v),
+            Some(stored) => cookie_in(stored, &self.givings, &self.modifications, v),
             None => unreachable!(),
         }
     }
@@ -145,7 +149,7 @@ impl VersionedRules {
         ensures { option_map (λ r. r.actions) (rule_numbered number (rules_of self.now v)) ≡ Some result.now }
     {
         match find_live(&self.rules, v, number) {
-            Some(stored) => stored.actions_in(&self.modifications, v),
+            Some(stored) => actions_in(stored, &self.givings, &self.modifications, v),
             None => unreachable!(),
         }
     }
@@ -188,6 +192,7 @@ impl VersionedRules {
         requires add { edit.now.word ≡ Add }
         requires room { newest self.old + 1 < 2 ^ 32 }
         requires on { stored.gone ≡ None }
+        requires given { stored.given ≡ None }
         requires number { stored.rule.number ≡ newest self.old + 1 }
         requires rule { rule_view stored.rule stored.actions ≡ rule_of (newest self.old + 1) edit.now }
         ensures edited { OnOk result (self.new ≡ edited_by edit.now self.old) }
@@ -218,10 +223,22 @@ impl VersionedRules {
             self.last = version;
             return Ok(());
         }
-        let edit = edit.copy(self.alloc)?;
-        self.modifications.push(Modification { version, edit })?;
+        let copy = edit.copy(self.alloc)?;
+        self.givings.reserve(count)?;
+        let place = self.modifications.len();
+        self.modifications.push(Modification {
+            version,
+            edit: copy,
+        })?;
+        give_modification(
+            &mut self.rules,
+            &self.places,
+            &mut self.givings,
+            edit,
+            place,
+        );
         self.last = version;
-        self.changes += count;
+        self.changes += count as u64;
         Ok(())
     }
 
@@ -251,13 +268,13 @@ impl VersionedRules {
     }
 
     /// On how many rules an edit acts. Of a strict word it is known from the map of identities.
-    fn count(&self, edit: &Edit) -> u64
+    fn count(&self, edit: &Edit) -> usize
         requires { is_modify edit.now.word ≡ true }
         ensures { result ≡ count_by (is_picked_by edit.now.word edit.now) (rules_of self.now (newest self.now)) }
     {
         match edit.word {
-            EditWord::Modify => count_acted_on(&self.rules, edit) as u64,
-            _ => u64::from(self.places.contains_key(&RuleIdentity::named_by(edit))),
+            EditWord::Modify => count_acted_on(&self.rules, edit),
+            _ => usize::from(self.places.contains_key(&RuleIdentity::named_by(edit))),
         }
     }
 }

@@ -24,7 +24,7 @@ use rule_tables::VersionedRules;
 use spec_flow_text::TextFault;
 use spec_run::Quantity;
 use std::alloc::Global;
-use switch_refusals::{InputFault, InputRefusal, MOST_CHANGES, MOST_EDITS_BYTES};
+use switch_refusals::{InputFault, InputRefusal, MOST_EDITS_BYTES};
 
 /// The script of a file of edits, and the rules of all versions that its edits make.
 #[derive(Drop)]
@@ -79,11 +79,10 @@ fn few_rules_of<'a>(alloc: Global, script: &Script) -> Result<VersionedRules, In
     ensures err { IfErr result (Explains (with_few_changes (script_view script.now))) }
     ensures no_fault { IfErr result (λ r. IfReadFault r (λ _. ⊥)) }
 {
-    let rules = rules_of(alloc, &script.edits)?;
-    if rules.changes() > MOST_CHANGES {
-        return Err(InputRefusal::Input(InputFault::Limit(Quantity::Changes)));
+    match rules_of(alloc, &script.edits)? {
+        Some(rules) => Ok(rules),
+        None => Err(InputRefusal::Input(InputFault::Limit(Quantity::Changes))),
     }
-    Ok(rules)
 }
 
 // The script of the bytes of a file and the rules of its edits, where they are accepted.

@@ -1,28 +1,20 @@
-use Rattle.std.proofs.Common.{◌≡◌, ℕ, Bool, true, cond, [], refl, sym, ap, ◌∙◌}
+use Rattle.std.proofs.Common.{◌≡◌, ℕ, Bool, cond, [], refl, sym, ap, ◌∙◌}
 use Rattle.std.specs.Prelude.{count_by}
 use Rattle.std.specs.HashMap.{get}
-use Rattle.std.proofs.lemmas.Bool.{false≢true}
 use Rattle.spec_tables.specs.declared.edit_word.EditWord.{EditWord}
-use Rattle.spec_tables.specs.declared.edit_word.EditWord.TheVariants.{Add, Modify, ModifyStrict, Delete, DeleteStrict}
+use Rattle.spec_tables.specs.declared.edit_word.EditWord.TheVariants.{ModifyStrict}
 use Rattle.rule_tables.specs.Views.{rule_view}
-use Rattle.rule_tables.specs.Stored.{is_modify, is_picked_by, acts_on, is_same_identity}
+use Rattle.rule_tables.specs.Stored.{is_picked_by, acts_on, is_same_identity}
 use Rattle.rule_tables.proofs.Counts.{from_bool_is}
 use Rattle.rule_tables.proofs.Endings.{count_picked}
-use Rattle.rule_tables.proofs.Finds.{lookup_respects, count_named}
+use Rattle.rule_tables.proofs.Finds.{strict_modify, lookup_respects, count_named}
 use Rattle.rule_tables.proofs.Seen.{seen_last}
 use Rattle.rule_tables.proofs.versions.VersionedRules.count.Goals as goal
-
-strict_modify : (word : EditWord) → is_modify word ≡ true → (word ≡ Modify → ⊥) → word ≡ ModifyStrict
-strict_modify Add is other = absurd (false≢true is)
-strict_modify Modify is other = absurd (other refl)
-strict_modify ModifyStrict is other = refl
-strict_modify Delete is other = absurd (false≢true is)
-strict_modify DeleteStrict is other = absurd (false≢true is)
 
 pub returns-in-Modify : goal.returns-in-Modify
 returns-in-Modify c =
     c.count_acted_on.ensures ∙ ap (count_by (acts_on c.args.edit.now)) c.deref.ensures.value
-    ∙ sym (count_picked c.self.inside.modifications.items c.self.inside.rules.items c.self.inside.last c.args.edit.now c.self.invariant.numbered c.self.invariant.lives)
+    ∙ sym (count_picked c.self.inside.modifications.items c.self.inside.rules.items c.self.inside.last c.args.edit.now c.self.invariant.consistent.numbered c.self.invariant.consistent.lives)
     ∙ ap (count_by (is_picked_by c.args.edit.now.word c.args.edit.now)) (seen_last c.self.inside.modifications.items c.self.inside.rules.items c.self.inside.rules.items c.self.inside.last c.self.inside.changes c.args.self.now refl c.self.view_is)
 
 pub returns-in_default : goal.returns-in_default
@@ -30,7 +22,7 @@ returns-in_default c =
     let word : c.args.edit.now.word ≡ ModifyStrict =
     strict_modify c.args.edit.now.word c.requires (λ is. c.in_default.not-Modify (ap (λ e. e.word) c.edit.view_is ∙ is)) in
     c.from.ensures ∙ from_bool_is c.contains_key.result ∙ ap (λ (b : Bool). cond {A = ℕ} b 1 0) c.contains_key.ensures
-    ∙ sym (count_named c.self.inside.rules.items (λ q. get is_same_identity c.self.inside.places q) c.self.invariant.found (lookup_respects c.self.inside.places.entries)
+    ∙ sym (count_named c.self.inside.rules.items (λ q. get is_same_identity c.self.inside.places q) c.self.invariant.consistent.found (lookup_respects c.self.inside.places.entries)
     c.args.edit.now c.named_by.result
     (record {
       strict = λ r. ap (λ (w : EditWord). is_picked_by w c.args.edit.now (rule_view r [])) word;
@@ -39,5 +31,5 @@ returns-in_default c =
       matching = c.named_by.ensures.matching;
     })
     (get is_same_identity c.self.inside.places c.named_by.result) refl)
-    ∙ sym (count_picked c.self.inside.modifications.items c.self.inside.rules.items c.self.inside.last c.args.edit.now c.self.invariant.numbered c.self.invariant.lives)
+    ∙ sym (count_picked c.self.inside.modifications.items c.self.inside.rules.items c.self.inside.last c.args.edit.now c.self.invariant.consistent.numbered c.self.invariant.consistent.lives)
     ∙ ap (count_by (is_picked_by c.args.edit.now.word c.args.edit.now)) (seen_last c.self.inside.modifications.items c.self.inside.rules.items c.self.inside.rules.items c.self.inside.last c.self.inside.changes c.args.self.now refl c.self.view_is)

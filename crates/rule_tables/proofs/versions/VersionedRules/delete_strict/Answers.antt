@@ -7,6 +7,7 @@ use Rattle.rule_tables.specs.Stored.{is_picked_by, with_end, is_same_identity}
 use Rattle.rule_tables.proofs.Counts.{from_bool_is}
 use Rattle.rule_tables.proofs.Ends.{written}
 use Rattle.rule_tables.proofs.Finds.{lookup_respects}
+use Rattle.rule_tables.proofs.Led.{led_with_end}
 use Rattle.rule_tables.proofs.Seen.{seen_newest}
 use Rattle.rule_tables.proofs.Sound.{sound_deleted_strict}
 use Rattle.rule_tables.proofs.versions.VersionedRules.delete_strict.Goals as goal
@@ -19,7 +20,7 @@ overflow_add-version c =
 
 pub end_rule-requires : goal.end_rule-requires
 end_rule-requires c = λ place is.
-    let within : place < length c.self.inside.rules.items = c.self.invariant.found.there c.named_by.result place (sym c.remove-place.ensures.value ∙ is) in
+    let within : place < length c.self.inside.rules.items = c.self.invariant.consistent.found.there c.named_by.result place (sym c.remove-place.ensures.value ∙ is) in
     let here : length c.deref_mut.result.now ≡ length c.self.inside.rules.items = ap length c.deref_mut.ensures.value in
     omega arith
 
@@ -29,7 +30,7 @@ invariant_of-self c =
     let room : c.self.inside.last + 1 < 2 ^ 32 = subst (λ (n : ℕ). n + 1 < 2 ^ 32) newest_is c.requires.room in
     let done =
     sound_deleted_strict c.self.inside.modifications.items c.self.inside.rules.items (λ q. get is_same_identity c.self.inside.places q) (λ q. get is_same_identity c.remove-place.new.self q)
-    c.self.inside.last c.self.inside.changes c.self.invariant (lookup_respects c.self.inside.places.entries) c.args.edit.now room c.requires.delete c.named_by.result
+    c.self.inside.last c.self.inside.changes c.self.invariant.consistent (lookup_respects c.self.inside.places.entries) c.args.edit.now room c.requires.delete c.named_by.result
     (record {
       strict = λ r. ap (λ (word : EditWord). is_picked_by word c.args.edit.now (rule_view r [])) c.requires.delete;
       table = c.named_by.ensures.table;
@@ -41,7 +42,15 @@ invariant_of-self c =
     (written c.self.inside.rules.len c.end_rule.new.rules c.self.inside.rules.items (omega arith) ∙ c.end_rule.ensures
     ∙ ap (with_end c.remove-place.result (c.self.inside.last + 1)) c.deref_mut.ensures.value)
     _ (c.from.ensures ∙ from_bool_is c.is_some.result ∙ ap (λ (b : Bool). cond {A = ℕ} b 1 0) c.is_some.ensures) in
-    done.0
+    record {
+      consistent = done.0;
+      led =
+          led_with_end c.self.inside.givings.items c.self.inside.modifications.items c.self.inside.last c.self.invariant.consistent.made c.self.inside.rules.items c.remove-place.result (c.self.inside.last + 1) _ (omega arith)
+          (λ i s is at. (c.self.invariant.consistent.found.own c.named_by.result i s (sym c.remove-place.ensures.value ∙ is) at).0)
+          (written c.self.inside.rules.len c.end_rule.new.rules c.self.inside.rules.items (omega arith) ∙ c.end_rule.ensures
+          ∙ ap (with_end c.remove-place.result (c.self.inside.last + 1)) c.deref_mut.ensures.value)
+          c.self.invariant.led;
+    }
 
 pub returns : goal.returns
 returns c =
@@ -49,7 +58,7 @@ returns c =
     let room : c.self.inside.last + 1 < 2 ^ 32 = subst (λ (n : ℕ). n + 1 < 2 ^ 32) newest_is c.requires.room in
     let done =
     sound_deleted_strict c.self.inside.modifications.items c.self.inside.rules.items (λ q. get is_same_identity c.self.inside.places q) (λ q. get is_same_identity c.remove-place.new.self q)
-    c.self.inside.last c.self.inside.changes c.self.invariant (lookup_respects c.self.inside.places.entries) c.args.edit.now room c.requires.delete c.named_by.result
+    c.self.inside.last c.self.inside.changes c.self.invariant.consistent (lookup_respects c.self.inside.places.entries) c.args.edit.now room c.requires.delete c.named_by.result
     (record {
       strict = λ r. ap (λ (word : EditWord). is_picked_by word c.args.edit.now (rule_view r [])) c.requires.delete;
       table = c.named_by.ensures.table;

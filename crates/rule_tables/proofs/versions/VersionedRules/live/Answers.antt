@@ -6,9 +6,9 @@ use Rattle.rule_tables.proofs.Seen.{in_order_there, seen_rules}
 use Rattle.rule_tables.proofs.versions.VersionedRules.live.Goals as goal
 
 pub find_live-requires : goal.find_live-requires
-find_live-requires c = in_order_there c.self.inside.rules.items c.deref.result.now c.deref.ensures.value c.self.invariant.in_order
+find_live-requires c = in_order_there c.self.inside.rules.items c.deref.result.now c.deref.ensures.value c.self.invariant.consistent.in_order
 
 pub returns : goal.returns
 returns c =
-    c.is_some.ensures ∙ live_if_found (λ s. stored_in c.self.inside.modifications.items c.args.v s.now) c.find_live.result c.args.number _ (c.find_live.ensures c.self.inside.modifications.items)
+    c.is_some.ensures ∙ live_if_found (λ s. stored_in c.self.inside.modifications.items c.args.v s.now) c.find_live.result c.args.number _ (c.find_live.ensures.rule c.self.inside.modifications.items)
     ∙ ap (is_live c.args.number) (seen_rules c.self.inside.modifications.items c.self.inside.rules.items c.deref.result.now c.self.inside.last c.self.inside.changes c.args.self.now c.deref.ensures.value c.self.view_is c.args.v c.requires)

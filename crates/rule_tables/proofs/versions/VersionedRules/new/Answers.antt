@@ -2,9 +2,14 @@ use Rattle.std.proofs.Common.{ℕ, List, ap}
 use Rattle.std.specs.Map.{lookup}
 use Rattle.rule_tables.specs.declared.identity.RuleIdentity.{RuleIdentity}
 use Rattle.rule_tables.specs.Stored.{is_same_identity}
+use Rattle.rule_tables.proofs.Led.{led_at_first}
 use Rattle.rule_tables.proofs.Sound.{sound_at_first}
 use Rattle.rule_tables.proofs.versions.VersionedRules.new.Goals as goal
 
 pub invariant_of-result : goal.invariant_of-result
 invariant_of-result c =
-    sound_at_first _ _ _ c.new-2.ensures.items c.new.ensures.items (λ name. ap (λ (es : List (RuleIdentity × ℕ)). lookup (is_same_identity name) es) c.new-3.ensures.empty)
+    record {
+      consistent =
+          sound_at_first _ _ _ c.new-2.ensures.items c.new.ensures.items (λ name. ap (λ (es : List (RuleIdentity × ℕ)). lookup (is_same_identity name) es) c.new-4.ensures.empty);
+      led = led_at_first _ _ _ c.new.ensures.items;
+    }
