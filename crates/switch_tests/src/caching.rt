@@ -1,6 +1,6 @@
 //! Runs that show what the caches of a port do: which frames they decide, and what sweeps make of their megaflows.
 
-use crate::cases::{Bytes, NO_FRAMES, Run, THREE_PORTS};
+use switch_runs::cases::{Bytes, NO_FRAMES, Run, THREE_PORTS};
 
 /// Runs whose frames meet megaflows.
 pub static CACHING: [Run<'static>; 8] = [

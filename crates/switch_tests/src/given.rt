@@ -1,6 +1,6 @@
 //! Runs with given steps.
 
-use crate::cases::{Bytes, Given, NO_FRAMES, Run, STEPS, STEPS_AT_THREE_PORTS};
+use switch_runs::cases::{Bytes, Given, NO_FRAMES, Run, STEPS, STEPS_AT_THREE_PORTS};
 
 /// Given steps, and what is left of the run after them.
 pub static GIVEN: [Given; 10] = [

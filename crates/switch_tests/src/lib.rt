@@ -1,4 +1,4 @@
-//! Tests of whole runs, over files and a standard output in memory.
+//! Tests of whole runs that are accepted, over files and a standard output in memory.
 //!
 //! The contract of `run_switch` says what a run reads, writes and answers. What it can't say is shown here: that runs
 //! succeed where memory is ample, and that the definitions give the files, texts and statuses that one expects, byte
@@ -6,47 +6,30 @@
 //!
 //! Runs stand in tables, by what they show: what is sent (`sending`), which rules are told (`rules`), what caches decide
 //! (`caching`), how frames are rewritten (`rewrites`) and dropped (`limits`), which fields a megaflow is about
-//! (`matches`), given steps (`given`), flows and mirrors (`outlets`), refusals (`refusals`, `words`), and calls that fail in writing (`failing`). Each
-//! run that is accepted has all its files and its summary. Their texts come from the formats' own page and from the
-//! switch's simulation, which shares nothing with the program. Great traces are made while they are read (`great`,
-//! `made`), and their files aren't compared. A test proves in a time that grows with its table, so no table is long.
+//! (`matches`), given steps (`given`, `schedules`), flows and mirrors (`outlets`). Each has all its files and its summary. Their texts come
+//! from the formats' own page and from the switch's simulation, which shares nothing with the program. A test proves in a
+//! time that grows with its table, so no table is long.
 //!
 //! Nothing is built on this crate.
 #![tactic(auto)]
 
 #[cfg(test)]
-mod bytes;
-#[cfg(test)]
 mod caching;
-#[cfg(test)]
-mod cases;
-#[cfg(test)]
-mod failing;
 #[cfg(test)]
 mod given;
 #[cfg(test)]
-mod great;
-#[cfg(test)]
-mod headers;
-#[cfg(test)]
 mod limits;
-#[cfg(test)]
-mod made;
 #[cfg(test)]
 mod matches;
 #[cfg(test)]
 mod outlets;
 #[cfg(test)]
-mod refusals;
-#[cfg(test)]
 mod rewrites;
 #[cfg(test)]
 mod rules;
 #[cfg(test)]
-mod running;
+mod schedules;
 #[cfg(test)]
 mod sending;
 #[cfg(test)]
 mod tests;
-#[cfg(test)]
-mod words;

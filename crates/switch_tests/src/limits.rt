@@ -1,7 +1,7 @@
 //! Runs that show what is dropped at the limits of a translation.
 
-use crate::cases::{Bytes, NO_FRAMES, Run, THREE_PORTS, WORDS};
-use crate::headers::{IPV4, TO_2, TTL_1, TTL_64, TTL_65, UDP, UNKNOWN};
+use switch_runs::cases::{Bytes, NO_FRAMES, Run, THREE_PORTS, WORDS};
+use switch_runs::headers::{IPV4, TO_2, TTL_1, TTL_64, TTL_65, UDP, UNKNOWN};
 
 /// At most 64 lookups deep, 512 lookups, and 128 actions.
 pub static LIMITS: [Run<'static>; 6] = [

@@ -1,43 +1,11 @@
 //! Runs whose flows are written, and runs with mirrors.
 
-use crate::cases::{Bytes, NO_FRAMES, Outlets, Run};
-use crate::headers::{
+use switch_runs::cases::{Bytes, NO_FRAMES, Outlets, Run};
+use switch_runs::headers::{
     ARP, FROM_9, FROM_WEB, IPV4, QUESTION, TCP, TCP_ANSWER, TO_2, TO_WEB, TO_WEB_LOWERED, TTL_64,
     UDP,
 };
-use crate::matches::WEB;
-use crate::sending::FORWARDED;
-
-const TWO_DATAGRAMS: Run = Run {
-    shows: "the packets of a class are one flow",
-    words: &["--netflow", "edits", "out", "1=a.pcap", "2="],
-    edits: "in_port=1,actions=mod_nw_src:10.0.0.9,2",
-    traces: &[(
-        "a.pcap",
-        Bytes::Headers(&[
-            (1, &[TO_2, IPV4, TTL_64, UDP]),
-            (3, &[TO_2, IPV4, TTL_64, UDP]),
-        ]),
-    )],
-    sent: &[
-        (1, NO_FRAMES),
-        (
-            2,
-            Bytes::Headers(&[
-                (1, &[TO_2, IPV4, FROM_9, UDP]),
-                (3, &[TO_2, IPV4, FROM_9, UDP]),
-            ]),
-        ),
-    ],
-    rules: "cookie=0x0, table=0, n_packets=2, n_bytes=84, priority=32768,in_port=1 \
-        actions=set_field:10.0.0.9->nw_src,output:2 # rule=1",
-    megaflows: "port=1 entry=1 version=1 packets=1 bytes=42 owed_packets=1 owed_bytes=42 used=3.000000000 \
-        visits=1 match=in_port=1,dl_type=0x0800,nw_src=10.0.0.1,ip_frag=no \
-        actions=set(nw_src=0.0.0.8/0.0.0.8),2",
-    journal: "port 1|begin 1|end|look 1 miss|settle 1 1 installed 1|look 2 mega 1|port 2|begin 1|end",
-    summary: "ports=2 frames=2 edits=1 blocks=1|exact=0 mega=1 miss=1|installed=1 present=0 full=0|\
-        sent=2 dropped=0 entries=1",
-};
+use switch_runs::known::{FORWARDED, MIRRORED_FLOW, TWO_DATAGRAMS, WEB};
 
 /// Two datagrams of UDP, as one flow: from 10.0.0.1 to 10.0.0.2, in at port 1 and out at port 2, 2 packets of 28 octets,
 /// the first at 0 ms and the last at 2,000 ms.
@@ -54,43 +22,6 @@ pub const ONE_FLOW: Outlets = Outlets {
             "03e80035000011000000000000000000",
         ]),
     )],
-};
-
-/// A run with a mirror of all and with its flows.
-pub const MIRRORED_FLOW: Outlets = Outlets {
-    mirrors: Some("select_all"),
-    run: Run {
-        shows: "the copies come after the flows",
-        words: &[
-            "--netflow",
-            "--mirrors",
-            "mirrors",
-            "edits",
-            "out",
-            "1=a.pcap",
-            "2=",
-        ],
-        ..TWO_DATAGRAMS
-    },
-    files: &[
-        (
-            "out.netflow",
-            Bytes::Digits(&[
-                "00050001000007d00000000300000000",
-                "0000000000000000",
-                "0a0000010a0000020000000000010002",
-                "000000020000003800000000000007d0",
-                "03e80035000011000000000000000000",
-            ]),
-        ),
-        (
-            "out.m1.pcap",
-            Bytes::Headers(&[
-                (1, &[TO_2, IPV4, TTL_64, UDP]),
-                (3, &[TO_2, IPV4, TTL_64, UDP]),
-            ]),
-        ),
-    ],
 };
 
 /// Runs with more files than those of the ports and the dumps.

@@ -1,7 +1,7 @@
 //! Runs that show how frames are rewritten.
 
-use crate::cases::{Bytes, NO_FRAMES, Run, THREE_PORTS, WORDS};
-use crate::headers::{
+use switch_runs::cases::{Bytes, NO_FRAMES, Run, THREE_PORTS, WORDS};
+use switch_runs::headers::{
     FIRST_FRAGMENT, FROM_9, IPV4, TAG_5, TO_2, TTL_1, TTL_63, TTL_64, UDP, UNKNOWN,
 };
 

@@ -1,6 +1,6 @@
 //! Runs that show which rules are told, and how often each was met.
 
-use crate::cases::{Bytes, NO_FRAMES, Run, THREE_PORTS, WORDS};
+use switch_runs::cases::{Bytes, NO_FRAMES, Run, THREE_PORTS, WORDS};
 
 /// Which rules stand at the end of a run, and which are gone.
 pub static RULES: [Run<'static>; 4] = [

@@ -1,25 +1,10 @@
 //! Runs that show which frames leave, when and where.
 
-use crate::cases::{
+use switch_runs::cases::{
     BIG_ENDIAN_NANOS_HEADER, Bytes, HEADER, NANOS_HEADER, NO_FRAMES, Run, THREE_PORTS, TWO_TRACES,
     WORDS,
 };
-
-/// A run that sends one frame.
-pub const FORWARDED: Run<'static> = Run {
-    shows: "a frame of port 1 leaves by port 2 as it came",
-    words: WORDS,
-    edits: "in_port=1,actions=2",
-    traces: &[("a.pcap", Bytes::At(&[1]))],
-    sent: &[(1, NO_FRAMES), (2, Bytes::At(&[1]))],
-    rules: "cookie=0x0, table=0, n_packets=1, n_bytes=60, priority=32768,in_port=1 actions=output:2 \
-            # rule=1",
-    megaflows: "port=1 entry=1 version=1 packets=0 bytes=0 owed_packets=0 owed_bytes=0 used=1.000000000 \
-            visits=1 match=in_port=1,dl_type=0x88b5 actions=2",
-    journal: "port 1|begin 1|end|look 1 miss|settle 1 1 installed 1|port 2|begin 1|end",
-    summary: "ports=2 frames=1 edits=1 blocks=1|exact=0 mega=0 miss=1|installed=1 present=0 full=0|\
-            sent=1 dropped=0 entries=1",
-};
+use switch_runs::known::FORWARDED;
 
 /// Which frames leave, when and where.
 pub static SENDING: [Run<'static>; 8] = [

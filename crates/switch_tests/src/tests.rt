@@ -1,45 +1,30 @@
-ghost use Rattle.std.specs.Prelude.{◌≡◌, IfOk};
-ghost use Rattle.edge_io.specs.declared.outside.InUse.TheVariants.{Nothing};
-
-use crate::bytes::text_of;
 use crate::caching::CACHING;
-use crate::cases::{MIRRORS, Outlets, Run, STEPS, WORDS};
-use crate::failing::{UNWRITTEN, UNWRITTEN_OUTLETS, Unwritten};
 use crate::given::GIVEN;
 use crate::limits::LIMITS;
-use crate::made::MadeShelf;
 use crate::matches::MATCHES;
-use crate::outlets::{MIRRORED_FLOW, OUTLETS};
-use crate::refusals::{
-    EDITS_FAULTS, FORWARD, Fault, MIRROR_FAULTS, ONE_FRAME, REFUSED, Refused, STEPS_FAULTS,
-    TRACE_FAULTS, TraceFault,
-};
+use crate::outlets::OUTLETS;
 use crate::rewrites::REWRITES;
 use crate::rules::RULES;
-use crate::running::{
-    DONE, File, Inputs, are_files, ends_as_shown, ends_with_outlets, files_of, files_with_outlets,
-    run_over, shelf_of, status_of,
-};
-use crate::sending::{FORWARDED, IN_NANOSECONDS, SENDING};
-use edge_io::Shelf;
-use edge_memory::{MemoryShelf, MemorySink};
+use crate::schedules::SCHEDULES;
+use crate::sending::{IN_NANOSECONDS, SENDING};
+use edge_memory::MemoryShelf;
 use std::alloc::{AllocError, Global};
 use std::sync::Wait;
 use std::test::Fail;
 use std::thread::Threads;
+use switch_runs::bytes::text_of;
+use switch_runs::cases::{Given, Run};
+use switch_runs::known::FORWARDED;
+use switch_runs::running::{DONE, ends_as_shown, ends_with_outlets, run_over, run_with_failing};
 
 // The summary of what the number 7 makes.
 const MADE: &str = "ports=4 frames=20000 edits=81 blocks=2|exact=0 mega=19760 miss=240|\
     installed=240 present=0 full=0|sent=10283 dropped=9717 entries=240";
 
-// The status of a run in which writing failed.
-const WRITE_FAULT: u8 = 6;
-
-// The most bytes of a line.
-const MOST_BYTES: usize = 4_096;
-
-// The most bytes of a mirrors file.
-const MOST_MIRRORS_BYTES: usize = 65_536;
+// The megaflow of a frame of 00:00:00:00:00:01 under rules of each bit of the source's address.
+const EACH_BIT_CONSULTED: &str =
+    "port=1 entry=1 version=48 packets=0 bytes=0 owed_packets=0 owed_bytes=0 \
+    used=1.000000000 visits=1 match=in_port=1,dl_src=00:00:00:00:00:01,dl_type=0x88b5 actions=2";
 
 // What the first run of a table shows that ends otherwise.
 fn first_that_differs<R: Threads + Wait + Sync>(
@@ -97,17 +82,83 @@ fn megaflows_match_what_was_looked_at(rt: HostRuntime) -> Result<(), Fail> {
     Ok(())
 }
 
+// What the first run of a table shows that ends otherwise after its steps.
+fn first_given_that_differs<R: Threads + Wait + Sync>(
+    rt: &R,
+    alloc: Global,
+    runs: &[Given],
+) -> Result<Option<&'static str>, AllocError> {
+    for given in runs {
+        if !ends_as_shown(rt, alloc, &given.run, Some(given.steps))? {
+            return Ok(Some(given.run.shows));
+        }
+    }
+    Ok(None)
+}
+
 #[test]
 fn given_steps_are_taken_first(rt: HostRuntime) -> Result<(), Fail> {
-    let alloc = rt.alloc();
-    for given in &GIVEN {
-        let run = &given.run;
-        assert!(rt;
-            ends_as_shown(&rt, alloc, run, Some(given.steps))?,
-            "{}",
-            run.shows
-        );
+    assert_eq!(rt; first_given_that_differs(&rt, rt.alloc(), &GIVEN)?, None);
+    Ok(())
+}
+
+#[test]
+fn steps_of_an_unlucky_schedule_leave_what_they_should(rt: HostRuntime) -> Result<(), Fail> {
+    assert_eq!(rt;
+        first_given_that_differs(&rt, rt.alloc(), &SCHEDULES)?,
+        None
+    );
+    Ok(())
+}
+
+// Rules that each state another bit of an address, the last bit at the least priority.
+fn rule_for_each_bit(alloc: Global) -> Result<String, AllocError> {
+    let mut edits = String::new(alloc);
+    for bit in 0..48 {
+        let address = address_with(alloc, bit)?;
+        let priority = bit + 1;
+        let line = format!(in alloc; "priority={priority},dl_src={address}/{address},actions=2|")?;
+        edits.push_str(line.as_str())?;
     }
+    Ok(edits)
+}
+
+// The address of Ethernet whose only bit is this one, counted from its end.
+fn address_with(alloc: Global, bit: u32) -> Result<String, AllocError> {
+    let mut address = String::new(alloc);
+    for place in 0..6 {
+        let byte = if bit / 8 == 5 - place {
+            1 << (bit % 8)
+        } else {
+            0
+        };
+        let separator = if place == 0 { "" } else { ":" };
+        let text = format!(in alloc; "{separator}{byte:x}")?;
+        address.push_str(text.as_str())?;
+    }
+    Ok(address)
+}
+
+// Whether a frame by which all rules of an address are told apart has a megaflow of all its bits.
+fn is_told_apart_by_each_bit<R: Threads + Wait + Sync>(
+    rt: &R,
+    alloc: Global,
+) -> Result<bool, AllocError> {
+    let edits = rule_for_each_bit(alloc)?;
+    let run = Run {
+        edits: edits.as_str(),
+        ..FORWARDED
+    };
+    let ended = run_with_failing(rt, alloc, &run, 0)?;
+    let wanted = text_of(alloc, EACH_BIT_CONSULTED)?;
+    let found = ended.shelf.made().iter().any(|file| file.0.as_str() == "out.megaflows"
+        && file.1 == wanted);
+    Ok(ended.status == DONE && found)
+}
+
+#[test]
+fn a_megaflow_has_each_bit_by_which_rules_were_told_apart(rt: HostRuntime) -> Result<(), Fail> {
+    assert!(rt; is_told_apart_by_each_bit(&rt, rt.alloc())?);
     Ok(())
 }
 
@@ -121,306 +172,6 @@ fn flows_and_copies_are_written_where_they_are_asked_for(rt: HostRuntime) -> Res
             outlets.run.shows
         );
     }
-    Ok(())
-}
-
-// Whether a run is refused so, and leaves no file.
-fn is_refused_as_shown<R: Threads + Wait + Sync>(
-    rt: &R,
-    alloc: Global,
-    run: &Refused<'_>,
-) -> Result<bool, AllocError> {
-    let inputs = Inputs {
-        edits: run.edits,
-        steps: run.steps,
-        mirrors: run.mirrors,
-        traces: run.traces,
-    };
-    let shelf = shelf_of(alloc, &inputs, run.failing_call)?;
-    let ended = run_over(rt, alloc, run.words, shelf, Vec::new(alloc))?;
-    let left = ended.leaves(&[]) && ended.has_opened(run.opened);
-    Ok(left && ended.tells(alloc, run.status, run.text)?)
-}
-
-// The run whose edits have this fault.
-fn with_edits(fault: &Fault) -> Refused<'static> {
-    Refused {
-        shows: fault.shows,
-        words: WORDS,
-        edits: fault.file,
-        steps: "",
-        mirrors: "",
-        traces: ONE_FRAME,
-        failing_call: 0,
-        status: fault.status,
-        text: fault.text,
-        opened: &["edits"],
-    }
-}
-
-// The run whose steps file has this fault.
-fn with_steps(fault: &Fault) -> Refused<'static> {
-    Refused {
-        shows: fault.shows,
-        words: STEPS,
-        edits: FORWARD,
-        steps: fault.file,
-        mirrors: "",
-        traces: ONE_FRAME,
-        failing_call: 0,
-        status: fault.status,
-        text: fault.text,
-        opened: &["edits", "steps"],
-    }
-}
-
-// The run whose mirrors file has this fault.
-fn with_mirrors(fault: &Fault) -> Refused<'static> {
-    Refused {
-        shows: fault.shows,
-        words: MIRRORS,
-        edits: FORWARD,
-        steps: "",
-        mirrors: fault.file,
-        traces: ONE_FRAME,
-        failing_call: 0,
-        status: fault.status,
-        text: fault.text,
-        opened: &["edits", "mirrors"],
-    }
-}
-
-// The run whose trace has this fault.
-fn with_trace(fault: &TraceFault) -> Refused<'static> {
-    Refused {
-        shows: fault.shows,
-        words: WORDS,
-        edits: FORWARD,
-        steps: "",
-        mirrors: "",
-        traces: fault.traces,
-        failing_call: 0,
-        status: 4,
-        text: fault.text,
-        opened: &["edits", "a.pcap"],
-    }
-}
-
-#[test]
-fn faulty_files_are_refused(rt: HostRuntime) -> Result<(), Fail> {
-    let alloc = rt.alloc();
-    let edits = EDITS_FAULTS.iter().map(with_edits);
-    let steps = STEPS_FAULTS.iter().map(with_steps);
-    let mirrors = MIRROR_FAULTS.iter().map(with_mirrors);
-    let traces = TRACE_FAULTS.iter().map(with_trace);
-    for run in edits.chain(steps).chain(mirrors).chain(traces) {
-        assert!(rt; is_refused_as_shown(&rt, alloc, &run)?, "{}", run.shows);
-    }
-    Ok(())
-}
-
-#[test]
-fn the_first_refusal_is_told(rt: HostRuntime) -> Result<(), Fail> {
-    let alloc = rt.alloc();
-    for run in &REFUSED {
-        assert!(rt; is_refused_as_shown(&rt, alloc, run)?, "{}", run.shows);
-    }
-    Ok(())
-}
-
-// A line that is so many bytes long by spaces at its end.
-fn padded(alloc: Global, line: &str, bytes: usize) -> Result<String, AllocError> {
-    let mut padded = String::from_str(alloc, line)?;
-    for _ in padded.len()..bytes {
-        padded.push(' ')?;
-    }
-    Ok(padded)
-}
-
-// A run that is refused for a line in the last of the files that it opens.
-fn with_long_line<'a>(
-    edits: &'a str,
-    steps: &'a str,
-    opened: &'static [&'static str],
-) -> Refused<'a> {
-    Refused {
-        shows: "a line of 4,097 bytes",
-        words: STEPS,
-        edits,
-        steps,
-        mirrors: "",
-        traces: ONE_FRAME,
-        failing_call: 0,
-        status: 7,
-        text: "limit: line 4096",
-        opened,
-    }
-}
-
-#[test]
-fn a_line_has_at_most_4096_bytes(rt: HostRuntime) -> Result<(), Fail> {
-    let alloc = rt.alloc();
-    let longest = padded(alloc, FORWARD, MOST_BYTES)?;
-    let run = Run {
-        edits: longest.as_str(),
-        ..FORWARDED
-    };
-    assert!(rt; ends_as_shown(&rt, alloc, &run, None)?);
-    let edits = padded(alloc, FORWARD, MOST_BYTES + 1)?;
-    let run = with_long_line(edits.as_str(), "", &["edits"]);
-    assert!(rt; is_refused_as_shown(&rt, alloc, &run)?, "edits");
-    let steps = padded(alloc, "edit", MOST_BYTES + 1)?;
-    let run = with_long_line(FORWARD, steps.as_str(), &["edits", "steps"]);
-    assert!(rt; is_refused_as_shown(&rt, alloc, &run)?, "steps");
-    Ok(())
-}
-
-// A run with this mirrors file, which passes a limit.
-fn with_long_mirrors<'a>(mirrors: &'a str, text: &'static str) -> Refused<'a> {
-    Refused {
-        shows: "a mirrors file that is too long",
-        words: MIRRORS,
-        edits: FORWARD,
-        steps: "",
-        mirrors,
-        traces: ONE_FRAME,
-        failing_call: 0,
-        status: 7,
-        text,
-        opened: &["edits", "mirrors"],
-    }
-}
-
-#[test]
-fn mirrors_have_at_most_65536_bytes_and_4096_in_a_line(rt: HostRuntime) -> Result<(), Fail> {
-    let alloc = rt.alloc();
-    let line = padded(alloc, "select_all", MOST_BYTES + 1)?;
-    let run = with_long_mirrors(line.as_str(), "limit: line 4096");
-    assert!(rt; is_refused_as_shown(&rt, alloc, &run)?, "line");
-    let file = padded(alloc, "select_all", MOST_MIRRORS_BYTES)?;
-    let run = with_long_mirrors(file.as_str(), "limit: mirrors-bytes 65536");
-    assert!(rt; is_refused_as_shown(&rt, alloc, &run)?, "file");
-    Ok(())
-}
-
-// The shelf of the run `FORWARDED`, whose call of this number fails.
-fn shelf_of_one_frame(alloc: Global, failing_call: u64) -> Result<MemoryShelf, AllocError>
-    ensures { IfOk result (λ shelf. ⟦<MemoryShelf as Shelf>⟧.in_use shelf ≡ Nothing) }
-{
-    let inputs = Inputs {
-        edits: FORWARDED.edits,
-        steps: "",
-        mirrors: "",
-        traces: FORWARDED.traces,
-    };
-    shelf_of(alloc, &inputs, failing_call)
-}
-
-// Whether a file in use is the one that is to be in use.
-fn is_file_in_use(
-    alloc: Global,
-    file: Option<(&str, &[u8])>,
-    wanted: Option<(&str, &str)>,
-) -> Result<bool, AllocError> {
-    match (file, wanted) {
-        (Some((name, bytes)), Some((wanted, lines))) => {
-            let text = text_of(alloc, lines)?;
-            Ok(name == wanted && bytes == text.as_slice())
-        }
-        (file, wanted) => Ok(file.is_none() && wanted.is_none()),
-    }
-}
-
-// Whether these are as many of the wanted files.
-fn are_first_files(files: &[File], mut wanted: Vec<File>, count: usize) -> bool {
-    wanted.truncate(count);
-    are_files(files, &wanted)
-}
-
-// Whether a call that fails in writing is told, and leaves what it is to leave.
-fn is_cut_as_shown<R: Threads + Wait + Sync>(
-    rt: &R,
-    alloc: Global,
-    unwritten: &Unwritten,
-) -> Result<bool, AllocError> {
-    let shelf = shelf_of_one_frame(alloc, unwritten.failing_call)?;
-    let ended = run_over(rt, alloc, FORWARDED.words, shelf, Vec::new(alloc))?;
-    let told = ended.tells(alloc, WRITE_FAULT, unwritten.text)?;
-    let wanted = files_of(alloc, &FORWARDED)?;
-    let whole = are_first_files(ended.shelf.made(), wanted, unwritten.whole);
-    Ok(told && whole && is_file_in_use(alloc, ended.shelf.current(), unwritten.in_use)?)
-}
-
-// The same in a run with flows and a mirror.
-fn is_cut_beside<R: Threads + Wait + Sync>(
-    rt: &R,
-    alloc: Global,
-    outlets: &Outlets,
-    unwritten: &Unwritten,
-) -> Result<bool, AllocError> {
-    let run = &outlets.run;
-    let inputs = Inputs {
-        edits: run.edits,
-        steps: "",
-        mirrors: outlets.mirrors.unwrap_or(""),
-        traces: run.traces,
-    };
-    let shelf = shelf_of(alloc, &inputs, unwritten.failing_call)?;
-    let ended = run_over(rt, alloc, run.words, shelf, Vec::new(alloc))?;
-    let told = ended.tells(alloc, WRITE_FAULT, unwritten.text)?;
-    let wanted = files_with_outlets(alloc, outlets)?;
-    let whole = are_first_files(ended.shelf.made(), wanted, unwritten.whole);
-    Ok(told && whole && is_file_in_use(alloc, ended.shelf.current(), unwritten.in_use)?)
-}
-
-#[test]
-fn failed_writes_are_told(rt: HostRuntime) -> Result<(), Fail> {
-    let alloc = rt.alloc();
-    for unwritten in &UNWRITTEN {
-        assert!(rt;
-            is_cut_as_shown(&rt, alloc, unwritten)?,
-            "{}",
-            unwritten.shows
-        );
-    }
-    for unwritten in &UNWRITTEN_OUTLETS {
-        assert!(rt;
-            is_cut_beside(&rt, alloc, &MIRRORED_FLOW, unwritten)?,
-            "{}",
-            unwritten.shows
-        );
-    }
-    Ok(())
-}
-
-// Whether a run whose summary isn't printed ends as one whose writing failed, and leaves all its files and no text.
-fn ends_without_summary<R: Threads + Wait + Sync>(
-    rt: &R,
-    alloc: Global,
-) -> Result<bool, AllocError> {
-    let shelf = shelf_of_one_frame(alloc, 0)?;
-    let ended = run_over(rt, alloc, FORWARDED.words, shelf, vec![in alloc; 1]?)?;
-    let told = ended.tells(alloc, WRITE_FAULT, "")?;
-    let files = files_of(alloc, &FORWARDED)?;
-    Ok(told && ended.leaves(&files))
-}
-
-// The sink fails at its first call.
-#[test]
-fn a_summary_that_is_not_printed_is_a_failed_write(rt: HostRuntime) -> Result<(), Fail> {
-    assert!(rt; ends_without_summary(&rt, rt.alloc())?);
-    Ok(())
-}
-
-// A sink that fails at its first call leaves the status of a refusal.
-#[test]
-fn failed_output_leaves_the_status(rt: HostRuntime) -> Result<(), Fail> {
-    let alloc = rt.alloc();
-    let words = ["edits", "out", "1=a.pcap"];
-    let mut shelf = MadeShelf::new(Vec::new(alloc));
-    let mut say = MemorySink::new(alloc, vec![in alloc; 1]?);
-    assert_eq!(rt; status_of(&rt, alloc, &words, &mut shelf, &mut say)?, 4);
-    assert!(rt; say.text().is_empty());
     Ok(())
 }
 

@@ -1,14 +1,14 @@
 //! Runs over great traces, which are made while they are read.
 
-use crate::bytes::text_of;
-use crate::cases::HEADER;
 use crate::made::{MadeFile, MadeShelf, Piece};
-use crate::running::status_of;
 use edge_memory::MemorySink;
 use std::alloc::{AllocError, Global};
 use std::sync::Wait;
 use std::test::Fail;
 use std::thread::Threads;
+use switch_runs::bytes::text_of;
+use switch_runs::cases::HEADER;
+use switch_runs::running::status_of;
 
 const ONE_TRACE: [&str; 4] = ["edits", "out", "1=a.pcap", "2="];
 

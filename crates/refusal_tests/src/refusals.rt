@@ -1,6 +1,6 @@
 //! Runs that are refused, by their files or since reading fails.
 
-use crate::cases::{Bytes, MIRRORS, STEPS, TWO_TRACES, Trace, WORDS};
+use switch_runs::cases::{Bytes, MIRRORS, STEPS, TWO_TRACES, Trace, WORDS};
 
 /// A rule that sends the frames of port 1 to port 2.
 pub const FORWARD: &str = "in_port=1,actions=2";

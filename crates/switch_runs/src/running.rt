@@ -26,6 +26,26 @@ pub struct Inputs<'a> {
     pub traces: &'static [Trace],
 }
 
+impl<'a> Inputs<'a> {
+    /// Those of a run without steps and mirrors.
+    pub fn of(run: &Run<'a>) -> Inputs<'a> {
+        Inputs {
+            edits: run.edits,
+            steps: "",
+            mirrors: "",
+            traces: run.traces,
+        }
+    }
+
+    /// Those of a run, with its mirrors.
+    pub fn beside(outlets: &Outlets) -> Inputs<'static> {
+        Inputs {
+            mirrors: outlets.mirrors.unwrap_or(""),
+            ..Inputs::of(&outlets.run)
+        }
+    }
+}
+
 /// A shelf with these files, whose call of this number fails. No call has the number 0.
 pub fn shelf_of(
     alloc: Global,
@@ -134,6 +154,11 @@ impl Ended {
         self.shelf.current().is_none() && are_files(self.shelf.made(), files)
     }
 
+    /// The name of the file that was opened last, or asked for in vain.
+    pub fn last_opened(&self) -> Option<&str> {
+        self.shelf.opened().last().map(|name| name.as_str())
+    }
+
     /// Whether these files were opened and no others, in this order.
     pub fn has_opened(&self, names: &[&str]) -> bool {
         self.shelf.opened().len() == names.len()
@@ -172,22 +197,26 @@ fn has_opened_its_files(
     Ok(ended.has_opened(&names))
 }
 
-// Runs the switch over what it reads, without a fault.
-fn run_of<R: Threads + Wait + Sync>(
+// Runs the switch over files, where the shelf's call of this number fails.
+fn run_on<R: Threads + Wait + Sync>(
+    rt: &R,
+    alloc: Global,
+    words: &[&str],
+    inputs: &Inputs<'_>,
+    failing_call: u64,
+) -> Result<Ended, AllocError> {
+    let shelf = shelf_of(alloc, inputs, failing_call)?;
+    run_over(rt, alloc, words, shelf, Vec::new(alloc))
+}
+
+/// Runs the switch over what it reads, where the shelf's call of this number fails.
+pub fn run_with_failing<R: Threads + Wait + Sync>(
     rt: &R,
     alloc: Global,
     run: &Run<'_>,
-    steps: &str,
-    mirrors: &str,
+    failing_call: u64,
 ) -> Result<Ended, AllocError> {
-    let inputs = Inputs {
-        edits: run.edits,
-        steps,
-        mirrors,
-        traces: run.traces,
-    };
-    let shelf = shelf_of(alloc, &inputs, 0)?;
-    run_over(rt, alloc, run.words, shelf, Vec::new(alloc))
+    run_on(rt, alloc, run.words, &Inputs::of(run), failing_call)
 }
 
 /// Whether a run, perhaps with given steps, is done, prints its summary, and leaves its files; and whether it opened all
@@ -198,7 +227,11 @@ pub fn ends_as_shown<R: Threads + Wait + Sync>(
     run: &Run<'_>,
     steps: Option<&str>,
 ) -> Result<bool, AllocError> {
-    let ended = run_of(rt, alloc, run, steps.unwrap_or(""), "")?;
+    let inputs = Inputs {
+        steps: steps.unwrap_or(""),
+        ..Inputs::of(run)
+    };
+    let ended = run_on(rt, alloc, run.words, &inputs, 0)?;
     let told = ended.tells(alloc, DONE, run.summary)?;
     let files = files_of(alloc, run)?;
     let given = if steps.is_some() { Some("steps") } else { None };
@@ -212,7 +245,7 @@ pub fn ends_with_outlets<R: Threads + Wait + Sync>(
     outlets: &Outlets,
 ) -> Result<bool, AllocError> {
     let run = &outlets.run;
-    let ended = run_of(rt, alloc, run, "", outlets.mirrors.unwrap_or(""))?;
+    let ended = run_on(rt, alloc, run.words, &Inputs::beside(outlets), 0)?;
     let told = ended.tells(alloc, DONE, run.summary)?;
     let files = files_with_outlets(alloc, outlets)?;
     let given = if outlets.mirrors.is_some() {

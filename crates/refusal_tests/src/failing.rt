@@ -1,5 +1,8 @@
 //! Calls that fail in writing what comes of a run.
 
+/// How many calls of the shelf, the first ones, the run `WEB` makes in reading its three files.
+pub const WEB_READING_CALLS: u64 = 12;
+
 /// A call of the shelf that fails in the run of `FORWARDED`, and what is left then.
 #[derive(Drop)]
 pub struct Unwritten {

@@ -1,11 +1,11 @@
 //! Words that are refused, before any file is opened.
-use crate::cases::USAGE;
-use crate::running::run_over;
 use edge_memory::MemoryShelf;
 use std::alloc::{AllocError, Global};
 use std::sync::Wait;
 use std::test::Fail;
 use std::thread::Threads;
+use switch_runs::cases::USAGE;
+use switch_runs::running::run_over;
 
 /// Words after the program's name, with the status and the text that a run ends with.
 #[derive(Drop)]

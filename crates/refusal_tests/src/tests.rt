@@ -1,0 +1,392 @@
+ghost use Rattle.std.specs.Prelude.{◌≡◌, IfOk};
+ghost use Rattle.edge_io.specs.declared.outside.InUse.TheVariants.{Nothing};
+
+use crate::failing::{UNWRITTEN, UNWRITTEN_OUTLETS, Unwritten, WEB_READING_CALLS};
+use crate::made::MadeShelf;
+use crate::refusals::{
+    EDITS_FAULTS, FORWARD, Fault, MIRROR_FAULTS, ONE_FRAME, REFUSED, Refused, STEPS_FAULTS,
+    TRACE_FAULTS, TraceFault,
+};
+use edge_io::Shelf;
+use edge_memory::{MemoryShelf, MemorySink};
+use std::alloc::{AllocError, Global};
+use std::sync::Wait;
+use std::test::Fail;
+use std::thread::Threads;
+use switch_runs::bytes::text_of;
+use switch_runs::cases::{MIRRORS, Outlets, Run, STEPS, WORDS};
+use switch_runs::known::{FORWARDED, MIRRORED_FLOW, WEB};
+use switch_runs::running::{
+    DONE, Ended, File, Inputs, are_files, ends_as_shown, files_of, files_with_outlets, run_over,
+    run_with_failing, shelf_of, status_of,
+};
+
+// The status of a run in which reading failed.
+const READ_FAULT: u8 = 5;
+
+// The status of a run in which writing failed.
+const WRITE_FAULT: u8 = 6;
+
+// The most bytes of a line.
+const MOST_BYTES: usize = 4_096;
+
+// The most bytes of a mirrors file.
+const MOST_MIRRORS_BYTES: usize = 65_536;
+
+// Whether a run is refused so, and leaves no file.
+fn is_refused_as_shown<R: Threads + Wait + Sync>(
+    rt: &R,
+    alloc: Global,
+    run: &Refused<'_>,
+) -> Result<bool, AllocError> {
+    let inputs = Inputs {
+        edits: run.edits,
+        steps: run.steps,
+        mirrors: run.mirrors,
+        traces: run.traces,
+    };
+    let shelf = shelf_of(alloc, &inputs, run.failing_call)?;
+    let ended = run_over(rt, alloc, run.words, shelf, Vec::new(alloc))?;
+    let left = ended.leaves(&[]) && ended.has_opened(run.opened);
+    Ok(left && ended.tells(alloc, run.status, run.text)?)
+}
+
+// The run whose edits have this fault.
+fn with_edits(fault: &Fault) -> Refused<'static> {
+    Refused {
+        shows: fault.shows,
+        words: WORDS,
+        edits: fault.file,
+        steps: "",
+        mirrors: "",
+        traces: ONE_FRAME,
+        failing_call: 0,
+        status: fault.status,
+        text: fault.text,
+        opened: &["edits"],
+    }
+}
+
+// The run whose steps file has this fault.
+fn with_steps(fault: &Fault) -> Refused<'static> {
+    Refused {
+        shows: fault.shows,
+        words: STEPS,
+        edits: FORWARD,
+        steps: fault.file,
+        mirrors: "",
+        traces: ONE_FRAME,
+        failing_call: 0,
+        status: fault.status,
+        text: fault.text,
+        opened: &["edits", "steps"],
+    }
+}
+
+// The run whose mirrors file has this fault.
+fn with_mirrors(fault: &Fault) -> Refused<'static> {
+    Refused {
+        shows: fault.shows,
+        words: MIRRORS,
+        edits: FORWARD,
+        steps: "",
+        mirrors: fault.file,
+        traces: ONE_FRAME,
+        failing_call: 0,
+        status: fault.status,
+        text: fault.text,
+        opened: &["edits", "mirrors"],
+    }
+}
+
+// The run whose trace has this fault.
+fn with_trace(fault: &TraceFault) -> Refused<'static> {
+    Refused {
+        shows: fault.shows,
+        words: WORDS,
+        edits: FORWARD,
+        steps: "",
+        mirrors: "",
+        traces: fault.traces,
+        failing_call: 0,
+        status: 4,
+        text: fault.text,
+        opened: &["edits", "a.pcap"],
+    }
+}
+
+#[test]
+fn faulty_files_are_refused(rt: HostRuntime) -> Result<(), Fail> {
+    let alloc = rt.alloc();
+    let edits = EDITS_FAULTS.iter().map(with_edits);
+    let steps = STEPS_FAULTS.iter().map(with_steps);
+    let mirrors = MIRROR_FAULTS.iter().map(with_mirrors);
+    let traces = TRACE_FAULTS.iter().map(with_trace);
+    for run in edits.chain(steps).chain(mirrors).chain(traces) {
+        assert!(rt; is_refused_as_shown(&rt, alloc, &run)?, "{}", run.shows);
+    }
+    Ok(())
+}
+
+#[test]
+fn the_first_refusal_is_told(rt: HostRuntime) -> Result<(), Fail> {
+    let alloc = rt.alloc();
+    for run in &REFUSED {
+        assert!(rt; is_refused_as_shown(&rt, alloc, run)?, "{}", run.shows);
+    }
+    Ok(())
+}
+
+// A line that is so many bytes long by spaces at its end.
+fn padded(alloc: Global, line: &str, bytes: usize) -> Result<String, AllocError> {
+    let mut padded = String::from_str(alloc, line)?;
+    for _ in padded.len()..bytes {
+        padded.push(' ')?;
+    }
+    Ok(padded)
+}
+
+// A run that is refused for a line in the last of the files that it opens.
+fn with_long_line<'a>(
+    edits: &'a str,
+    steps: &'a str,
+    opened: &'static [&'static str],
+) -> Refused<'a> {
+    Refused {
+        shows: "a line of 4,097 bytes",
+        words: STEPS,
+        edits,
+        steps,
+        mirrors: "",
+        traces: ONE_FRAME,
+        failing_call: 0,
+        status: 7,
+        text: "limit: line 4096",
+        opened,
+    }
+}
+
+#[test]
+fn a_line_has_at_most_4096_bytes(rt: HostRuntime) -> Result<(), Fail> {
+    let alloc = rt.alloc();
+    let longest = padded(alloc, FORWARD, MOST_BYTES)?;
+    let run = Run {
+        edits: longest.as_str(),
+        ..FORWARDED
+    };
+    assert!(rt; ends_as_shown(&rt, alloc, &run, None)?);
+    let edits = padded(alloc, FORWARD, MOST_BYTES + 1)?;
+    let run = with_long_line(edits.as_str(), "", &["edits"]);
+    assert!(rt; is_refused_as_shown(&rt, alloc, &run)?, "edits");
+    let steps = padded(alloc, "edit", MOST_BYTES + 1)?;
+    let run = with_long_line(FORWARD, steps.as_str(), &["edits", "steps"]);
+    assert!(rt; is_refused_as_shown(&rt, alloc, &run)?, "steps");
+    Ok(())
+}
+
+// A run with this mirrors file, which passes a limit.
+fn with_long_mirrors<'a>(mirrors: &'a str, text: &'static str) -> Refused<'a> {
+    Refused {
+        shows: "a mirrors file that is too long",
+        words: MIRRORS,
+        edits: FORWARD,
+        steps: "",
+        mirrors,
+        traces: ONE_FRAME,
+        failing_call: 0,
+        status: 7,
+        text,
+        opened: &["edits", "mirrors"],
+    }
+}
+
+#[test]
+fn mirrors_have_at_most_65536_bytes_and_4096_in_a_line(rt: HostRuntime) -> Result<(), Fail> {
+    let alloc = rt.alloc();
+    let line = padded(alloc, "select_all", MOST_BYTES + 1)?;
+    let run = with_long_mirrors(line.as_str(), "limit: line 4096");
+    assert!(rt; is_refused_as_shown(&rt, alloc, &run)?, "line");
+    let file = padded(alloc, "select_all", MOST_MIRRORS_BYTES)?;
+    let run = with_long_mirrors(file.as_str(), "limit: mirrors-bytes 65536");
+    assert!(rt; is_refused_as_shown(&rt, alloc, &run)?, "file");
+    Ok(())
+}
+
+// The shelf of the run `FORWARDED`, whose call of this number fails.
+fn shelf_of_one_frame(alloc: Global, failing_call: u64) -> Result<MemoryShelf, AllocError>
+    ensures { IfOk result (λ shelf. ⟦<MemoryShelf as Shelf>⟧.in_use shelf ≡ Nothing) }
+{
+    shelf_of(alloc, &Inputs::of(&FORWARDED), failing_call)
+}
+
+// Whether a file in use is the one that is to be in use.
+fn is_file_in_use(
+    alloc: Global,
+    file: Option<(&str, &[u8])>,
+    wanted: Option<(&str, &str)>,
+) -> Result<bool, AllocError> {
+    match (file, wanted) {
+        (Some((name, bytes)), Some((wanted, lines))) => {
+            let text = text_of(alloc, lines)?;
+            Ok(name == wanted && bytes == text.as_slice())
+        }
+        (file, wanted) => Ok(file.is_none() && wanted.is_none()),
+    }
+}
+
+// Whether these are as many of the wanted files.
+fn are_first_files(files: &[File], mut wanted: Vec<File>, count: usize) -> bool {
+    wanted.truncate(count);
+    are_files(files, &wanted)
+}
+
+// Whether a call that fails in writing is told, and leaves what it is to leave.
+fn is_cut_as_shown<R: Threads + Wait + Sync>(
+    rt: &R,
+    alloc: Global,
+    unwritten: &Unwritten,
+) -> Result<bool, AllocError> {
+    let shelf = shelf_of_one_frame(alloc, unwritten.failing_call)?;
+    let ended = run_over(rt, alloc, FORWARDED.words, shelf, Vec::new(alloc))?;
+    let told = ended.tells(alloc, WRITE_FAULT, unwritten.text)?;
+    let wanted = files_of(alloc, &FORWARDED)?;
+    let whole = are_first_files(ended.shelf.made(), wanted, unwritten.whole);
+    Ok(told && whole && is_file_in_use(alloc, ended.shelf.current(), unwritten.in_use)?)
+}
+
+// The same in a run with flows and a mirror.
+fn is_cut_beside<R: Threads + Wait + Sync>(
+    rt: &R,
+    alloc: Global,
+    outlets: &Outlets,
+    unwritten: &Unwritten,
+) -> Result<bool, AllocError> {
+    let run = &outlets.run;
+    let shelf = shelf_of(alloc, &Inputs::beside(outlets), unwritten.failing_call)?;
+    let ended = run_over(rt, alloc, run.words, shelf, Vec::new(alloc))?;
+    let told = ended.tells(alloc, WRITE_FAULT, unwritten.text)?;
+    let wanted = files_with_outlets(alloc, outlets)?;
+    let whole = are_first_files(ended.shelf.made(), wanted, unwritten.whole);
+    Ok(told && whole && is_file_in_use(alloc, ended.shelf.current(), unwritten.in_use)?)
+}
+
+#[test]
+fn failed_writes_are_told(rt: HostRuntime) -> Result<(), Fail> {
+    let alloc = rt.alloc();
+    for unwritten in &UNWRITTEN {
+        assert!(rt;
+            is_cut_as_shown(&rt, alloc, unwritten)?,
+            "{}",
+            unwritten.shows
+        );
+    }
+    for unwritten in &UNWRITTEN_OUTLETS {
+        assert!(rt;
+            is_cut_beside(&rt, alloc, &MIRRORED_FLOW, unwritten)?,
+            "{}",
+            unwritten.shows
+        );
+    }
+    Ok(())
+}
+
+// Whether the run `WEB` whose call of this number fails tells the file in use, and leaves those before it whole.
+fn is_told_and_cut<R: Threads + Wait + Sync>(
+    rt: &R,
+    alloc: Global,
+    failing_call: u64,
+) -> Result<bool, AllocError> {
+    let ended = run_with_failing(rt, alloc, &WEB, failing_call)?;
+    let wanted = files_of(alloc, &WEB)?;
+    let whole = ended.shelf.made().len();
+    let told = if failing_call <= WEB_READING_CALLS {
+        tells_fault(alloc, &ended, READ_FAULT, "read", ended.last_opened())?
+    } else {
+        tells_write_fault(alloc, &ended, &wanted, whole)?
+    };
+    Ok(told && are_first_files(ended.shelf.made(), wanted, whole))
+}
+
+// Whether a run tells that it failed in reading or writing a file.
+fn tells_fault(
+    alloc: Global,
+    ended: &Ended,
+    status: u8,
+    kind: &str,
+    name: Option<&str>,
+) -> Result<bool, AllocError> {
+    let Some(name) = name else {
+        return Ok(false);
+    };
+    let text = format!(in alloc; "{kind} fault: {name}")?;
+    ended.tells(alloc, status, text.as_str())
+}
+
+// Whether a run tells that it failed in writing the first file that isn't whole, or in closing the last one that is.
+fn tells_write_fault(
+    alloc: Global,
+    ended: &Ended,
+    wanted: &[File],
+    whole: usize,
+) -> Result<bool, AllocError> {
+    let next = wanted.get(whole).map(|file| file.0.as_str());
+    let last = wanted[..whole.min(wanted.len())]
+        .last()
+        .map(|file| file.0.as_str());
+    Ok(
+        tells_fault(alloc, ended, WRITE_FAULT, "write", next)?
+            || tells_fault(alloc, ended, WRITE_FAULT, "write", last)?,
+    )
+}
+
+#[test]
+fn each_call_that_fails_is_told(rt: HostRuntime) -> Result<(), Fail> {
+    let alloc = rt.alloc();
+    let done = run_with_failing(&rt, alloc, &WEB, 0)?;
+    assert!(rt; done.tells(alloc, DONE, WEB.summary)?);
+    for calls_before in 0..done.shelf.calls() {
+        assert!(rt;
+            is_told_and_cut(&rt, alloc, calls_before + 1)?,
+            "{calls_before}"
+        );
+    }
+    Ok(())
+}
+
+// Whether a run whose summary isn't printed ends as one whose writing failed, and leaves all its files and no text.
+fn ends_without_summary<R: Threads + Wait + Sync>(
+    rt: &R,
+    alloc: Global,
+    failing_print: u64,
+) -> Result<bool, AllocError> {
+    let shelf = shelf_of_one_frame(alloc, 0)?;
+    let prints = vec![in alloc; failing_print]?;
+    let ended = run_over(rt, alloc, FORWARDED.words, shelf, prints)?;
+    let told = ended.tells(alloc, WRITE_FAULT, "")?;
+    let files = files_of(alloc, &FORWARDED)?;
+    Ok(told && ended.leaves(&files))
+}
+
+// Each call of the sink fails in turn.
+#[test]
+fn a_summary_that_is_not_printed_is_a_failed_write(rt: HostRuntime) -> Result<(), Fail> {
+    let alloc = rt.alloc();
+    let done = run_with_failing(&rt, alloc, &FORWARDED, 0)?;
+    assert!(rt; done.say.calls() > 0);
+    for calls_before in 0..done.say.calls() {
+        assert!(rt; ends_without_summary(&rt, alloc, calls_before + 1)?);
+    }
+    Ok(())
+}
+
+// A sink that fails at its first call leaves the status of a refusal.
+#[test]
+fn failed_output_leaves_the_status(rt: HostRuntime) -> Result<(), Fail> {
+    let alloc = rt.alloc();
+    let words = ["edits", "out", "1=a.pcap"];
+    let mut shelf = MadeShelf::new(Vec::new(alloc));
+    let mut say = MemorySink::new(alloc, vec![in alloc; 1]?);
+    assert_eq!(rt; status_of(&rt, alloc, &words, &mut shelf, &mut say)?, 4);
+    assert!(rt; say.text().is_empty());
+    Ok(())
+}
