@@ -62,7 +62,43 @@ pub struct Fault {
 }
 
 /// Files of edits that are refused.
-pub static EDITS_FAULTS: [Fault; 9] = [
+pub static EDITS_FAULTS: [Fault; 15] = [
+    Fault {
+        shows: "a prefix that is too long",
+        file: "ip,nw_dst=10.0.0.0/33,actions=2",
+        status: 3,
+        text: "edits:1:11: bad value",
+    },
+    Fault {
+        shows: "an octet with a leading zero",
+        file: "ip,nw_src=010.0.0.1,actions=2",
+        status: 3,
+        text: "edits:1:11: bad value",
+    },
+    Fault {
+        shows: "a number that doesn't fit",
+        file: "reg0=0x1ffffffff,actions=2",
+        status: 3,
+        text: "edits:1:6: bad value",
+    },
+    Fault {
+        shows: "a table that isn't one",
+        file: "table=255,actions=2",
+        status: 3,
+        text: "edits:1:7: bad value",
+    },
+    Fault {
+        shows: "a bracket that isn't closed",
+        file: "actions=resubmit(,1",
+        status: 3,
+        text: "edits:1:9: syntax",
+    },
+    Fault {
+        shows: "a byte that isn't ASCII",
+        file: "\u{80}",
+        status: 3,
+        text: "edits:1:1: syntax",
+    },
     Fault {
         shows: "an action that is left out",
         file: "in_port=1,actions=normal",
@@ -245,7 +281,7 @@ pub struct TraceFault {
 }
 
 /// Traces that are refused. The magic is that of pcapng, and the link type LINKTYPE_RAW.
-pub static TRACE_FAULTS: [TraceFault; 8] = [
+pub static TRACE_FAULTS: [TraceFault; 10] = [
     TraceFault {
         shows: "a header cut short",
         traces: &[("a.pcap", Bytes::CutAt(&[]))],
@@ -260,6 +296,11 @@ pub static TRACE_FAULTS: [TraceFault; 8] = [
         shows: "another version",
         traces: &[("a.pcap", Bytes::With(4, &[3]))],
         text: "a.pcap: version 3.4",
+    },
+    TraceFault {
+        shows: "another minor version",
+        traces: &[("a.pcap", Bytes::With(6, &[3]))],
+        text: "a.pcap: version 2.3",
     },
     TraceFault {
         shows: "another link type",
@@ -279,6 +320,11 @@ pub static TRACE_FAULTS: [TraceFault; 8] = [
     TraceFault {
         shows: "262,145 captured bytes",
         traces: &[("a.pcap", Bytes::With(32, &[1, 0, 4, 0]))],
+        text: "a.pcap: too long at 24",
+    },
+    TraceFault {
+        shows: "as many captured bytes as a number can say",
+        traces: &[("a.pcap", Bytes::With(32, &[0xff, 0xff, 0xff, 0xff]))],
         text: "a.pcap: too long at 24",
     },
     TraceFault {

@@ -13,8 +13,8 @@ use std::alloc::{AllocError, Global};
 use std::sync::Wait;
 use std::test::Fail;
 use std::thread::Threads;
-use switch_runs::bytes::text_of;
-use switch_runs::cases::{MIRRORS, Outlets, Run, STEPS, WORDS};
+use switch_runs::bytes::{bytes_of, text_of};
+use switch_runs::cases::{Bytes, MIRRORS, Outlets, Run, STEPS, WORDS};
 use switch_runs::known::{FORWARDED, MIRRORED_FLOW, WEB};
 use switch_runs::running::{
     DONE, Ended, File, Inputs, are_files, ends_as_shown, files_of, files_with_outlets, run_over,
@@ -124,6 +124,32 @@ fn faulty_files_are_refused(rt: HostRuntime) -> Result<(), Fail> {
     let traces = TRACE_FAULTS.iter().map(with_trace);
     for run in edits.chain(steps).chain(mirrors).chain(traces) {
         assert!(rt; is_refused_as_shown(&rt, alloc, &run)?, "{}", run.shows);
+    }
+    Ok(())
+}
+
+// Whether a trace of one frame that ends after so many bytes is refused.
+fn is_refused_cut_at<R: Threads + Wait + Sync>(
+    rt: &R,
+    alloc: Global,
+    bytes: usize,
+) -> Result<bool, AllocError> {
+    let mut trace = bytes_of(alloc, &Bytes::At(&[1]))?;
+    trace.truncate(bytes);
+    let mut files = Vec::new(alloc);
+    files.push((String::from_str(alloc, "edits")?, text_of(alloc, FORWARD)?))?;
+    files.push((String::from_str(alloc, "a.pcap")?, trace))?;
+    let shelf = MemoryShelf::new(alloc, files, Vec::new(alloc));
+    let ended = run_over(rt, alloc, WORDS, shelf, Vec::new(alloc))?;
+    Ok(ended.leaves(&[]) && ended.tells(alloc, 4, "a.pcap: short record at 24")?)
+}
+
+// The header of the file has 24 bytes, and the record 76.
+#[test]
+fn a_record_that_ends_anywhere_is_short(rt: HostRuntime) -> Result<(), Fail> {
+    let alloc = rt.alloc();
+    for bytes in 25..100 {
+        assert!(rt; is_refused_cut_at(&rt, alloc, bytes)?, "{bytes}");
     }
     Ok(())
 }
