@@ -42,7 +42,7 @@ abbrev pub put_kept : Run → ℕ → Option ℕ → Board → Met
 put_kept run number None b = (false, b)
 put_kept run number (Some v) b = met_if (is_none (put_fault run b.state number v)) (put_at run v number b) b
 
--- what a given step does to the board of its port, where so many edits are published
+-- what a given step does to the board of its port, where so many bundles are published
 abbrev pub given_step : Run → ℕ → RunStep → Board → Met
 given_step run newest given.Edit b = (false, b)
 given_step run newest (given.Rx port) b = met_if (is_none (look_fault run b.port b.state b.state.next)) (look_next run b) b
@@ -90,7 +90,7 @@ with_port_step run step port s = record s {
   unmet = counted (is_met_at run s.newest step (find (λ (b : Board). b.port == port) s.boards)) s.unmet;
 }
 
--- an edit is published where one of the least block of the boards is left
+-- a bundle is published where one of the least block of the boards is left
 abbrev pub with_edit_step : Run → Schedule → Schedule
 with_edit_step run s =
     if nat_lt s.newest (hi run (least_block (last_block run) s.boards)) then record s { newest = s.newest + 1 }

@@ -6,7 +6,7 @@ use Rattle.spec_keys.specs.Fields.{place_of}
 use Rattle.spec_keys.specs.Keys.{same, agree, covers, overlap}
 use Rattle.spec_actions.specs.declared.action.DpAction.{DpAction}
 use Rattle.spec_actions.specs.declared.action.DpAction.TheVariants.{Output, PopVlan, PushVlan, Set}
-use Rattle.spec_tables.specs.Edits.{version}
+use Rattle.spec_tables.specs.Bundles.{version}
 use Rattle.spec_xlate.specs.Translation.{Switch, switch_of, Translation, pipe}
 use Rattle.spec_xlate.specs.Consulted.{consulted}
 use Rattle.spec_case.specs.Run.{Run, frame_at}
@@ -27,7 +27,7 @@ key_at run port place = frames.key_of port (frame_at run port place).bytes
 
 -- the switch at a version of its tables
 abbrev pub switch_at : Run → ℕ → Switch
-switch_at run v = switch_of (version run.edits v) run.ports
+switch_at run v = switch_of (version run.edits run.bundles v) run.ports
 
 -- the translation of a key under a version, and the mask of the bits that it consults
 abbrev pub translated : Run → ℕ → List ℕ → Translation

@@ -25,7 +25,7 @@ pub record Board : Type 0 where
   pub snaps : List Kept
   pub checks : List Kept
 
--- how many edits are published, the boards in the order of the words, and how many given steps were not met
+-- how many bundles are published, the boards in the order of the words, and how many given steps were not met
 pub record Schedule : Type 0 where
   pub newest : ℕ
   pub boards : List Board
@@ -97,7 +97,7 @@ unfoldable pub least_block : ℕ → List Board → ℕ
 least_block most [] = most
 least_block most (b ∷ bs) = min b.state.block (least_block most bs)
 
--- All edits of the least block of the boards are published, and each board in it finishes it.
+-- All bundles of the least block of the boards are published, and each board in it finishes it.
 abbrev pub finish_block : Run → Schedule → Schedule
 finish_block run s =
     let block = least_block (last_block run) s.boards in

@@ -4,7 +4,7 @@ use Rattle.spec_pcap.specs.Pcap.{Frame, Capture}
 use Rattle.spec_tables.specs.declared.edit_word.EditWord.TheVariants.{Add}
 use Rattle.spec_tables.specs.Edits.{Edit}
 use Rattle.spec_case.specs.declared.arrival.Arrival.{Arrival}
-use Rattle.spec_case.specs.Run.{Run, frames_in, frame_at, is_nanos}
+use Rattle.spec_case.specs.Run.{Run, last_version, edit_count, frames_in, frame_at, is_nanos}
 use Rattle.spec_tables.specs.declared.sync_point.SyncPoint.{SyncPoint}
 use Rattle.spec_case.specs.Blocks.{hi, lo, ends_after, block_ends, last_place, block_of}
 use Rattle.spec_case.specs.Arrivals.{arrivals_at, arrivals_in, arrivals, put_in_order, in_order}
@@ -23,6 +23,7 @@ abbrev run : Run
 run = record {
   ports = 7 ∷ 2 ∷ 9 ∷ [];
   edits = [];
+  bundles = [];
   syncs = [];
   traces = trace false (frame 3 0xa ∷ frame 1 0xb ∷ frame 2 0xc ∷ []) ∷ trace true (frame 2 0xd ∷ []) ∷ trace false [] ∷ [];
   flow_limit = 0;
@@ -62,6 +63,7 @@ abbrev timed : List ℕ → List SyncPoint → Run
 timed times syncs = record {
   ports = 1 ∷ [];
   edits = [];
+  bundles = [];
   syncs = syncs;
   traces = trace false (map (λ time. frame time 0) times) ∷ [];
   flow_limit = 0;
@@ -97,10 +99,13 @@ a_port_without_frames_has_empty_blocks = refl
 abbrev edit : Edit
 edit = record { word = Add; table = None; priority = 0; cookie = None; matching = record { key = []; mask = [] }; actions = [] }
 
--- Three edits, with a sync point after the first and another after the second.
+-- Three bundles of four edits, with a sync point after the first bundle and another after the second.
 abbrev edited : Run
-edited = record (timed [] (sync 2 1 ∷ sync 2 2 ∷ [])) { edits = replicate 3 edit }
+edited = record (timed [] (sync 2 1 ∷ sync 2 2 ∷ [])) { edits = replicate 4 edit; bundles = 1 ∷ 3 ∷ 4 ∷ [] }
 
-the_edits_before_a_block_and_through_it :
+the_bundles_before_a_block_and_through_it :
     (map (lo edited) (0 ∷ 1 ∷ 2 ∷ []) ≡ 0 ∷ 1 ∷ 2 ∷ []) × (map (hi edited) (0 ∷ 1 ∷ 2 ∷ []) ≡ 1 ∷ 2 ∷ 3 ∷ [])
-the_edits_before_a_block_and_through_it = (refl, refl)
+the_bundles_before_a_block_and_through_it = (refl, refl)
+
+bundles_make_versions_and_edits_are_counted_beside_them : (last_version edited ≡ 3) × (edit_count edited ≡ 4)
+bundles_make_versions_and_edits_are_counted_beside_them = (refl, refl)

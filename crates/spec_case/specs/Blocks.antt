@@ -9,20 +9,20 @@ use Rattle.spec_case.specs.Run.{Run, last_version, frames_of}
 abbrev pub last_block : Run → ℕ
 last_block run = length run.syncs
 
--- of so many edits, how many stand before the sync point that ends a block; in the last block it is all
-abbrev pub edits_through : List SyncPoint → ℕ → ℕ → ℕ
-edits_through syncs edits block = option_map_or (λ (s : SyncPoint). s.after) (slice_get syncs block) edits
+-- of so many bundles, how many stand before the sync point that ends a block; in the last block it is all
+abbrev pub bundles_through : List SyncPoint → ℕ → ℕ → ℕ
+bundles_through syncs bundles block = option_map_or (λ (s : SyncPoint). s.after) (slice_get syncs block) bundles
 
--- After each sync point stand at least as many edits as after the one before it, and at most all.
+-- After each sync point stand at least as many bundles as after the one before it, and at most all.
 abbrev pub AreInOrder : List SyncPoint → ℕ → Type 0
-AreInOrder syncs edits =
-    (block : ℕ) → (edits_through syncs edits block ≤ edits_through syncs edits (block + 1)) × (edits_through syncs edits block ≤ edits)
+AreInOrder syncs bundles =
+    (block : ℕ) → (bundles_through syncs bundles block ≤ bundles_through syncs bundles (block + 1)) × (bundles_through syncs bundles block ≤ bundles)
 
--- the number of edits through a block
+-- the number of bundles through a block
 abbrev pub hi : Run → ℕ → ℕ
-hi run block = edits_through run.syncs (last_version run) block
+hi run block = bundles_through run.syncs (last_version run) block
 
--- the number of edits before a block
+-- the number of bundles before a block
 abbrev pub lo : Run → ℕ → ℕ
 lo run zero = 0
 lo run (suc block) = hi run block

@@ -6,19 +6,24 @@ use Rattle.spec_tables.specs.Edits.{Edit}
 use Rattle.spec_tables.specs.declared.sync_point.SyncPoint.{SyncPoint}
 use Rattle.spec_case.specs.declared.run_step.RunStep.{RunStep}
 
--- the ports in the order of the words, the edits and the sync points of their tables, and the trace of each port; the
--- most entries of a port's cache, and the schedule's given steps
+-- the ports in the order of the words; the edits of their tables, how many of these stand through each bundle, and the
+-- sync points; the trace of each port; the most entries of a port's cache, and the schedule's given steps
 pub record Run : Type 0 where
   pub ports : List ℕ
   pub edits : List Edit
+  pub bundles : List ℕ
   pub syncs : List SyncPoint
   pub traces : List Capture
   pub flow_limit : ℕ
   pub steps : List RunStep
 
--- the last version of the tables: each edit makes one
+-- the last version of the tables: each bundle makes one
 abbrev pub last_version : Run → ℕ
-last_version run = length run.edits
+last_version run = length run.bundles
+
+-- how many edits there are; a rule has the number of the edit that added it
+abbrev pub edit_count : Run → ℕ
+edit_count run = length run.edits
 
 -- the frames of a port's trace
 unfoldable pub frames_in : List ℕ → List Capture → ℕ → List Frame

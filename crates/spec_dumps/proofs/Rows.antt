@@ -7,7 +7,7 @@ use Rattle.spec_keys.specs.Fields.{widths}
 use Rattle.spec_actions.specs.declared.action.OfAction.TheVariants.{Output}
 use Rattle.spec_numbers.specs.Printed.{hexadecimal, hexadecimal4, mac_text, ipv4_text, ipv6_text}
 use Rattle.spec_tables.specs.declared.edit_word.EditWord.TheVariants.{Delete}
-use Rattle.spec_tables.specs.Edits.{version}
+use Rattle.spec_tables.specs.Edits.{after_edits}
 use Rattle.spec_tables.proofs.Packets.{is, key_of, mask_of, match_of}
 use Rattle.spec_flow_text.specs.Printed.{value_in_text, shorthand_of, shown as items_shown, match_printed, actions_printed}
 use Rattle.spec_dp_text.specs.Printed.{dp_actions_printed}
@@ -31,7 +31,7 @@ without_rules = run_of flow_limit (2 ∷ []) [] [] (frame 1 2 ∷ []) []
 -- ---- rules
 
 unfoldable rules_of : Run → List ℕ
-unfolding shown in_order put_in_order version digits hexadecimal hexadecimal4 mac_text ipv4_text ipv6_text value_in_text shorthand_of items_shown match_printed actions_printed
+unfolding shown in_order put_in_order after_edits digits hexadecimal hexadecimal4 mac_text ipv4_text ipv6_text value_in_text shorthand_of items_shown match_printed actions_printed
 rules_of run = rules_text run (shown run).journals
 
 a_line_can_be_read_again :

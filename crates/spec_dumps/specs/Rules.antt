@@ -9,9 +9,9 @@ use Rattle.std.specs.Fmt.{decimal}
 use Rattle.spec_numbers.specs.Characters.{comma}
 use Rattle.spec_numbers.specs.Printed.{hexadecimal}
 use Rattle.spec_tables.specs.Rules.{Rule}
-use Rattle.spec_tables.specs.Edits.{version}
+use Rattle.spec_tables.specs.Bundles.{version}
 use Rattle.spec_tables.specs.Live.{rule_added, is_live}
-use Rattle.spec_case.specs.Run.{Run, last_version}
+use Rattle.spec_case.specs.Run.{Run, last_version, edit_count}
 use Rattle.spec_flow_text.specs.Printed.{match_printed, actions_printed}
 use Rattle.spec_board.specs.State.{State}
 use Rattle.spec_board.specs.Journals.{after}
@@ -86,14 +86,14 @@ gone_line run journals rule = gone_line_with (counts_of run journals rule) rule
 
 -- the rules that are live in the last version
 abbrev pub live_rules : Run → List Rule
-live_rules run = version run.edits (last_version run)
+live_rules run = version run.edits run.bundles (last_version run)
 
 -- the numbers of the rules that an edit added and that aren't live in the last version, in rising order
 abbrev pub is_gone : Run → ℕ → Bool
 is_gone run rule = if is_live rule (live_rules run) then not (is_some (rule_added run.edits rule)) else is_some (rule_added run.edits rule)
 
 abbrev pub gone_rules : Run → List ℕ
-gone_rules run = filter (is_gone run) (range_with_len 1 (last_version run))
+gone_rules run = filter (is_gone run) (range_with_len 1 (edit_count run))
 
 -- the dump of the rules of a run, with the counts that its journals make
 abbrev pub rules_text : Run → List Journal → List ℕ

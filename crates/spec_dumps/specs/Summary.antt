@@ -4,7 +4,7 @@ use Rattle.std.specs.List.{sum_by, range_with_len, join_with_byte}
 use Rattle.std.specs.Fmt.{decimal}
 use Rattle.spec_numbers.specs.Characters.{space}
 use Rattle.spec_actions.specs.declared.action.DpAction.{DpAction}
-use Rattle.spec_case.specs.Run.{Run, frames_of, frame_at, last_version}
+use Rattle.spec_case.specs.Run.{Run, frames_of, frame_at, edit_count}
 use Rattle.spec_case.specs.Blocks.{last_block}
 use Rattle.spec_board.specs.declared.looked.Looked.TheVariants.{Exact, Mega, Miss}
 use Rattle.spec_board.specs.Steps.{Step, Look, Settle, Present, Full, Installed}
@@ -90,7 +90,7 @@ counts_line counts = line_of (join_with_byte space counts)
 abbrev pub run_line : Run → List ℕ
 run_line run =
     counts_line (count (codes "ports") (length run.ports) ∷ count (codes "frames") (frame_count run)
-    ∷ count (codes "edits") (last_version run) ∷ count (codes "blocks") (last_block run + 1) ∷ [])
+    ∷ count (codes "edits") (edit_count run) ∷ count (codes "blocks") (last_block run + 1) ∷ [])
 
 abbrev pub looks_line : List Journal → List ℕ
 looks_line journals =

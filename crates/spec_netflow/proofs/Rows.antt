@@ -46,6 +46,7 @@ abbrev run_of : List Frame → List Frame → Run
 run_of first others = record {
   ports = 1 ∷ 2 ∷ [];
   edits = [];
+  bundles = [];
   syncs = [];
   traces = record { nanos = false; frames = first } ∷ record { nanos = false; frames = others } ∷ [];
   flow_limit = 0;

@@ -93,6 +93,7 @@ abbrev run_with : ℕ → Run
 run_with limit = record {
   ports = 1 ∷ 2 ∷ [];
   edits = [];
+  bundles = [];
   syncs = [];
   traces = capture ∷ record { nanos = false; frames = [] } ∷ [];
   flow_limit = limit;

@@ -224,6 +224,7 @@ abbrev pub run_of : ℕ → Sources → Script → List RunStep → List Capture
 run_of flow_limit sources script steps traces = record {
   ports = ports_said sources.ports;
   edits = script.edits;
+  bundles = script.bundles;
   syncs = script.syncs;
   traces = traces;
   flow_limit = flow_limit;

@@ -1,15 +1,19 @@
--- The file of edits: a line is an edit (`spec_flow_text`), or blank, or a sync line:
+-- The file of edits: a line is an edit (`spec_flow_text`), or blank, or one of these:
 --
 --     sync SECONDS [. FRACTION]
+--     begin
+--     commit
 --
--- A sync line has two words, and gives a time: the edits after it begin a new block then. From `#` on a line is comment.
-use Rattle.std.specs.Prelude.{ℕ, ◌+◌, ◌-◌, ◌*◌, ◌^◌, ◌==◌, nat_lt, nat_le, Bool, true, false, if◌then◌else◌, List, [], ◌∷◌, ◌++◌, length, slice_get, Option, None, Result, Ok, Err, codes, bytes_eq}
+-- A sync line gives a time: the edits after it begin a new block then. The edits between `begin` and `commit` are one
+-- bundle (ovs-ofctl(8), `bundle`), and each other edit is one by itself. From `#` on a line is comment.
+use Rattle.std.specs.Prelude.{ℕ, ◌+◌, ◌-◌, ◌*◌, ◌^◌, ◌==◌, nat_lt, nat_le, Bool, true, false, if◌then◌else◌, List, [], ◌∷◌, ◌++◌, length, slice_get, Option, Some, None, Result, Ok, Err, codes, bytes_eq, is_some}
 use Rattle.std.specs.List.{list_all, slice_split}
-use Rattle.std.specs.Option.{ok_or, option_map, option_map_or, option_and_then}
+use Rattle.std.specs.Option.{ok_or, option_map, option_map_or, option_and_then, is_none}
 use Rattle.spec_numbers.specs.Characters.{line_feed, dot}
 use Rattle.spec_numbers.specs.Numbers.{where_found, split_once, digits_upto, decimal_upto}
 use Rattle.spec_tables.specs.declared.sync_point.SyncPoint.{SyncPoint}
 use Rattle.spec_tables.specs.Edits.{Edit}
+use Rattle.spec_tables.specs.Bundles.{edits_through}
 use Rattle.spec_flow_text.specs.declared.fault.TextFault.{TextFault}
 use Rattle.spec_flow_text.specs.declared.fault.TextFault.TheVariants.{Syntax, BadValue}
 use Rattle.spec_flow_text.specs.Items.{Word, column, is_white, words}
@@ -59,32 +63,58 @@ seconds_with_fraction parts = option_and_then (λ whole. option_map (λ part. wh
 unfoldable pub time_of : List ℕ → Option ℕ
 time_of word = where_found (split_once dot word) seconds_with_fraction (seconds_of word)
 
--- the time of a sync line's words: the first is `sync`, and one follows it
-abbrev pub time_in_words : List Word → Result ℕ TextFault
-time_in_words (w ∷ time ∷ []) = ok_or (time_of time.text) (BadValue (column time))
-time_in_words (w ∷ ws) = Err (Syntax (column w))
-time_in_words [] = Err (Syntax 1)
-
-abbrev pub time_in_text : Result (List ℕ) TextFault → Result ℕ TextFault
-time_in_text (Ok text) = time_in_words (words is_white true 0 text)
-time_in_text (Err e) = Err e
-
--- the time of a sync line
-unfoldable pub sync_time : List ℕ → Result ℕ TextFault
-sync_time line = time_in_text (ascii_from 0 (uncommented line))
-
 -- ---- files
 
--- what a file says: its edits, and its sync points
+-- what a file says: its edits, how many of them stand through each bundle, and its sync points
 pub record Script : Type 0 where
   pub edits : List Edit
+  pub bundles : List ℕ
   pub syncs : List SyncPoint
 
+-- where a bundle was begun
+pub record Begun : Type 0 where
+  pub line : ℕ
+  pub column : ℕ
+
+-- what the lines so far say, and where the bundle that they are in was begun, if they are in one
+pub record Reading : Type 0 where
+  pub said : Script
+  pub begun : Option Begun
+
 abbrev pub nothing_said : Script
-nothing_said = record { edits = []; syncs = [] }
+nothing_said = record { edits = []; bundles = []; syncs = [] }
+
+abbrev pub nothing_read : Reading
+nothing_read = record { said = nothing_said; begun = None }
+
+abbrev pub reads : Script → Reading → Reading
+reads s r = record r { said = s }
+
+-- ---- lines of words
+
+-- the words of a line whose bytes are ASCII
+abbrev pub words_in : Result (List ℕ) TextFault → Result (List Word) TextFault
+words_in (Ok text) = Ok (words is_white true 0 text)
+words_in (Err e) = Err e
+
+abbrev pub words_of : List ℕ → Result (List Word) TextFault
+words_of line = words_in (ascii_from 0 (uncommented line))
+
+-- the time of a sync line's words: `sync`, and one more; a bundle has none
+abbrev pub time_in_words : Option Begun → List Word → Result ℕ TextFault
+time_in_words None (w ∷ time ∷ []) = ok_or (time_of time.text) (BadValue (column time))
+time_in_words begun (w ∷ ws) = Err (Syntax (column w))
+time_in_words begun [] = Err (Syntax 1)
+
+-- the column of a word that stands alone, and where it may
+abbrev pub column_in_words : Bool → List Word → Result ℕ TextFault
+column_in_words true (w ∷ []) = Ok (column w)
+column_in_words true (w ∷ next ∷ ws) = Err (Syntax (column next))
+column_in_words false (w ∷ ws) = Err (Syntax (column w))
+column_in_words may_stand [] = Err (Syntax 1)
 
 infixl 10 ◌>>=◌
-abbrev pub ◌>>=◌ : {A B : Type 0} → Result A ScriptFault → (A → Result B ScriptFault) → Result B ScriptFault
+abbrev pub ◌>>=◌ : {A B E : Type 0} → Result A E → (A → Result B E) → Result B E
 (Ok a) >>= f = f a
 (Err e) >>= f = Err e
 
@@ -97,47 +127,86 @@ abbrev pub in_line : {A : Type 0} → ℕ → Result A TextFault → Result A Sc
 in_line number (Ok a) = Ok a
 in_line number (Err why) = Err (Line number why)
 
+-- the time of a sync line
+unfoldable pub sync_time : Option Begun → List ℕ → Result ℕ TextFault
+sync_time begun line = words_of line >>= time_in_words begun
+
+-- the column of the one word of a line
+unfoldable pub word_alone : Bool → List ℕ → Result ℕ TextFault
+word_alone may_stand line = words_of line >>= column_in_words may_stand
+
+-- the bundles with one that all edits so far are through, if there are edits since the last one
+abbrev pub with_bundle : Script → Script
+with_bundle s =
+    if nat_lt (edits_through s.bundles (length s.bundles)) (length s.edits) then record s { bundles = s.bundles ++ length s.edits ∷ [] } else s
+
+-- one more edit, which is a bundle by itself where none was begun
+abbrev pub with_edit_in : Option Begun → Edit → Script → Script
+with_edit_in None e s = with_bundle (record s { edits = s.edits ++ e ∷ [] })
+with_edit_in (Some b) e s = record s { edits = s.edits ++ e ∷ [] }
+
 -- the script with the edit of one more line
-unfoldable pub with_edit : ℕ → List ℕ → Script → Result Script ScriptFault
-with_edit number line s = do
-  room ← unless (nat_lt (length s.edits) most_edits) TooManyEdits
+unfoldable pub with_edit : ℕ → List ℕ → Reading → Result Reading ScriptFault
+with_edit number line r = do
+  room ← unless (nat_lt (length r.said.edits) most_edits) TooManyEdits
   e ← in_line number (edit_in line)
-  Ok (record s { edits = s.edits ++ e ∷ [] })
+  Ok (reads (with_edit_in r.begun e r.said) r)
 
 -- the time of the last sync point so far; there is none before time 0
 abbrev pub last_time : List SyncPoint → ℕ
 last_time syncs = option_map_or (λ (s : SyncPoint). s.time) (slice_get syncs (length syncs - 1)) 0
 
--- the sync point of a time, after these edits
-abbrev pub sync_at : List Edit → ℕ → SyncPoint
-sync_at edits time = record { time = time; after = length edits }
+-- the sync point of a time, after these bundles
+abbrev pub sync_at : List ℕ → ℕ → SyncPoint
+sync_at bundles time = record { time = time; after = length bundles }
 
 -- the script with a sync point more, which is no earlier than the one before it
-unfoldable pub with_sync : ℕ → List ℕ → Script → Result Script ScriptFault
-with_sync number line s = do
-  room ← unless (nat_lt (length s.syncs) most_syncs) TooManySyncs
-  time ← in_line number (sync_time line)
-  order ← unless (nat_le (last_time s.syncs) time) (SyncOrder number)
-  Ok (record s { syncs = s.syncs ++ sync_at s.edits time ∷ [] })
+unfoldable pub with_sync : ℕ → List ℕ → Reading → Result Reading ScriptFault
+with_sync number line r = do
+  room ← unless (nat_lt (length r.said.syncs) most_syncs) TooManySyncs
+  time ← in_line number (sync_time r.begun line)
+  order ← unless (nat_le (last_time r.said.syncs) time) (SyncOrder number)
+  Ok (reads (record r.said { syncs = r.said.syncs ++ sync_at r.said.bundles time ∷ [] }) r)
+
+-- a bundle is begun
+unfoldable pub with_begin : ℕ → List ℕ → Reading → Result Reading ScriptFault
+with_begin number line r = do
+  column ← in_line number (word_alone (is_none r.begun) line)
+  Ok (record r { begun = Some (record { line = number; column = column }) })
+
+-- the bundle that was begun ends; without an edit in it there is none
+unfoldable pub with_commit : ℕ → List ℕ → Reading → Result Reading ScriptFault
+with_commit number line r = do
+  column ← in_line number (word_alone (is_some r.begun) line)
+  Ok (record { said = with_bundle r.said; begun = None })
 
 -- whether a line has nothing but white space before its comment
 abbrev pub is_blank : List ℕ → Bool
 is_blank line = list_all is_white (uncommented line)
 
--- whether a line's first word is `sync`
-abbrev pub is_sync : List ℕ → Bool
-is_sync line = bytes_eq (codes "sync") (first_word (uncommented line)).text
+-- whether this is a line's first word
+abbrev pub begins_with : List ℕ → List ℕ → Bool
+begins_with word line = bytes_eq word (first_word (uncommented line)).text
 
 -- the script with that of one more line
-unfoldable pub with_line : ℕ → List ℕ → Script → Result Script ScriptFault
-with_line number line s =
+unfoldable pub with_line : ℕ → List ℕ → Reading → Result Reading ScriptFault
+with_line number line r =
     if nat_lt most_line_bytes (length line) then Err LineTooLong
-    else (if is_blank line then Ok s else (if is_sync line then with_sync number line s else with_edit number line s))
+    else (if is_blank line then Ok r
+    else (if begins_with (codes "sync") line then with_sync number line r
+    else (if begins_with (codes "begin") line then with_begin number line r
+    else (if begins_with (codes "commit") line then with_commit number line r
+    else with_edit number line r))))
 
 -- the lines from this number on
-unfoldable pub with_lines : ℕ → List (List ℕ) → Script → Result Script ScriptFault
-with_lines number [] s = Ok s
-with_lines number (line ∷ lines) s = with_line number line s >>= with_lines (number + 1) lines
+unfoldable pub with_lines : ℕ → List (List ℕ) → Reading → Result Reading ScriptFault
+with_lines number [] r = Ok r
+with_lines number (line ∷ lines) r = with_line number line r >>= with_lines (number + 1) lines
+
+-- what a whole file says; the bundle that was begun last is committed
+abbrev pub read_whole : Option Begun → Script → Result Script ScriptFault
+read_whole None s = Ok s
+read_whole (Some b) s = Err (Line b.line (Syntax b.column))
 
 -- the lines of a text; the last may lack its line feed
 abbrev pub lines_of : List ℕ → List (List ℕ)
@@ -145,4 +214,4 @@ lines_of text = slice_split (λ c. c == line_feed) text
 
 -- what the bytes of a file say
 unfoldable pub script_of : List ℕ → Result Script ScriptFault
-script_of bytes = with_lines 1 (lines_of bytes) nothing_said
+script_of bytes = with_lines 1 (lines_of bytes) nothing_read >>= λ r. read_whole r.begun r.said

@@ -1,4 +1,4 @@
--- Rows: winners, and the versions that edits make.
+-- Rows: winners, what edits do, and the versions that bundles of them make.
 use Rattle.std.proofs.Common.{◌≡◌, ℕ, true, false, List, [], ◌∷◌, map, Option, Some, None, refl}
 use Rattle.std.specs.Option.{option_map}
 use Rattle.spec_keys.specs.declared.field_id.FieldId.TheVariants as field
@@ -8,7 +8,8 @@ use Rattle.spec_actions.specs.declared.action.OfAction.TheVariants.{Output}
 use Rattle.spec_tables.specs.declared.edit_word.EditWord.{EditWord}
 use Rattle.spec_tables.specs.declared.edit_word.EditWord.TheVariants.{Add, Modify, ModifyStrict, Delete, DeleteStrict}
 use Rattle.spec_tables.specs.Rules.{Rule, rules_in, winner}
-use Rattle.spec_tables.specs.Edits.{Edit, version}
+use Rattle.spec_tables.specs.Edits.{Edit, after_edits}
+use Rattle.spec_tables.specs.Bundles.{bundle, each_alone, version}
 use Rattle.spec_tables.specs.Changes.{changes_to}
 use Rattle.spec_tables.specs.Live.{rule_added, rule_numbered, is_live}
 use Rattle.spec_tables.proofs.Packets.{Stated, is, begins, key_of, mask_of, match_of}
@@ -58,7 +59,7 @@ where_none_matches_none_wins : (won (rule 1 5 (is field.InPort 2 ∷ []) ∷ [])
 unfolding won
 where_none_matches_none_wins = (refl, refl)
 
--- ---- versions
+-- ---- edits
 
 abbrev edit : EditWord → List Stated → ℕ → Edit
 edit word stated port = record { word = word; table = None; priority = 32768; cookie = None; matching = match_of stated; actions = Output port ∷ [] }
@@ -75,8 +76,8 @@ abbrev shown : Rule → Live
 shown r = record { number = r.number; table = r.table; priority = r.priority; cookie = r.cookie; actions = r.actions }
 
 unfoldable live : List Edit → ℕ → List Live
-unfolding none masked same joined key_of mask_of version
-live edits v = map shown (version edits v)
+unfolding none masked same joined key_of mask_of after_edits
+live edits n = map shown (after_edits edits n)
 
 -- a rule of table 0, the usual priority and no cookie, with one output
 abbrev sends : ℕ → ℕ → Live
@@ -92,9 +93,9 @@ abbrev five_edits : List Edit
 five_edits = edit Add port_1 2 ∷ edit Add port_1_to_2 3 ∷ edit Modify port_1 4 ∷ edit DeleteStrict port_1 0
     ∷ edit Add port_1_to_2 5 ∷ []
 
-version_0_has_no_rules : live five_edits 0 ≡ []
+before_the_first_edit_there_are_no_rules : live five_edits 0 ≡ []
 unfolding live
-version_0_has_no_rules = refl
+before_the_first_edit_there_are_no_rules = refl
 
 a_rule_has_the_number_of_the_edit_that_added_it : live five_edits 2 ≡ sends 1 2 ∷ sends 2 3 ∷ []
 unfolding live
@@ -123,9 +124,9 @@ a_loose_delete_reaches_more_specific_rules_and_no_wider_ones :
 unfolding live
 a_loose_delete_reaches_more_specific_rules_and_no_wider_ones = (refl, refl)
 
-a_version_after_the_last_edit_is_that_of_the_last_edit : live five_edits 9 ≡ sends 5 5 ∷ []
+no_edit_comes_after_the_last : live five_edits 9 ≡ sends 5 5 ∷ []
 unfolding live
-a_version_after_the_last_edit_is_that_of_the_last_edit = refl
+no_edit_comes_after_the_last = refl
 
 a_modify_that_reaches_no_rule_adds_none :
     (live (edit Modify port_1 4 ∷ []) 1 ≡ []) × (live (edit ModifyStrict port_1 4 ∷ []) 1 ≡ [])
@@ -205,11 +206,43 @@ no_delete_minds_a_cookie :
 unfolding live
 no_delete_minds_a_cookie = (refl, refl)
 
+-- ---- bundles
+
+unfoldable live_in : List Edit → List ℕ → ℕ → List Live
+unfolding none masked same joined key_of mask_of after_edits
+live_in edits bundles v = map shown (version edits bundles v)
+
+-- a rule, and in its place another, which is added after the first is gone
+abbrev replaced : List Edit
+replaced = edit Add port_1 2 ∷ edit Delete port_1 0 ∷ edit Add port_1 3 ∷ []
+
+version_0_has_no_rules : live_in replaced (1 ∷ 3 ∷ []) 0 ≡ []
+unfolding live_in
+version_0_has_no_rules = refl
+
+edits_of_one_bundle_are_seen_together_and_a_rule_has_the_number_of_its_edit :
+    map (live_in replaced (1 ∷ 3 ∷ [])) (1 ∷ 2 ∷ []) ≡ (sends 1 2 ∷ []) ∷ (sends 3 3 ∷ []) ∷ []
+unfolding live_in
+edits_of_one_bundle_are_seen_together_and_a_rule_has_the_number_of_its_edit = refl
+
+an_edit_by_itself_is_a_bundle :
+    map (live_in replaced (each_alone replaced)) (1 ∷ 2 ∷ 3 ∷ []) ≡ (sends 1 2 ∷ []) ∷ [] ∷ (sends 3 3 ∷ []) ∷ []
+unfolding live_in
+an_edit_by_itself_is_a_bundle = refl
+
+a_rule_that_comes_and_goes_within_a_bundle_stands_in_no_version : map (live_in replaced (2 ∷ 3 ∷ [])) (1 ∷ 2 ∷ []) ≡ [] ∷ (sends 3 3 ∷ []) ∷ []
+unfolding live_in
+a_rule_that_comes_and_goes_within_a_bundle_stands_in_no_version = refl
+
+a_bundle_has_the_edits_after_those_of_the_one_before :
+    (bundle replaced (1 ∷ 3 ∷ []) 1 ≡ edit Add port_1 2 ∷ []) × (bundle replaced (1 ∷ 3 ∷ []) 2 ≡ edit Delete port_1 0 ∷ edit Add port_1 3 ∷ [])
+a_bundle_has_the_edits_after_those_of_the_one_before = (refl, refl)
+
 -- ---- how many rules are changed
 
 unfoldable changes : List Edit → List ℕ → List ℕ
-unfolding none masked same joined key_of mask_of version changes_to
-changes edits versions = map (changes_to edits) versions
+unfolding none masked same joined key_of mask_of after_edits changes_to
+changes edits counts = map (changes_to edits) counts
 
 -- adds, a loose modify of both rules, a strict delete of one, and an add that replaces the other; beyond the last edit
 -- nothing changes
@@ -250,14 +283,14 @@ unfolding live
 adds_alone_add_a_rule_of_their_number_and_it_is_shown_as_it_was_added = refl
 
 a_rule_among_rules_is_found_by_its_number_as_it_is_there :
-    map (λ number. option_map shown (rule_numbered number (version each_word 5))) (0 ∷ 1 ∷ 2 ∷ 4 ∷ [])
+    map (λ number. option_map shown (rule_numbered number (after_edits each_word 5))) (0 ∷ 1 ∷ 2 ∷ 4 ∷ [])
     ≡ None ∷ Some (sends 1 5) ∷ None ∷ None ∷ []
 unfolding live
 a_rule_among_rules_is_found_by_its_number_as_it_is_there = refl
 
 a_rule_is_live_from_its_add_to_its_delete :
-    (map (λ v. is_live 2 (version each_word v)) (1 ∷ 2 ∷ 4 ∷ 5 ∷ []) ≡ false ∷ true ∷ true ∷ false ∷ [])
-    × (map (λ v. is_live 0 (version each_word v)) (2 ∷ []) ≡ false ∷ [])
+    (map (λ v. is_live 2 (after_edits each_word v)) (1 ∷ 2 ∷ 4 ∷ 5 ∷ []) ≡ false ∷ true ∷ true ∷ false ∷ [])
+    × (map (λ v. is_live 0 (after_edits each_word v)) (2 ∷ []) ≡ false ∷ [])
 unfolding live
 a_rule_is_live_from_its_add_to_its_delete = (refl, refl)
 

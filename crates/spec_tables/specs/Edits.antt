@@ -1,4 +1,4 @@
--- What edits do to the rules, and the versions that they make.
+-- What edits do to the rules.
 use Rattle.std.specs.Prelude.{ℕ, zero, suc, Bool, ◌&&◌, not, ◌==◌, if◌then◌else◌, true, List, [], ◌∷◌, ◌++◌, map, filter, slice_get, Option, Some, None, unwrap_or}
 use Rattle.std.specs.List.{list_all}
 use Rattle.spec_actions.specs.declared.action.OfAction.{OfAction}
@@ -65,7 +65,7 @@ abbrev pub after_edit : ℕ → Option Edit → List Rule → List Rule
 after_edit number None rules = rules
 after_edit number (Some e) rules = edited e.word number e rules
 
--- the rules of version v: none at first, and then those of version v - 1 changed by edit v
-unfoldable pub version : List Edit → ℕ → List Rule
-version edits zero = []
-version edits (suc v) = after_edit (suc v) (slice_get edits v) (version edits v)
+-- the rules after the first n edits: none at first, and then each edit changes those that the ones before it made
+unfoldable pub after_edits : List Edit → ℕ → List Rule
+after_edits edits zero = []
+after_edits edits (suc n) = after_edit (suc n) (slice_get edits n) (after_edits edits n)

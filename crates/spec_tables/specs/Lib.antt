@@ -1,4 +1,5 @@
 pub mod Rules
 pub mod Edits
+pub mod Bundles
 pub mod Live
 pub mod Changes

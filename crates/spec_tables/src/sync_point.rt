@@ -1,8 +1,8 @@
-/// A point in time at which a block of edits begins: no frame of an earlier block is as late.
+/// A point in time at which a block of bundles begins: no frame of an earlier block is as late.
 #[derive(Clone, Copy, Debug, PartialEq, Eq)]
 pub struct SyncPoint {
     /// Nanoseconds since the epoch of the traces.
     pub time: u64,
-    /// How many edits stand before it.
+    /// How many bundles stand before it.
     pub after: u32,
 }

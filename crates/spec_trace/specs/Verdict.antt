@@ -6,7 +6,7 @@ use Rattle.std.specs.Option.{ok_or}
 use Rattle.spec_keys.specs.Fields.{register_fields}
 use Rattle.spec_tables.specs.declared.edit_word.EditWord.TheVariants.{Delete}
 use Rattle.spec_tables.specs.Rules.{Rule, Match}
-use Rattle.spec_tables.specs.Edits.{version}
+use Rattle.spec_tables.specs.Bundles.{version}
 use Rattle.spec_xlate.specs.Translation.{in_port_of}
 use Rattle.spec_xlate.specs.Consulted.{without}
 use Rattle.spec_flow_text.specs.declared.fault.TextFault.{TextFault}
@@ -68,9 +68,9 @@ at_port ports key = if list_any (λ p. p == in_port_of key) ports then Ok key el
 
 -- ---- the whole
 
--- the rules that all edits of a file make; its sync lines say nothing here
+-- the rules that all bundles of a file make; its sync lines say nothing here
 abbrev pub rules_of : Script → List Rule
-rules_of s = version s.edits (length s.edits)
+rules_of s = version s.edits s.bundles (length s.bundles)
 
 abbrev pub accepted : List ℕ → Script → List ℕ → Accepted
 accepted ports s key = record { rules = rules_of s; ports = ports; key = key }

@@ -7,7 +7,7 @@ use Rattle.spec_actions.specs.declared.action.OfAction.TheVariants.{Output}
 use Rattle.spec_actions.specs.declared.action.DpAction.TheVariants as datapath
 use Rattle.spec_tables.specs.declared.edit_word.EditWord.TheVariants.{Add, DeleteStrict}
 use Rattle.spec_tables.specs.Rules.{Rule}
-use Rattle.spec_tables.specs.Edits.{Edit, version}
+use Rattle.spec_tables.specs.Edits.{Edit, after_edits}
 use Rattle.spec_tables.proofs.Packets.{Stated, is, begins, has, match_of}
 use Rattle.spec_xlate.proofs.Shown.{shown, gives, rule}
 
@@ -116,7 +116,7 @@ the_bits_of_many_masks_add_up :
 unfolding shown bits
 the_bits_of_many_masks_add_up = refl
 
--- ---- versions
+-- ---- edits
 
 abbrev edit : ℕ → List Stated → List OfAction → Edit
 edit priority stated actions = record { word = Add; table = None; priority = priority; cookie = None; matching = match_of stated; actions = actions }
@@ -127,15 +127,15 @@ two_then_one = edit 5 (is field.InPort 1 ∷ []) (Output 2 ∷ []) ∷ edit 5 (i
     ∷ record (edit 5 (is field.InPort 1 ∷ []) []) { word = DeleteStrict } ∷ []
 
 of_two_rules_of_one_priority_the_older_wins :
-    shown (version two_then_one 2) ports (frame 2)
+    shown (after_edits two_then_one 2) ports (frame 2)
     ≡ gives (datapath.Output 2 ∷ []) (1 ∷ []) (is field.InPort 1 ∷ is field.DlDst 2 ∷ is field.DlType 0x88b5 ∷ [])
-unfolding shown version
+unfolding shown after_edits
 of_two_rules_of_one_priority_the_older_wins = refl
 
 the_younger_wins_once_the_older_is_deleted :
-    shown (version two_then_one 3) ports (frame 2)
+    shown (after_edits two_then_one 3) ports (frame 2)
     ≡ gives (datapath.Output 3 ∷ []) (2 ∷ []) (is field.InPort 1 ∷ is field.DlDst 2 ∷ is field.DlType 0x88b5 ∷ [])
-unfolding shown version
+unfolding shown after_edits
 the_younger_wins_once_the_older_is_deleted = refl
 
 -- a rule that takes everything, and then one above it for an address
@@ -143,13 +143,13 @@ abbrev one_then_above : List Edit
 one_then_above = edit 1 [] (Output 2 ∷ []) ∷ edit 5 (is field.DlDst 9 ∷ []) (Output 3 ∷ []) ∷ []
 
 a_rule_alone_needs_no_address :
-    shown (version one_then_above 1) ports (frame 2)
+    shown (after_edits one_then_above 1) ports (frame 2)
     ≡ gives (datapath.Output 2 ∷ []) (1 ∷ []) (is field.InPort 1 ∷ is field.DlType 0x88b5 ∷ [])
-unfolding shown version
+unfolding shown after_edits
 a_rule_alone_needs_no_address = refl
 
 a_rule_above_it_makes_the_address_decide :
-    shown (version one_then_above 2) ports (frame 2)
+    shown (after_edits one_then_above 2) ports (frame 2)
     ≡ gives (datapath.Output 2 ∷ []) (1 ∷ []) (is field.InPort 1 ∷ is field.DlDst 2 ∷ is field.DlType 0x88b5 ∷ [])
-unfolding shown version
+unfolding shown after_edits
 a_rule_above_it_makes_the_address_decide = refl
