@@ -14,7 +14,7 @@ use Rattle.rule_tables.specs.declared.identity.RuleIdentity.{RuleIdentity}
 use Rattle.rule_tables.specs.declared.stored.Modification.{Modification}
 use Rattle.rule_tables.specs.declared.stored.StoredRule.{StoredRule}
 use Rattle.spec_tables.specs.Changes.{changes_by}
-use Rattle.rule_tables.specs.History.{edited_by, versions_to}
+use Rattle.rule_tables.specs.History.{edited_by, states_to}
 use Rattle.rule_tables.specs.Views.{rule_view}
 use Rattle.rule_tables.specs.Stored.{is_picked_by, stored_in, rule_at, rules_at, ended_by, with_end, identity_of, is_same_identity, AreInOrder, AreNumbered, AreLives, AreFound, AreConsistent}
 use Rattle.rule_tables.proofs.Counts.{any_counted}
@@ -56,7 +56,7 @@ module _ (made : List Modification) (xs : List StoredRule) (find : RuleIdentity 
   ends : ys ≡ map (ended_by e (last + 1)) xs
   ends = ended_as_named xs find sound.found respects e identity named old (last + 1) refl
 
-  -- ---- versions
+  -- ---- edits
 
   rules_before : (v : ℕ) → v ≤ last → rules_at made v (ys ++ s ∷ []) ≡ rules_at made v xs
   rules_before v le =
@@ -97,8 +97,8 @@ module _ (made : List Modification) (xs : List StoredRule) (find : RuleIdentity 
       (sym (ap (λ (word : EditWord). changes_by word e (rules_at made last xs)) next.adds
       ∙ ap (λ (b : Bool). cond b 2 1) (sym (ap (λ (word : EditWord). list_any (is_picked_by word e) (rules_at made last xs)) next.adds) ∙ replaces)))
 
-  history_after : record { versions = versions_to (last + 1) (λ v. rules_at made v (ys ++ s ∷ [])); changes = changes + cond (is_some old) 2 1 }
-      ≡ edited_by e (record { versions = versions_to last (λ v. rules_at made v xs); changes = changes })
+  history_after : record { states = states_to (last + 1) (λ v. rules_at made v (ys ++ s ∷ [])); changes = changes + cond (is_some old) 2 1 }
+      ≡ edited_by e (record { states = states_to last (λ v. rules_at made v xs); changes = changes })
   history_after =
       pushed last (λ v. rules_at made v xs) (λ v. rules_at made v (ys ++ s ∷ [])) changes _ e rules_before (last_rules ∙ sym edited_as) changed_as
 
@@ -184,7 +184,7 @@ module _ (made : List Modification) (xs : List StoredRule) (find : RuleIdentity 
       in_order = in_order_after;
       numbered = numbered_after;
       lives = lives_after;
-      made = λ i m at. let le : m.version ≤ last = sound.made i m at in omega arith;
+      made = λ i m at. let le : m.number ≤ last = sound.made i m at in omega arith;
       found = found_after;
       few_changes =
           let so_far : changes ≤ 2 ^ 32 * last = sound.few_changes in
@@ -198,7 +198,7 @@ pub sound_added : (made : List Modification) (xs : List StoredRule) (find find' 
     → ((q : RuleIdentity) → find' q ≡ cond (is_same_identity mine q) (Some (length xs)) (find q)) → (count : ℕ) → count ≡ cond (is_some ended) 2 1
     → (zs : List StoredRule) → zs ≡ with_end ended s.rule.number (xs ++ s ∷ [])
     → AreConsistent made zs find' s.rule.number (changes + count)
-    × (record { versions = versions_to s.rule.number (λ v. rules_at made v zs); changes = changes + count } ≡ edited_by e (record { versions = versions_to last (λ v. rules_at made v xs); changes = changes }))
+    × (record { states = states_to s.rule.number (λ v. rules_at made v zs); changes = changes + count } ≡ edited_by e (record { states = states_to last (λ v. rules_at made v xs); changes = changes }))
 sound_added made xs find find' last changes sound respects e s next mine is ended ended_is put count count_is zs becomes =
     let same_old : ended ≡ find (identity_of s.rule) = ended_is ∙ ap find is in
     let count_of : count ≡ cond (is_some (find (identity_of s.rule))) 2 1 = count_is ∙ ap (λ (o : Option ℕ). cond (is_some o) 2 1) same_old in
@@ -213,6 +213,6 @@ sound_added made xs find find' last changes sound respects e s next mine is ende
     λ P h. subst (λ (z : List StoredRule). P z s.rule.number count) (sym all)
     (subst (λ (n : ℕ). P there n count) (sym number) (subst (λ (k : ℕ). P there (last + 1) k) (sym count_of) h)) in (
       same (λ z n k. AreConsistent made z find' n (changes + k)) (sound_after made xs find last changes sound respects e s next find' put_as),
-      same (λ z n k. record { versions = versions_to n (λ v. rules_at made v z); changes = changes + k } ≡ edited_by e (record { versions = versions_to last (λ v. rules_at made v xs); changes = changes }))
+      same (λ z n k. record { states = states_to n (λ v. rules_at made v z); changes = changes + k } ≡ edited_by e (record { states = states_to last (λ v. rules_at made v xs); changes = changes }))
           (history_after made xs find last changes sound respects e s next),
     )

@@ -53,13 +53,13 @@ module _ (made : List Modification) (xs : List StoredRule) (last : ℕ) (e : Edi
   from : (i : ℕ) (y : StoredRule) → slice_get ys i ≡ Some y → (x : StoredRule) × (slice_get xs i ≡ Some x) × (y ≡ ended_by e (last + 1) x)
   from i y at = from_map (ended_by e (last + 1)) xs i y at
 
-  -- ---- versions
+  -- ---- edits
 
   before : (v : ℕ) (x y : StoredRule) → v ≤ last → Follows e (last + 1) x y → rule_at made v y ≡ rule_at made v x
   before v x y le (inl (on, picked, is)) = ap (rule_at made v) is ∙ alive_as_before made v (last + 1) x on (omega arith)
   before v x y le (inr (idle, is)) = ap (rule_at made v) is
 
-  -- the versions so far are as they were
+  -- what the edits so far made is as it was
   pub rules_before_ends : (v : ℕ) → v ≤ last → rules_at made v ys ≡ rules_at made v xs
   rules_before_ends v le =
       filter_map-map (rule_at made v) (ended_by e (last + 1)) xs
@@ -122,7 +122,7 @@ module _ (made : List Modification) (xs : List StoredRule) (last : ℕ) (e : Edi
             let le : gone ≤ last = lives.ended i gone x at (sym (ap (λ (z : StoredRule). z.gone) is) ∙ ends) in
             omega arith
 
-    -- ---- the next version
+    -- ---- the next edit
 
     module _ (all : AreMade made last) where
       abbrev picked : tables.Rule → Bool
@@ -152,7 +152,7 @@ module _ (made : List Modification) (xs : List StoredRule) (last : ℕ) (e : Edi
                 ∙ sym (rule_at-dead made (last + 1) x (dead_after (last + 1) gone x ends (omega arith))) ∙ to
           ]
 
-      -- the next version is the last one without those that the edit picks
+      -- after it the rules are those before it without those that it picks
       pub rules_ended : rules_at made (last + 1) ys ≡ without (is_picked_by e.word e) (rules_at made last xs)
       rules_ended =
           sym (filter-filter_map (λ r. not (picked r)) (rule_at made last) xs
@@ -160,7 +160,7 @@ module _ (made : List Modification) (xs : List StoredRule) (last : ℕ) (e : Edi
           (λ i x at. after i x (ended_by e (last + 1) x) at (ended_by_cases e (last + 1) x))
           ∙ sym (filter_map-map (rule_at made (last + 1)) (ended_by e (last + 1)) xs))
 
--- how many rules of the last version an edit picks
+-- how many of the rules so far an edit picks
 pub count_picked : (made : List Modification) (xs : List StoredRule) (last : ℕ) (e : Edit) → AreNumbered xs last → AreLives xs last
     → count_by (is_picked_by e.word e) (rules_at made last xs) ≡ count_by (acts_on e) xs
 count_picked made xs last e numbered lives = count_by-filter_map (is_picked_by e.word e) (rule_at made last) (acts_on e) xs each

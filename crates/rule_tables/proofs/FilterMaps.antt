@@ -1,5 +1,5 @@
 -- Lists by what stands at each place.
-use Rattle.std.proofs.Common.{◌≡◌, ℕ, zero, suc, ◌+◌, ◌<◌, Bool, true, false, cond, List, [], ◌∷◌, ◌++◌, length, map, Option, Some, None, refl, sym, ap, ap₂, ◌∙◌, arith, ◌⊎◌, inl, inr}
+use Rattle.std.proofs.Common.{◌≡◌, ℕ, zero, suc, ◌+◌, ◌<◌, Bool, true, false, cond, List, [], ◌∷◌, ◌++◌, length, take, map, Option, Some, None, refl, sym, ap, ap₂, ◌∙◌, arith, ◌⊎◌, inl, inr}
 use Rattle.std.specs.Prelude.{slice_get, slice_set, filter}
 use Rattle.std.specs.List.{filter_map, cons_option, list_any}
 use Rattle.std.specs.Option.{option_map}
@@ -88,6 +88,14 @@ none_passes p f (x ∷ xs) none =
 pub slice_get-push : {A : Type 0} (xs : List A) (x : A) → slice_get (xs ++ x ∷ []) (length xs) ≡ Some x
 slice_get-push [] x = refl
 slice_get-push (z ∷ zs) x = slice_get-push zs x
+
+-- the first ones stand in the whole
+pub slice_get-take : {A : Type 0} (n : ℕ) (xs : List A) (i : ℕ) (x : A) → slice_get (take n xs) i ≡ Some x → slice_get xs i ≡ Some x
+slice_get-take zero [] i x at = at
+slice_get-take zero (y ∷ ys) i x at = absurd (none-some x at)
+slice_get-take (suc n) [] i x at = at
+slice_get-take (suc n) (y ∷ ys) zero x at = at
+slice_get-take (suc n) (y ∷ ys) (suc i) x at = slice_get-take n ys i x at
 
 pub slice_get-append : {A : Type 0} (xs ys : List A) (i : ℕ) → i < length xs → slice_get (xs ++ ys) i ≡ slice_get xs i
 slice_get-append [] ys i lt = absurd (omega arith)

@@ -131,9 +131,9 @@ module _ {B : Type 0} (made : List Modification) (f : B → Modification → B) 
       let all : j + (n - j) ≡ n = omega arith in
       ap so_far (sym all) ∙ fold_past j (n - j) (omega arith) (λ k m b low lt at. still k m b low (omega arith) at)
 
--- ---- what a rule has in a version in which it is live
+-- ---- what a rule has after edits after which it is live
 
--- what comes before the end of a life in one version does so in those before
+-- fewer edits come before the end of a life too
 earlier : (w v : ℕ) (gone : Option ℕ) → w ≤ v → is_before v gone ≡ true → is_before w gone ≡ true
 earlier w v None le before = refl
 earlier w v (Some gone) le before = let lt : v < gone = ltb-true v gone before in lt-ltb w gone (omega arith)
@@ -143,28 +143,28 @@ pub given_there : (made : List Modification) (s : StoredRule) (n : ℕ) (m : Mod
 given_there made s n m at = ap (λ (o : Option Modification). option_map_or (was_given s) o false) at
 
 module _ (made : List Modification) (s : StoredRule) (v : ℕ) (alive : is_alive v s ≡ true) where
-  -- by a version the rule was given what it was given at all, where that came by then
-  pub given_by : (m : Modification) → was_given s m ≡ true → m.version ≤ v → is_given v s m ≡ true
+  -- by these edits the rule was given what it was given at all, where that came by then
+  pub given_by : (m : Modification) → was_given s m ≡ true → m.number ≤ v → is_given v s m ≡ true
   given_by m was le =
-      let outer = and_parts (nat_lt s.rule.number m.version) (is_before m.version s.gone && picks m.edit s.rule) was in
-      let inner = and_parts (is_before m.version s.gone) (picks m.edit s.rule) outer.1 in
-      and_from (nat_lt s.rule.number m.version) (nat_le m.version v && picks m.edit s.rule) outer.0
-      (and_from (nat_le m.version v) (picks m.edit s.rule) (le-leb m.version v le) inner.1)
+      let outer = and_parts (nat_lt s.rule.number m.number) (is_before m.number s.gone && picks m.edit s.rule) was in
+      let inner = and_parts (is_before m.number s.gone) (picks m.edit s.rule) outer.1 in
+      and_from (nat_lt s.rule.number m.number) (nat_le m.number v && picks m.edit s.rule) outer.0
+      (and_from (nat_le m.number v) (picks m.edit s.rule) (le-leb m.number v le) inner.1)
 
-  pub not_given_yet : (m : Modification) → v < m.version → is_given v s m ≡ false
+  pub not_given_yet : (m : Modification) → v < m.number → is_given v s m ≡ false
   not_given_yet m lt =
-      and_right (nat_lt s.rule.number m.version) (nat_le m.version v && picks m.edit s.rule)
-      (and_left (nat_le m.version v) (picks m.edit s.rule) (lt-leb m.version v lt))
+      and_right (nat_lt s.rule.number m.number) (nat_le m.number v && picks m.edit s.rule)
+      (and_left (nat_le m.number v) (picks m.edit s.rule) (lt-leb m.number v lt))
 
   never_given : (m : Modification) → was_given s m ≡ false → is_given v s m ≡ false
   never_given m never =
       false_from_ne_true (is_given v s m) (λ given.
-      let outer = and_parts (nat_lt s.rule.number m.version) (nat_le m.version v && picks m.edit s.rule) given in
-      let inner = and_parts (nat_le m.version v) (picks m.edit s.rule) outer.1 in
+      let outer = and_parts (nat_lt s.rule.number m.number) (nat_le m.number v && picks m.edit s.rule) given in
+      let inner = and_parts (nat_le m.number v) (picks m.edit s.rule) outer.1 in
       let lives = and_parts (nat_le s.rule.number v) (is_before v s.gone) alive in
       both_ways (was_given s m) never
-      (and_from (nat_lt s.rule.number m.version) (is_before m.version s.gone && picks m.edit s.rule) outer.0
-      (and_from (is_before m.version s.gone) (picks m.edit s.rule) (earlier m.version v s.gone (leb-true m.version v inner.0) lives.1) inner.1)))
+      (and_from (nat_lt s.rule.number m.number) (is_before m.number s.gone && picks m.edit s.rule) outer.0
+      (and_from (is_before m.number s.gone) (picks m.edit s.rule) (earlier m.number v s.gone (leb-true m.number v inner.0) lives.1) inner.1)))
 
   module _ {B : Type 0} (f : B → Modification → B) (z : B) (ignores : (m : Modification) (b : B) → is_given v s m ≡ false → f b m ≡ b) where
     -- the newest is the last that counts
@@ -197,23 +197,23 @@ module _ (made : List Modification) (s : StoredRule) (v : ℕ) (alive : is_alive
     was : was_given s m ≡ true
     was = sym (given_there made s g.modification m at) ∙ newest.is
 
-    pub last_found : m.version ≤ v → last_given (take n made) v s ≡ Some m
+    pub last_found : m.number ≤ v → last_given (take n made) v s ≡ Some m
     last_found le =
         fold_newest (later_given v s) None ignored_later log n place g m within newest at
         ∙ cond-true (is_given v s m) (Some m) (last_given (take g.modification made) v s) (given_by m was le)
 
-    pub last_before : v < m.version → last_given (take n made) v s ≡ last_given (take g.modification made) v s
+    pub last_before : v < m.number → last_given (take n made) v s ≡ last_given (take g.modification made) v s
     last_before lt =
         fold_newest (later_given v s) None ignored_later log n place g m within newest at
         ∙ ignored_later m (last_given (take g.modification made) v s) (not_given_yet m lt)
 
-    pub cookie_found : (cookie : ℕ) → m.edit.cookie ≡ Some cookie → m.version ≤ v → cookie_in (take n made) v s ≡ cookie
+    pub cookie_found : (cookie : ℕ) → m.edit.cookie ≡ Some cookie → m.number ≤ v → cookie_in (take n made) v s ≡ cookie
     cookie_found cookie has le =
         fold_newest (given_cookie v s) s.rule.cookie ignored_cookie log n place g m within newest at
         ∙ cond-true (is_given v s m) (unwrap_or m.edit.cookie (cookie_in (take g.modification made) v s)) (cookie_in (take g.modification made) v s) (given_by m was le)
         ∙ ap (λ (o : Option ℕ). unwrap_or o (cookie_in (take g.modification made) v s)) has
 
-    pub cookie_before : v < m.version → cookie_in (take n made) v s ≡ cookie_in (take g.modification made) v s
+    pub cookie_before : v < m.number → cookie_in (take n made) v s ≡ cookie_in (take g.modification made) v s
     cookie_before lt =
         fold_newest (given_cookie v s) s.rule.cookie ignored_cookie log n place g m within newest at
         ∙ ignored_cookie m (cookie_in (take g.modification made) v s) (not_given_yet m lt)

@@ -1,39 +1,27 @@
 -- The log leads from each rule to what it was given: as rules come, as they go, and as they are given modifications.
-use Rattle.std.proofs.Common.{◌≡◌, ℕ, suc, ◌+◌, ◌^◌, ◌≤◌, ◌<◌, Bool, true, false, ◌&&◌, List, [], ◌∷◌, ◌++◌, length, map, Option, Some, None, refl, sym, ap, ◌∙◌, subst, arith, ◌⊎◌, inl, inr, length-append}
-use Rattle.std.specs.Prelude.{slice_get, nat_lt, is_some, not, count_by}
+use Rattle.std.proofs.Common.{◌≡◌, ℕ, suc, ◌+◌, ◌≤◌, ◌<◌, Bool, false, ◌&&◌, List, [], ◌∷◌, ◌++◌, length, map, Option, Some, None, refl, sym, ap, ◌∙◌, subst, arith, ◌⊎◌, inl, inr, length-append}
+use Rattle.std.specs.Prelude.{slice_get, nat_lt, is_some, not}
 use Rattle.std.specs.Option.{option_map_or}
 use Rattle.std.proofs.lemmas.Bool.{and_left, lt-ltb, le-ltb}
 use Rattle.std.proofs.lemmas.Option.{none-some, same_Some, slice_get_within, slice_get_cases}
-use Rattle.spec_tables.specs.Rules as tables
 use Rattle.spec_tables.specs.Edits.{Edit}
 use Rattle.rule_tables.specs.declared.givings.Giving.{Giving}
 use Rattle.rule_tables.specs.declared.identity.RuleIdentity.{RuleIdentity}
 use Rattle.rule_tables.specs.declared.stored.Modification.{Modification}
 use Rattle.rule_tables.specs.declared.stored.StoredRule.{StoredRule}
-use Rattle.rule_tables.specs.History.{History, edited_by, versions_to}
 use Rattle.rule_tables.specs.Givings.{was_given, was_given_at, Leads, IsLedTo, AreLedTo, Becomes, AreGiven}
-use Rattle.rule_tables.specs.Stored.{is_modify, is_picked_by, picks, acts_on, is_before, rule_at, rules_at, ended_by, with_end, stored_numbered, identity_of, is_same_identity, AreNumbered, AreLives, AreMade, AreFound, AreConsistent}
+use Rattle.rule_tables.specs.Stored.{picks, acts_on, is_before, rule_at, rules_at, ended_by, with_end, identity_of, is_same_identity, AreNumbered, AreLives, AreMade, AreFound, AreConsistent}
 use Rattle.rule_tables.proofs.Endings.{ended_by_cases}
 use Rattle.rule_tables.proofs.Ends.{with_end_cases}
 use Rattle.rule_tables.proofs.FilterMaps.{filter_map_alike, from_map, push_cases, slice_get-append, slice_get-push}
 use Rattle.rule_tables.proofs.GivingLog.{leads_alike, leads_nowhere, led_within, given_there}
-use Rattle.rule_tables.proofs.Histories.{same_versions}
 use Rattle.rule_tables.proofs.Lives.{gone_cases}
-use Rattle.rule_tables.proofs.Seen.{numbered_there}
-use Rattle.rule_tables.proofs.Sound.{sound_modified}
 
 -- the same log, modifications and rules
 pub led_moved : (log new : List Giving) (made now : List Modification) (xs zs : List StoredRule) → new ≡ log → now ≡ made → zs ≡ xs → AreLedTo log made xs → AreLedTo new now zs
 led_moved log new made now xs zs same_log as_made same led =
     subst (λ (g : List Giving). AreLedTo g now zs) (sym same_log)
     (subst (λ (all : List Modification). AreLedTo log all zs) (sym as_made) (subst (λ (stored : List StoredRule). AreLedTo log made stored) (sym same) led))
-
--- to the rule of a number
-pub led_at_number : (log new : List Giving) (made now : List Modification) (xs slice : List StoredRule) (number : ℕ) (s : StoredRule) → new ≡ log → now ≡ made → slice ≡ xs
-    → stored_numbered number slice ≡ Some s → AreLedTo log made xs → IsLedTo new now s
-led_at_number log new made now xs slice number s same_log as_made same is led =
-    let there = numbered_there number slice s (sym is) in
-    led_moved log new made now xs slice same_log as_made same led there.0 s there.1
 
 -- no rules
 pub led_at_first : (log : List Giving) (made : List Modification) (xs : List StoredRule) → xs ≡ [] → AreLedTo log made xs
@@ -49,8 +37,8 @@ module _ (log : List Giving) (made : List Modification) (last : ℕ) (all : AreM
       never k lt =
           elim (slice_get_cases made k).1 [
             | inl (m, _, at, _) ↦
-                let by_then : m.version ≤ last = all k m at in
-                given_there made s k m at ∙ and_left (nat_lt s.rule.number m.version) (is_before m.version s.gone && picks m.edit s.rule) (le-ltb s.rule.number m.version (omega arith))
+                let by_then : m.number ≤ last = all k m at in
+                given_there made s k m at ∙ and_left (nat_lt s.rule.number m.number) (is_before m.number s.gone && picks m.edit s.rule) (le-ltb s.rule.number m.number (omega arith))
             | inr (past, _) ↦ absurd (omega arith)
           ]
 
@@ -70,9 +58,9 @@ module _ (log : List Giving) (made : List Modification) (last : ℕ) (all : AreM
       alike k lt =
           elim (slice_get_cases made k).1 [
             | inl (m, _, at, _) ↦
-                let by_then : m.version ≤ last = all k m at in
+                let by_then : m.number ≤ last = all k m at in
                 given_there made (record s { gone = Some gone }) k m at
-                ∙ ap (λ (b : Bool). nat_lt s.rule.number m.version && (b && picks m.edit s.rule)) (lt-ltb m.version gone (omega arith) ∙ sym (ap (is_before m.version) on))
+                ∙ ap (λ (b : Bool). nat_lt s.rule.number m.number && (b && picks m.edit s.rule)) (lt-ltb m.number gone (omega arith) ∙ sym (ap (is_before m.number) on))
                 ∙ sym (given_there made s k m at)
             | inr (past, _) ↦ absurd (omega arith)
           ]
@@ -174,20 +162,20 @@ module _ (picked : ℕ → StoredRule → Bool) (n : ℕ) (log new : List Giving
     few_changes = sound.few_changes;
   }
 
--- a modification of the next version is given to those on which its edit acts
-acts_next : (last : ℕ) (m : Modification) (i : ℕ) (xs : List StoredRule) (x : StoredRule) → m.version ≡ last + 1 → AreNumbered xs last → AreLives xs last → slice_get xs i ≡ Some x → was_given x m ≡ acts_on m.edit x
-acts_next last m i xs x version numbered lives at =
+-- the next modification is given to those on which its edit acts
+acts_next : (last : ℕ) (m : Modification) (i : ℕ) (xs : List StoredRule) (x : StoredRule) → m.number ≡ last + 1 → AreNumbered xs last → AreLives xs last → slice_get xs i ≡ Some x → was_given x m ≡ acts_on m.edit x
+acts_next last m i xs x its_number numbered lives at =
     let high : x.rule.number ≤ last = (numbered i x at).1 in
-    ap (λ (b : Bool). b && (is_before m.version x.gone && picks m.edit x.rule)) (lt-ltb x.rule.number m.version (omega arith))
+    ap (λ (b : Bool). b && (is_before m.number x.gone && picks m.edit x.rule)) (lt-ltb x.rule.number m.number (omega arith))
     ∙ ap (λ (b : Bool). b && picks m.edit x.rule) (by (gone_cases x.gone))
   where
-    by : ((x.gone ≡ None) ⊎ ((gone : ℕ) × (x.gone ≡ Some gone))) → is_before m.version x.gone ≡ not (is_some x.gone)
-    by (inl on) = ap (is_before m.version) on ∙ sym (ap (λ (o : Option ℕ). not (is_some o)) on)
+    by : ((x.gone ≡ None) ⊎ ((gone : ℕ) × (x.gone ≡ Some gone))) → is_before m.number x.gone ≡ not (is_some x.gone)
+    by (inl on) = ap (is_before m.number) on ∙ sym (ap (λ (o : Option ℕ). not (is_some o)) on)
     by (inr (gone, ends)) =
         let le : gone ≤ last = lives.ended i gone x at ends in
-        ap (is_before m.version) ends ∙ le-ltb m.version gone (omega arith) ∙ sym (ap (λ (o : Option ℕ). not (is_some o)) ends)
+        ap (is_before m.number) ends ∙ le-ltb m.number gone (omega arith) ∙ sym (ap (λ (o : Option ℕ). not (is_some o)) ends)
 
-module _ (log new : List Giving) (made : List Modification) (m : Modification) (xs zs : List StoredRule) (last : ℕ) (version : m.version ≡ last + 1) (numbered : AreNumbered xs last) (lives : AreLives xs last) (led : AreLedTo log made xs) (given : AreGiven (λ i. acts_on m.edit) (length made) log new xs zs) where
+module _ (log new : List Giving) (made : List Modification) (m : Modification) (xs zs : List StoredRule) (last : ℕ) (its_number : m.number ≡ last + 1) (numbered : AreNumbered xs last) (lives : AreLives xs last) (led : AreLedTo log made xs) (given : AreGiven (λ i. acts_on m.edit) (length made) log new xs zs) where
   -- what came before is found as before
   rest_led : (i : ℕ) (x : StoredRule) → slice_get xs i ≡ Some x → Leads new (was_given_at (made ++ m ∷ []) x) (length made) x.given
   rest_led i x at =
@@ -195,7 +183,7 @@ module _ (log new : List Giving) (made : List Modification) (m : Modification) (
       (λ k lt. ap (λ (o : Option Modification). option_map_or (was_given x) o false) (slice_get-append made (m ∷ []) k lt)) (led i x at)
 
   newest_acts : (i : ℕ) (x : StoredRule) → slice_get xs i ≡ Some x → was_given_at (made ++ m ∷ []) x (length made) ≡ acts_on m.edit x
-  newest_acts i x at = given_there (made ++ m ∷ []) x (length made) m (slice_get-push made m) ∙ acts_next last m i xs x version numbered lives at
+  newest_acts i x at = given_there (made ++ m ∷ []) x (length made) m (slice_get-push made m) ∙ acts_next last m i xs x its_number numbered lives at
 
   led_now : (i : ℕ) (x z : StoredRule) → slice_get xs i ≡ Some x → Becomes (acts_on m.edit x) (length made) (length log) new x z → Leads new (was_given_at (made ++ m ∷ []) z) (suc (length made)) z.given
   led_now i x z at (inl (idle, stays)) =
@@ -222,20 +210,3 @@ module _ (log new : List Giving) (made : List Modification) (m : Modification) (
       let old = came_from (λ k. acts_on m.edit) (length made) log new xs zs given i z at in
       let more : suc (length made) ≡ length (made ++ m ∷ []) = omega (arith, length-append made (m ∷ [])) in
       subst (λ (n : ℕ). Leads new (was_given_at (made ++ m ∷ []) z) n z.given) more (led_now i old.0 z old.1 old.2)
-
--- what one more modification makes, as the code comes to it
-pub sound_modifying : (log new : List Giving) (made : List Modification) (m : Modification) (xs zs : List StoredRule) (find : RuleIdentity → Option ℕ) (last changes : ℕ) → AreConsistent made xs find last changes
-    → AreLedTo log made xs → last + 1 < 2 ^ 32 → is_modify m.edit.word ≡ true → m.version ≡ last + 1 → (count : ℕ) → count ≡ count_by (is_picked_by m.edit.word m.edit) (rules_at made last xs)
-    → AreGiven (λ i. acts_on m.edit) (length made) log new xs zs
-    → AreConsistent (made ++ m ∷ []) zs find m.version (changes + count) × AreLedTo new (made ++ m ∷ []) zs
-    × (record { versions = versions_to m.version (λ v. rules_at (made ++ m ∷ []) v zs); changes = changes + count }
-    ≡ edited_by m.edit (record { versions = versions_to last (λ v. rules_at made v xs); changes = changes }))
-sound_modifying log new made m xs zs find last changes sound led room modifies version count counted given =
-    let done = sound_modified made xs find last changes sound m room modifies version count counted in (
-      sound_given (λ i. acts_on m.edit) (length made) log new xs zs given (made ++ m ∷ []) find m.version (changes + count) done.0,
-      led_modified log new made m xs zs last version sound.numbered sound.lives led given,
-      ap (λ (versions : List (List tables.Rule)). let h : History = record { versions = versions; changes = changes + count } in h)
-          (same_versions m.version (λ v. rules_at (made ++ m ∷ []) v xs) (λ v. rules_at (made ++ m ∷ []) v zs)
-          (λ v le. rules_alike (λ i. acts_on m.edit) (length made) log new xs zs given (made ++ m ∷ []) v))
-          ∙ done.1,
-    )

@@ -1,4 +1,5 @@
 mod Adding
+mod Applying
 mod Counts
 mod EndingSteps
 mod Endings
@@ -11,9 +12,12 @@ pub mod Histories
 mod Identities
 mod Led
 mod Lives
+mod Logged
 mod Modified
 mod Numbered
 mod Rows
 mod Seen
+mod SeenVersions
+mod SignedLaws
 mod Sound
 mod Winners

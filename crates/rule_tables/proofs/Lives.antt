@@ -1,4 +1,4 @@
--- In which versions a stored rule is live.
+-- After how many edits a stored rule is live.
 use Rattle.std.proofs.Common.{◌≡◌, ℕ, zero, suc, ◌+◌, ◌≤◌, ◌<◌, Bool, true, false, cond, ◌&&◌, List, length, Option, Some, None, refl, sym, ap, ◌∙◌, arith, ◌⊎◌, inl, inr}
 use Rattle.std.specs.Prelude.{nat_le, slice_get}
 use Rattle.std.proofs.lemmas.Bool.{and_from, and_left, and_right, le-leb, lt-leb, lt-ltb, le-ltb, cond-true, cond-false}
@@ -25,7 +25,7 @@ dead_after v gone s ends le =
 pub dead_before : (v : ℕ) (s : StoredRule) → v < s.rule.number → is_alive v s ≡ false
 dead_before v s lt = and_left (nat_le s.rule.number v) (is_before v s.gone) (lt-leb s.rule.number v lt)
 
--- up to version v it makes no difference that a rule is gone later
+-- after v edits it makes no difference that a rule is gone later
 pub alive_as_before : (made : List Modification) (v gone : ℕ) (s : StoredRule) → s.gone ≡ None → v < gone → rule_at made v (record s { gone = Some gone }) ≡ rule_at made v s
 alive_as_before made v gone s on lt =
     let yes : is_before v (Some gone) ≡ is_before v s.gone = lt-ltb v gone lt ∙ sym (ap (is_before v) on) in
@@ -36,7 +36,7 @@ pub gone_cases : (o : Option ℕ) → (o ≡ None) ⊎ ((gone : ℕ) × (o ≡ S
 gone_cases None = inl refl
 gone_cases (Some gone) = inr (gone, refl)
 
--- a rule that is stored is live in the next version if it is in the last
+-- a rule that is stored is live after one more edit if it is after the last
 pub alive_next : (xs : List StoredRule) (last i : ℕ) (x : StoredRule) → AreNumbered xs last → AreLives xs last → slice_get xs i ≡ Some x → is_alive last x ≡ is_alive (last + 1) x
 alive_next xs last i x numbered lives at =
     let within : x.rule.number ≤ last = (numbered i x at).1 in
@@ -47,7 +47,7 @@ alive_next xs last i x numbered lives at =
           dead_after last gone x ends le ∙ sym (dead_after (last + 1) gone x ends (omega arith))
     ]
 
--- there are no more rules than versions
+-- there are no more rules than edits
 pub length_within : (xs : List StoredRule) (last : ℕ) → AreNumbered xs last → length xs ≤ last
 length_within xs last numbered = by (length xs) refl
   where

@@ -1,4 +1,4 @@
--- What modifications make of the stored rules, version by version.
+-- What modifications make of the stored rules, edit by edit.
 use Rattle.std.proofs.Common.{◌≡◌, ℕ, suc, ◌+◌, ◌≤◌, ◌<◌, Bool, true, false, cond, ◌&&◌, List, [], ◌∷◌, ◌++◌, Option, Some, None, refl, sym, ap, ap₂, ◌∙◌, arith, inl, inr}
 use Rattle.std.specs.Prelude.{slice_get, nat_lt, nat_le, unwrap_or}
 use Rattle.std.specs.List.{fold}
@@ -29,7 +29,7 @@ fold_still f z (x ∷ xs) still = ap (λ b. fold f b xs) (still x z) ∙ fold_st
 
 -- ---- a stored rule
 
--- it is the same in two versions by which the same modifications are given
+-- it is the same after two numbers of edits by which the same modifications are given
 same_given : (made : List Modification) (v w : ℕ) (s : StoredRule) → ((i : ℕ) (m : Modification) → slice_get made i ≡ Some m → is_given v s m ≡ is_given w s m)
     → stored_in made v s ≡ stored_in made w s
 same_given made v w s same =
@@ -38,14 +38,14 @@ same_given made v w s same =
     (λ i m cookie at. ap (λ (b : Bool). cond b (unwrap_or m.edit.cookie cookie) cookie) (same i m at)))
     (fold_alike (later_given v s) (later_given w s) None made (λ i m last at. ap (λ (b : Bool). cond b (Some m) last) (same i m at)))
 
--- after the last version nothing is given
+-- after the last edit nothing is given
 pub settled : (made : List Modification) (last v : ℕ) (s : StoredRule) → AreMade made last → last ≤ v → stored_in made last s ≡ stored_in made v s
 settled made last v s all le =
     same_given made last v s (λ i m at.
-    let within : m.version ≤ last = all i m at in
-    ap (λ (b : Bool). nat_lt s.rule.number m.version && (b && picks m.edit s.rule)) (le-leb m.version last within ∙ sym (le-leb m.version v (omega arith))))
+    let within : m.number ≤ last = all i m at in
+    ap (λ (b : Bool). nat_lt s.rule.number m.number && (b && picks m.edit s.rule)) (le-leb m.number last within ∙ sym (le-leb m.number v (omega arith))))
 
--- up to the version of its number a rule is as it was added
+-- up to the edit of its number a rule is as it was added
 pub as_added : (made : List Modification) (v : ℕ) (s : StoredRule) → v ≤ s.rule.number → stored_in made v s ≡ rule_view s.rule s.actions
 as_added made v s le =
     ap₂ (λ (cookie : ℕ) (o : Option Modification). with_given s cookie o)
@@ -54,11 +54,11 @@ as_added made v s le =
   where
     not_given : (m : Modification) → is_given v s m ≡ false
     not_given m =
-        elim (cases_lt s.rule.number m.version) [
+        elim (cases_lt s.rule.number m.number) [
           | inl lt ↦
-              and_right (nat_lt s.rule.number m.version) (nat_le m.version v && picks m.edit s.rule)
-              (and_left (nat_le m.version v) (picks m.edit s.rule) (lt-leb m.version v (omega arith)))
-          | inr ge ↦ and_left (nat_lt s.rule.number m.version) (nat_le m.version v && picks m.edit s.rule) (le-ltb s.rule.number m.version ge)
+              and_right (nat_lt s.rule.number m.number) (nat_le m.number v && picks m.edit s.rule)
+              (and_left (nat_le m.number v) (picks m.edit s.rule) (lt-leb m.number v (omega arith)))
+          | inr ge ↦ and_left (nat_lt s.rule.number m.number) (nat_le m.number v && picks m.edit s.rule) (le-ltb s.rule.number m.number ge)
         ]
 
 -- one more modification
@@ -89,9 +89,9 @@ picked_as word e made v s = by word
     by Delete = reached e.table
     by DeleteStrict = refl
 
--- ---- the rules of a version
+-- ---- the rules after an edit
 
--- the next version has the rules of the last one, as long as no edit made it
+-- an edit that was not made leaves the rules
 pub rules_next : (made : List Modification) (xs : List StoredRule) (last : ℕ) → AreNumbered xs last → AreLives xs last → AreMade made last
     → rules_at made (last + 1) xs ≡ rules_at made last xs
 rules_next made xs last numbered lives all =
@@ -99,19 +99,19 @@ rules_next made xs last numbered lives all =
     ap₂ (λ (b : Bool) (r : tables.Rule). cond {A = Option tables.Rule} b (Some r) None)
     (sym (alive_next xs last i x numbered lives at)) (sym (settled made last (last + 1) x all (omega arith))))
 
--- one more modification leaves the versions before its own
-pub rules_before_modification : (made : List Modification) (m : Modification) (xs : List StoredRule) (v : ℕ) → v < m.version → rules_at (made ++ m ∷ []) v xs ≡ rules_at made v xs
+-- one more modification leaves what there was before its own edit
+pub rules_before_modification : (made : List Modification) (m : Modification) (xs : List StoredRule) (v : ℕ) → v < m.number → rules_at (made ++ m ∷ []) v xs ≡ rules_at made v xs
 rules_before_modification made m xs v lt =
     filter_map_same (rule_at (made ++ m ∷ []) v) (rule_at made v) xs (λ i x at.
     ap (λ (r : tables.Rule). cond {A = Option tables.Rule} (is_alive v x) (Some r) None) (stored_in-push made m v x
     ∙ cond-false (is_given v x m) (with_actions m.edit (stored_in made v x)) (stored_in made v x)
-    (and_right (nat_lt x.rule.number m.version) (nat_le m.version v && picks m.edit x.rule)
-    (and_left (nat_le m.version v) (picks m.edit x.rule) (lt-leb m.version v lt)))))
+    (and_right (nat_lt x.rule.number m.number) (nat_le m.number v && picks m.edit x.rule)
+    (and_left (nat_le m.number v) (picks m.edit x.rule) (lt-leb m.number v lt)))))
 
 -- and gives its actions to those that its edit picks
-pub rules_modified : (made : List Modification) (m : Modification) (xs : List StoredRule) (last : ℕ) → m.version ≡ last + 1 → AreNumbered xs last → AreLives xs last → AreMade made last
+pub rules_modified : (made : List Modification) (m : Modification) (xs : List StoredRule) (last : ℕ) → m.number ≡ last + 1 → AreNumbered xs last → AreLives xs last → AreMade made last
     → rules_at (made ++ m ∷ []) (last + 1) xs ≡ modified (is_picked_by m.edit.word m.edit) m.edit (rules_at made last xs)
-rules_modified made m xs last version numbered lives all =
+rules_modified made m xs last its_number numbered lives all =
     sym (map-filter_map change (rule_at made last) xs
     ∙ filter_map_same (λ x. option_map change (rule_at made last x)) (rule_at (made ++ m ∷ []) (last + 1)) xs each)
   where
@@ -125,8 +125,8 @@ rules_modified made m xs last version numbered lives all =
     given : (i : ℕ) (x : StoredRule) → slice_get xs i ≡ Some x → is_given (last + 1) x m ≡ is_picked_by m.edit.word m.edit (stored_in made last x)
     given i x at =
         let within : x.rule.number ≤ last = (numbered i x at).1 in
-        ap (λ (b : Bool). b && (nat_le m.version (last + 1) && picks m.edit x.rule)) (lt-ltb x.rule.number m.version (omega arith))
-        ∙ ap (λ (b : Bool). b && picks m.edit x.rule) (le-leb m.version (last + 1) (omega arith))
+        ap (λ (b : Bool). b && (nat_le m.number (last + 1) && picks m.edit x.rule)) (lt-ltb x.rule.number m.number (omega arith))
+        ∙ ap (λ (b : Bool). b && picks m.edit x.rule) (le-leb m.number (last + 1) (omega arith))
         ∙ sym (picked_as m.edit.word m.edit made last x)
 
     changed : (i : ℕ) (x : StoredRule) → slice_get xs i ≡ Some x → stored_in (made ++ m ∷ []) (last + 1) x ≡ change (stored_in made last x)

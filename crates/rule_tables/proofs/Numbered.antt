@@ -1,4 +1,4 @@
--- The stored rule of a number, and what a version has of it.
+-- The stored rule of a number, and what it is after so many edits.
 use Rattle.std.proofs.Common.{◌≡◌, ℕ, zero, suc, ◌<◌, Bool, true, false, ◌||◌, ◌==◌, List, [], ◌∷◌, length, Option, Some, None, refl, sym, ap, ◌∙◌, subst, arith, inl, inr}
 use Rattle.std.specs.Prelude.{slice_get, slice_index_or, nat_lt, is_some}
 use Rattle.std.specs.List.{cons_option, find, list_any}
@@ -96,7 +96,7 @@ module _ (number place : ℕ) (xs : List StoredRule) (in_order : AreInOrder xs) 
         | inr (past, _) ↦ let less : t.rule.number < number = before k t (omega arith) there in absurd (omega arith)
       ])
 
--- ---- in a version
+-- ---- after so many edits
 
 -- a rule of another number is passed over
 passed_over : (made : List Modification) (v number : ℕ) (s : StoredRule) (rest : List tables.Rule) → (s.rule.number ≡ number → ⊥) → rule_numbered number (cons_option (rule_at made v s) rest) ≡ rule_numbered number rest

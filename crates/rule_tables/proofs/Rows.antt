@@ -7,10 +7,10 @@ use Rattle.spec_actions.specs.declared.action.OfAction.TheVariants.{Output}
 use Rattle.spec_tables.specs.declared.edit_word.EditWord.{EditWord}
 use Rattle.spec_tables.specs.declared.edit_word.EditWord.TheVariants.{Add, Modify, ModifyStrict, Delete, DeleteStrict}
 use Rattle.spec_tables.specs.Rules.{Rule}
-use Rattle.spec_tables.specs.Edits.{Edit, version}
+use Rattle.spec_tables.specs.Edits.{Edit, after_edits}
 use Rattle.spec_tables.proofs.Packets.{Stated, is, key_of, mask_of, match_of}
 use Rattle.spec_tables.specs.Changes.{changes_to}
-use Rattle.rule_tables.specs.History.{rules_of, history_of}
+use Rattle.rule_tables.specs.History.{rules_after, edit_history}
 
 abbrev edit : EditWord → List Stated → ℕ → Edit
 edit word stated port = record { word = word; table = None; priority = 32768; cookie = None; matching = match_of stated; actions = Output port ∷ [] }
@@ -34,13 +34,13 @@ shown r = record { number = r.number; table = r.table; cookie = r.cookie; action
 abbrev sends : ℕ → ℕ → ℕ → ℕ → Live
 sends number table cookie port = record { number = number; table = table; cookie = cookie; actions = Output port ∷ [] }
 
--- the rules of a version, and how many rules the edits up to it change
+-- the rules after so many edits, and how many rules the edits up to it change
 unfoldable live : List Edit → ℕ → List Live
-unfolding none masked same joined key_of mask_of version history_of
-live edits v = map shown (rules_of (history_of edits) v)
+unfolding none masked same joined key_of mask_of after_edits edit_history
+live edits v = map shown (rules_after (edit_history edits) v)
 
 unfoldable changed : List Edit → ℕ → ℕ
-unfolding none masked same joined key_of mask_of version changes_to
+unfolding none masked same joined key_of mask_of after_edits changes_to
 changed edits v = changes_to edits v
 
 abbrev port_1 : List Stated

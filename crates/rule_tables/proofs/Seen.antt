@@ -8,10 +8,10 @@ use Rattle.spec_tables.specs.Rules as tables
 use Rattle.spec_tables.specs.Live.{rule_numbered}
 use Rattle.rule_tables.specs.declared.stored.Modification.{Modification}
 use Rattle.rule_tables.specs.declared.stored.StoredRule.{StoredRule}
-use Rattle.rule_tables.specs.History.{History, newest, rules_of, added_as, versions_to}
+use Rattle.rule_tables.specs.History.{EditHistory, applied, rules_after, added_as, states_to}
 use Rattle.rule_tables.specs.Views.{rule_view}
 use Rattle.rule_tables.specs.Stored.{is_before, is_alive, rule_at, rules_at, stored_numbered, AreInOrder, AreNumbered, AreLives}
-use Rattle.rule_tables.proofs.Histories.{newest-versions_to, rules_of-versions_to, no_rules_past}
+use Rattle.rule_tables.proofs.Histories.{applied-states_to, rules_after-states_to, no_rules_past}
 use Rattle.rule_tables.proofs.Lives.{rule_at-alive}
 use Rattle.rule_tables.proofs.Modified.{as_added}
 use Rattle.rule_tables.proofs.Numbered.{rule_numbered-rules_at}
@@ -35,45 +35,45 @@ on_err (Ok value) holds = tt
 on_err (Err error) holds = holds
 
 -- the same modifications and stored rules have the same history
-pub same_history : (made now : List Modification) (stored new : List StoredRule) (last changes : ℕ) (h : History) → now ≡ made → new ≡ stored
-    → record { versions = versions_to last (λ v. rules_at made v stored); changes = changes } ≡ h → record { versions = versions_to last (λ v. rules_at now v new); changes = changes } ≡ h
+pub same_history : (made now : List Modification) (stored new : List StoredRule) (last changes : ℕ) (h : EditHistory) → now ≡ made → new ≡ stored
+    → record { states = states_to last (λ v. rules_at made v stored); changes = changes } ≡ h → record { states = states_to last (λ v. rules_at now v new); changes = changes } ≡ h
 same_history made now stored new last changes h as_made same view = rw (as_made, same) view
 
 -- a slice of stored rules in order
 pub in_order_there : (stored slice : List StoredRule) → slice ≡ stored → AreInOrder stored → AreInOrder slice
 in_order_there stored slice same in_order = subst (λ (rules : List StoredRule). AreInOrder rules) (sym same) in_order
 
-module _ (made : List Modification) (stored slice : List StoredRule) (last changes : ℕ) (h : History) (same : slice ≡ stored) (view : record { versions = versions_to last (λ v. rules_at made v stored); changes = changes } ≡ h) where
-  pub seen_newest : newest h ≡ last
-  seen_newest = sym (ap newest view) ∙ newest-versions_to last changes (λ v. rules_at made v stored)
+module _ (made : List Modification) (stored slice : List StoredRule) (last changes : ℕ) (h : EditHistory) (same : slice ≡ stored) (view : record { states = states_to last (λ v. rules_at made v stored); changes = changes } ≡ h) where
+  pub seen_applied : applied h ≡ last
+  seen_applied = sym (ap applied view) ∙ applied-states_to last changes (λ v. rules_at made v stored)
 
-  pub seen_rules : (v : ℕ) → v ≤ newest h → rules_at made v slice ≡ rules_of h v
+  pub seen_rules : (v : ℕ) → v ≤ applied h → rules_at made v slice ≡ rules_after h v
   seen_rules v le =
-      let within : newest h ≡ last = seen_newest in
-      ap (rules_at made v) same ∙ sym (rules_of-versions_to last changes v (λ w. rules_at made w stored) (omega arith)) ∙ ap (λ (g : History). rules_of g v) view
+      let within : applied h ≡ last = seen_applied in
+      ap (rules_at made v) same ∙ sym (rules_after-states_to last changes v (λ w. rules_at made w stored) (omega arith)) ∙ ap (λ (g : EditHistory). rules_after g v) view
 
-  pub seen_last : rules_at made last slice ≡ rules_of h (newest h)
+  pub seen_last : rules_at made last slice ≡ rules_after h (applied h)
   seen_last =
-      let within : newest h ≡ last = seen_newest in
-      seen_rules last (omega arith) ∙ ap (rules_of h) (sym within)
+      let within : applied h ≡ last = seen_applied in
+      seen_rules last (omega arith) ∙ ap (rules_after h) (sym within)
 
   module _ (in_order : AreInOrder stored) (numbered : AreNumbered stored last) (lives : AreLives stored last) (number : ℕ) where
     in_slice : stored_numbered number slice ≡ stored_numbered number stored
     in_slice = ap (stored_numbered number) same
 
-    of_version : number ≤ last → added_as h number ≡ option_and_then (rule_at made number) (stored_numbered number stored)
-    of_version le =
-        let within : newest h ≡ last = seen_newest in
+    of_edits : number ≤ last → added_as h number ≡ option_and_then (rule_at made number) (stored_numbered number stored)
+    of_edits le =
+        let within : applied h ≡ last = seen_applied in
         ap (rule_numbered number) (sym (seen_rules number (omega arith)) ∙ ap (rules_at made number) same) ∙ rule_numbered-rules_at made number number stored in_order
 
-    past_version : last + 1 ≤ number → added_as h number ≡ None
-    past_version past = ap (rule_numbered number) (sym (ap (λ (g : History). rules_of g number) view) ∙ no_rules_past last changes number (λ w. rules_at made w stored) past)
+    past_edits : last + 1 ≤ number → added_as h number ≡ None
+    past_edits past = ap (rule_numbered number) (sym (ap (λ (g : EditHistory). rules_after g number) view) ∙ no_rules_past last changes number (λ w. rules_at made w stored) past)
 
     pub none_added : None ≡ stored_numbered number slice → added_as h number ≡ None
     none_added none =
         elim (cases_lt last number) [
-          | inl past ↦ past_version (omega arith)
-          | inr le ↦ of_version le ∙ sym (ap (option_and_then (rule_at made number)) (none ∙ in_slice))
+          | inl past ↦ past_edits (omega arith)
+          | inr le ↦ of_edits le ∙ sym (ap (option_and_then (rule_at made number)) (none ∙ in_slice))
         ]
 
     pub is_added : (s : StoredRule) → Some s ≡ stored_numbered number slice → added_as h number ≡ Some (rule_view s.rule s.actions)
@@ -85,7 +85,7 @@ module _ (made : List Modification) (stored slice : List StoredRule) (last chang
         let within : number ≤ last = omega arith in
         let live : is_alive number s ≡ true =
         and_from _ _ (le-leb s.rule.number number (omega arith)) (before there.0 there.1 number_is s.gone refl) in
-        of_version within ∙ sym (ap (option_and_then (rule_at made number)) (is ∙ in_slice)) ∙ rule_at-alive made number s live
+        of_edits within ∙ sym (ap (option_and_then (rule_at made number)) (is ∙ in_slice)) ∙ rule_at-alive made number s live
         ∙ ap (λ (r : tables.Rule). Some r) (as_added made number s (omega arith))
       where
         before : (i : ℕ) → slice_get stored i ≡ Some s → s.rule.number ≡ number → (gone : Option ℕ) → s.gone ≡ gone → is_before number gone ≡ true

@@ -12,7 +12,7 @@ use Rattle.rule_tables.specs.declared.identity.RuleIdentity.{RuleIdentity}
 use Rattle.rule_tables.specs.declared.stored.Modification.{Modification}
 use Rattle.rule_tables.specs.declared.stored.StoredRule.{StoredRule}
 use Rattle.spec_tables.specs.Changes.{changes_by}
-use Rattle.rule_tables.specs.History.{History, edited_by, versions_to}
+use Rattle.rule_tables.specs.History.{EditHistory, edited_by, states_to}
 use Rattle.rule_tables.specs.Stored.{is_modify, is_picked_by, acts_on, rules_at, ended_by, with_end, is_same_identity, AreInOrder, AreNumbered, AreLives, AreMade, AreFound, AreConsistent}
 use Rattle.rule_tables.proofs.Counts.{count_by-cons}
 use Rattle.rule_tables.proofs.FilterMaps.{push_cases}
@@ -51,13 +51,13 @@ sound_at_first made xs find no_modifications none nothing =
       few_changes = lit≤ tt;
     })
 
--- an edit acts on no more rules than there are versions
+-- an edit acts on no more rules than there are edits
 pub few_picked : (made : List Modification) (xs : List StoredRule) (last : ℕ) (e : Edit) → AreNumbered xs last → count_by (acts_on e) xs ≤ last
 few_picked made xs last e numbered =
     let few : length xs ≤ last = length_within xs last numbered in
     omega (arith, count_by-le-length (acts_on e) xs)
 
--- what holds up to the last version holds up to the next
+-- what holds up to the last edit holds up to the next
 numbered_next : (xs : List StoredRule) (last : ℕ) → AreNumbered xs last → AreNumbered xs (last + 1)
 numbered_next xs last numbered i s at =
     let bounds = numbered i s at in
@@ -69,7 +69,7 @@ lives_next : (xs : List StoredRule) (last : ℕ) → AreLives xs last → AreLiv
 lives_next xs last lives = record { begun = lives.begun; ended = λ i gone s at ends. let le : gone ≤ last = lives.ended i gone s at ends in omega arith }
 
 made_next : (made : List Modification) (last : ℕ) → AreMade made last → AreMade made (last + 1)
-made_next made last all i m at = let le : m.version ≤ last = all i m at in omega arith
+made_next made last all i m at = let le : m.number ≤ last = all i m at in omega arith
 
 -- ---- modifies
 
@@ -82,22 +82,22 @@ modified_as Delete is n e rules = absurd (false≢true is)
 modified_as DeleteStrict is n e rules = absurd (false≢true is)
 
 pub sound_modified : (made : List Modification) (xs : List StoredRule) (find : RuleIdentity → Option ℕ) (last changes : ℕ) → AreConsistent made xs find last changes
-    → (m : Modification) → last + 1 < 2 ^ 32 → is_modify m.edit.word ≡ true → m.version ≡ last + 1
+    → (m : Modification) → last + 1 < 2 ^ 32 → is_modify m.edit.word ≡ true → m.number ≡ last + 1
     → (count : ℕ) → count ≡ count_by (is_picked_by m.edit.word m.edit) (rules_at made last xs)
-    → AreConsistent (made ++ m ∷ []) xs find m.version (changes + count)
-    × (record { versions = versions_to m.version (λ v. rules_at (made ++ m ∷ []) v xs); changes = changes + count }
-    ≡ edited_by m.edit (record { versions = versions_to last (λ v. rules_at made v xs); changes = changes }))
-sound_modified made xs find last changes sound m room modifies version count counted =
+    → AreConsistent (made ++ m ∷ []) xs find m.number (changes + count)
+    × (record { states = states_to m.number (λ v. rules_at (made ++ m ∷ []) v xs); changes = changes + count }
+    ≡ edited_by m.edit (record { states = states_to last (λ v. rules_at made v xs); changes = changes }))
+sound_modified made xs find last changes sound m room modifies its_number count counted =
     let shape = modified_as m.edit.word modifies (last + 1) m.edit (rules_at made last xs) in (
-      subst (λ (n : ℕ). AreConsistent (made ++ m ∷ []) xs find n (changes + count)) (sym version) (record {
+      subst (λ (n : ℕ). AreConsistent (made ++ m ∷ []) xs find n (changes + count)) (sym its_number) (record {
         fits = room;
         in_order = sound.in_order;
         numbered = numbered_next xs last sound.numbered;
         lives = lives_next xs last sound.lives;
         made = λ i n at.
             elim (push_cases made m n i at) [
-              | inl earlier ↦ let le : n.version ≤ last = sound.made i n earlier in omega arith
-              | inr (latest, is) ↦ let now : n.version ≡ last + 1 = ap (λ (k : Modification). k.version) is ∙ version in omega arith
+              | inl earlier ↦ let le : n.number ≤ last = sound.made i n earlier in omega arith
+              | inr (latest, is) ↦ let now : n.number ≡ last + 1 = ap (λ (k : Modification). k.number) is ∙ its_number in omega arith
             ];
         found = sound.found;
         few_changes =
@@ -106,10 +106,10 @@ sound_modified made xs find last changes sound m room modifies version count cou
             let number : count ≡ count_by (acts_on m.edit) xs = counted ∙ count_picked made xs last m.edit sound.numbered sound.lives in
             omega arith;
       }),
-      ap (λ (n : ℕ). let h : History = record { versions = versions_to n (λ v. rules_at (made ++ m ∷ []) v xs); changes = changes + count } in h) version
+      ap (λ (n : ℕ). let h : EditHistory = record { states = states_to n (λ v. rules_at (made ++ m ∷ []) v xs); changes = changes + count } in h) its_number
           ∙ pushed last (λ v. rules_at made v xs) (λ v. rules_at (made ++ m ∷ []) v xs) changes (changes + count) m.edit
           (λ v le. rules_before_modification made m xs v (omega arith))
-          (rules_modified made m xs last version sound.numbered sound.lives sound.made ∙ sym shape.0)
+          (rules_modified made m xs last its_number sound.numbered sound.lives sound.made ∙ sym shape.0)
           (ap (λ (n : ℕ). changes + n) (counted ∙ sym shape.1)),
     )
 
@@ -130,8 +130,8 @@ modified_none p e (r ∷ rules) none =
 pub sound_idle : (made : List Modification) (xs : List StoredRule) (find : RuleIdentity → Option ℕ) (last changes : ℕ) → AreConsistent made xs find last changes
     → (e : Edit) → last + 1 < 2 ^ 32 → is_modify e.word ≡ true → count_by (is_picked_by e.word e) (rules_at made last xs) ≡ 0
     → AreConsistent made xs find (last + 1) changes
-    × (record { versions = versions_to (last + 1) (λ v. rules_at made v xs); changes = changes }
-    ≡ edited_by e (record { versions = versions_to last (λ v. rules_at made v xs); changes = changes }))
+    × (record { states = states_to (last + 1) (λ v. rules_at made v xs); changes = changes }
+    ≡ edited_by e (record { states = states_to last (λ v. rules_at made v xs); changes = changes }))
 sound_idle made xs find last changes sound e room modifies none =
     let shape = modified_as e.word modifies (last + 1) e (rules_at made last xs) in (
       record {
@@ -170,8 +170,8 @@ pub sound_deleted : (made : List Modification) (xs : List StoredRule) (find find
     → (e : Edit) → last + 1 < 2 ^ 32 → is_delete e.word ≡ true → (zs : List StoredRule) → zs ≡ map (ended_by e (last + 1)) xs → AreFound zs find'
     → (count : ℕ) → count ≡ count_by (acts_on e) xs
     → AreConsistent made zs find' (last + 1) (changes + count)
-    × (record { versions = versions_to (last + 1) (λ v. rules_at made v zs); changes = changes + count }
-    ≡ edited_by e (record { versions = versions_to last (λ v. rules_at made v xs); changes = changes }))
+    × (record { states = states_to (last + 1) (λ v. rules_at made v zs); changes = changes + count }
+    ≡ edited_by e (record { states = states_to last (λ v. rules_at made v xs); changes = changes }))
 sound_deleted made xs find find' last changes sound e room deletes zs is found count counted =
     let shape = deleted_as e.word deletes (last + 1) e (rules_at made last xs) in (
       record {
@@ -198,8 +198,8 @@ pub sound_deleted_strict : (made : List Modification) (xs : List StoredRule) (fi
     → (old : Option ℕ) → old ≡ find identity → ((q : RuleIdentity) → find' q ≡ cond (is_same_identity identity q) None (find q))
     → (zs : List StoredRule) → zs ≡ with_end old (last + 1) xs → (count : ℕ) → count ≡ cond (is_some old) 1 0
     → AreConsistent made zs find' (last + 1) (changes + count)
-    × (record { versions = versions_to (last + 1) (λ v. rules_at made v zs); changes = changes + count }
-    ≡ edited_by e (record { versions = versions_to last (λ v. rules_at made v xs); changes = changes }))
+    × (record { states = states_to (last + 1) (λ v. rules_at made v zs); changes = changes + count }
+    ≡ edited_by e (record { states = states_to last (λ v. rules_at made v xs); changes = changes }))
 sound_deleted_strict made xs find find' last changes sound respects e room word identity named old is removed zs becomes count counted =
     sound_deleted made xs find find' last changes sound e room (ap is_delete word) zs
     (becomes ∙ ended_as_named xs find sound.found respects e identity named old (last + 1) is)

@@ -11,7 +11,7 @@ use Rattle.rule_tables.specs.Candidates.{is_candidate}
 use Rattle.rule_tables.specs.Stored.{stored_in, is_alive, rules_at}
 use Rattle.rule_tables.proofs.Lives.{rule_at-alive, rule_at-dead}
 
--- the winner for a key in a table of a version
+-- the winner for a key in a table after so many edits
 abbrev pub winner_in : List Modification → ℕ → ℕ → List ℕ → List StoredRule → Option tables.Rule
 winner_in made v table key stored = winner (rules_in table (rules_at made v stored)) key
 

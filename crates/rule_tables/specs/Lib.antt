@@ -1,7 +1,10 @@
 pub mod Added
 pub mod Candidates
+pub mod Edited
+pub mod EditedRules
 pub mod Givings
 pub mod History
+pub mod Signed
 pub mod Stored
 pub mod Versions
 pub mod Views

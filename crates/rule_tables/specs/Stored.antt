@@ -1,5 +1,5 @@
--- Stored rules: the versions in which they are live, and what each of these has of them.
-use Rattle.std.specs.Prelude.{◌≡◌, ℕ, zero, suc, ◌*◌, ◌<◌, ◌≤◌, ◌^◌, Bool, ◌&&◌, ◌==◌, true, false, not, nat_lt, nat_le, is_some, if◌then◌else◌, List, [], ◌∷◌, length, slice_get, Option, Some, None, unwrap_or}
+-- Stored rules: after how many edits they are live, and what they are then.
+use Rattle.std.specs.Prelude.{◌≡◌, ℕ, zero, suc, ◌*◌, ◌<◌, ◌≤◌, ◌^◌, Bool, ◌&&◌, ◌==◌, true, false, not, nat_lt, nat_le, is_some, if◌then◌else◌, List, [], ◌∷◌, length, map, slice_get, Option, Some, None, unwrap_or}
 use Rattle.std.specs.List.{find, filter_map, fold}
 use Rattle.std.specs.Option.{option_map_or}
 use Rattle.spec_actions.specs.declared.action.OfAction.{OfAction}
@@ -12,6 +12,9 @@ use Rattle.rule_tables.specs.declared.identity.RuleIdentity.{RuleIdentity}
 use Rattle.rule_tables.specs.declared.rule.Rule.{Rule}
 use Rattle.rule_tables.specs.declared.stored.Modification.{Modification}
 use Rattle.rule_tables.specs.declared.stored.StoredRule.{StoredRule}
+use Rattle.match_signatures.specs.declared.signature.Signature.{Signature}
+use Rattle.match_signatures.specs.Signatures.{includes}
+use Rattle.rule_tables.specs.Signed.{signature_in}
 use Rattle.rule_tables.specs.Views.{match_view, rule_view}
 
 -- ---- what an edit acts on
@@ -36,15 +39,19 @@ is_picked_by DeleteStrict e r = is_named_by e r
 abbrev pub picks : Edit → Rule → Bool
 picks e r = is_picked_by e.word e (rule_view r [])
 
--- whether an edit acts on a stored rule: one that is live in the last version, and that it picks
+-- the signature of each rule that the edit picks includes this one
+abbrev pub IsWanted : Signature → Edit → Type 0
+IsWanted wanted e = (r : Rule) → picks e r ≡ true → includes (signature_in r) wanted ≡ true
+
+-- whether an edit acts on a stored rule: one that is live after the last edit so far, and that it picks
 abbrev pub acts_on : Edit → StoredRule → Bool
 acts_on e s = not (is_some s.gone) && picks e s.rule
 
 -- ---- modifications
 
--- whether a rule has been given the cookie and the actions of a modification by version v: it was there before, and is picked
+-- whether a rule has been given the cookie and the actions of a modification by v edits: it was there before, and is picked
 abbrev pub is_given : ℕ → StoredRule → Modification → Bool
-is_given v s m = nat_lt s.rule.number m.version && (nat_le m.version v && picks m.edit s.rule)
+is_given v s m = nat_lt s.rule.number m.number && (nat_le m.number v && picks m.edit s.rule)
 
 abbrev pub given_cookie : ℕ → StoredRule → ℕ → Modification → ℕ
 given_cookie v s cookie m = if is_given v s m then unwrap_or m.edit.cookie cookie else cookie
@@ -52,11 +59,11 @@ given_cookie v s cookie m = if is_given v s m then unwrap_or m.edit.cookie cooki
 abbrev pub later_given : ℕ → StoredRule → Option Modification → Modification → Option Modification
 later_given v s last m = if is_given v s m then Some m else last
 
--- the cookie of a rule in version v: the last one that it was given by then
+-- the cookie of a rule after v edits: the last one that it was given by then
 abbrev pub cookie_in : List Modification → ℕ → StoredRule → ℕ
 cookie_in modifications v s = fold (given_cookie v s) s.rule.cookie modifications
 
--- the last modification that a rule was given by version v, if there is one
+-- the last modification that a rule was given by v edits, if there is one
 abbrev pub last_given : List Modification → ℕ → StoredRule → Option Modification
 last_given modifications v s = fold (later_given v s) None modifications
 
@@ -74,22 +81,22 @@ with_given s cookie o = record {
   actions = option_map_or (λ (m : Modification). m.edit.actions) o s.actions;
 }
 
--- a stored rule as version v has it
+-- a stored rule as it is after v edits
 abbrev pub stored_in : List Modification → ℕ → StoredRule → tables.Rule
 stored_in modifications v s = with_given s (cookie_in modifications v s) (last_given modifications v s)
 
 -- ---- lives
 
--- whether version v comes before the one in which a rule is gone
+-- whether v edits are fewer than those after which a rule is gone
 abbrev pub is_before : ℕ → Option ℕ → Bool
 is_before v None = true
 is_before v (Some gone) = nat_lt v gone
 
--- whether a stored rule is live in version v
+-- whether a stored rule is live after v edits
 abbrev pub is_alive : ℕ → StoredRule → Bool
 is_alive v s = nat_le s.rule.number v && is_before v s.gone
 
--- the rule in version v, where it is live there
+-- the rule after v edits, where it is live then
 abbrev pub rule_at : List Modification → ℕ → StoredRule → Option tables.Rule
 rule_at modifications v s = if is_alive v s then Some (stored_in modifications v s) else None
 
@@ -100,7 +107,7 @@ rules_at modifications v stored = filter_map (rule_at modifications v) stored
 abbrev pub stored_numbered : ℕ → List StoredRule → Option StoredRule
 stored_numbered number stored = find (λ (s : StoredRule). s.rule.number == number) stored
 
--- the stored rules, of which the one at this place is gone from a version on
+-- the stored rules, of which the one at this place is gone from an edit on
 abbrev pub ended : ℕ → ℕ → List StoredRule → List StoredRule
 ended place gone [] = []
 ended zero gone (s ∷ rest) = record s { gone = Some gone } ∷ rest
@@ -111,13 +118,13 @@ abbrev pub with_end : Option ℕ → ℕ → List StoredRule → List StoredRule
 with_end None gone stored = stored
 with_end (Some place) gone stored = ended place gone stored
 
--- a stored rule, which is gone from a version on if an edit acts on it
+-- a stored rule, which is gone from an edit on if that acts on it
 abbrev pub ended_by : Edit → ℕ → StoredRule → StoredRule
 ended_by e gone s = if acts_on e s then record s { gone = Some gone } else s
 
 -- ---- identities
 
--- what tells a rule from the others of one version
+-- what tells a rule from the others that are live with it
 abbrev pub identity_of : Rule → RuleIdentity
 identity_of r = record { table = r.table; priority = r.priority; matching = r.matching }
 
@@ -127,23 +134,27 @@ is_same_identity a b = (a.table == b.table) && ((a.priority == b.priority) && is
 
 -- ---- the store
 
+-- the signatures of stored rules, in their order
+abbrev pub signatures_in : List StoredRule → List Signature
+signatures_in stored = map (λ (s : StoredRule). signature_in s.rule) stored
+
 -- Stored rules stand in the order of their numbers.
 abbrev pub AreInOrder : List StoredRule → Type 0
 AreInOrder stored =
     (i j : ℕ) (s t : StoredRule) → slice_get stored i ≡ Some s → slice_get stored j ≡ Some t → i < j → s.rule.number < t.rule.number
 
--- Their numbers are those of versions from 1 to the last.
+-- Their numbers are those of edits from 1 to the last.
 abbrev pub AreNumbered : List StoredRule → ℕ → Type 0
 AreNumbered stored last = (i : ℕ) (s : StoredRule) → slice_get stored i ≡ Some s → (i < s.rule.number) × (s.rule.number ≤ last)
 
--- A rule is live in the version that added it, and its life doesn't end after the last version.
+-- A rule is live after the edit that added it, and its life doesn't end after the last edit.
 pub record AreLives (stored : List StoredRule) (last : ℕ) : Type 0 where
   pub begun : (i gone : ℕ) (s : StoredRule) → slice_get stored i ≡ Some s → s.gone ≡ Some gone → s.rule.number < gone
   pub ended : (i gone : ℕ) (s : StoredRule) → slice_get stored i ≡ Some s → s.gone ≡ Some gone → gone ≤ last
 
--- No modification is of a version after the last.
+-- No modification is of an edit after the last.
 abbrev pub AreMade : List Modification → ℕ → Type 0
-AreMade modifications last = (i : ℕ) (m : Modification) → slice_get modifications i ≡ Some m → m.version ≤ last
+AreMade modifications last = (i : ℕ) (m : Modification) → slice_get modifications i ≡ Some m → m.number ≤ last
 
 -- By each identity the place of the live rule that has it is found, and no other.
 pub record AreFound (stored : List StoredRule) (find : RuleIdentity → Option ℕ) : Type 0 where
@@ -152,7 +163,7 @@ pub record AreFound (stored : List StoredRule) (find : RuleIdentity → Option �
   pub own : (identity : RuleIdentity) (i : ℕ) (s : StoredRule) → find identity ≡ Some i → slice_get stored i ≡ Some s
       → (s.gone ≡ None) × (is_same_identity identity (identity_of s.rule) ≡ true)
 
--- The modifications, the stored rules, the place that is found by each identity, the last version and the count of changes
+-- The modifications, the stored rules, the place that is found by each identity, the last edit and the count of changes
 -- are consistent: an edit changes no more rules than there are numbers.
 pub record AreConsistent (modifications : List Modification) (stored : List StoredRule) (find : RuleIdentity → Option ℕ) (last changes : ℕ) : Type 0 where
   pub fits : last < 2 ^ 32

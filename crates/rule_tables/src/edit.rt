@@ -1,11 +1,13 @@
-ghost use Rattle.std.specs.Prelude.{◌≡◌, IfOk, []};
+ghost use Rattle.std.specs.Prelude.{◌≡◌, IfOk, [], List};
 ghost use Rattle.spec_tables.specs.Edits.{is_in_table, is_named_by, is_reached_by};
+ghost use Rattle.rule_tables.specs.Edited.{is_add, adds_in, modifies_in};
 ghost use Rattle.rule_tables.specs.Views.{rule_view};
-ghost use Rattle.rule_tables.specs.Stored.{picks};
+ghost use Rattle.rule_tables.specs.Stored.{is_modify, picks, IsWanted};
 
 use crate::actions::Actions;
 use crate::matching::Match;
 use crate::rule::Rule;
+use match_signatures::{Signature, rules_include_their_edits};
 use spec_tables::EditWord;
 use std::alloc::{AllocError, Global};
 use std::marker::Model;
@@ -60,6 +62,14 @@ impl Edit {
         }
     }
 
+    /// What the signature of each rule that the edit picks includes.
+    pub fn wanted(&self) -> Signature
+        ensures { IsWanted result self.now }
+    {
+        rules_include_their_edits();
+        Signature::of(&self.matching.key, &self.matching.mask)
+    }
+
     /// Whether a rule's match is the edit's or one more specific, in the edit's table or in any where it names none.
     fn reaches(&self, rule: &Rule) -> bool
         ensures { result ≡ is_reached_by self.now (rule_view rule.now []) }
@@ -85,4 +95,53 @@ fn is_in_table(table: Option<u8>, rule: &Rule) -> bool
         None => true,
         Some(table) => rule.table == table,
     }
+}
+
+/// The same edits again, in their order.
+pub(crate) fn copies(alloc: Global, list: &[Edit]) -> Result<Vec<Edit>, AllocError>
+    ensures { IfOk result (λ v. v.items ≡ list.now) }
+{
+    let mut edits = Vec::with_capacity(alloc, list.len())?;
+    'list: for edit in list {
+        edits.push_reserved(edit.copy(alloc)?);
+    }
+    Ok(edits)
+}
+
+/// How many edits of a list add rules.
+pub(crate) fn count_adds(list: &[Edit]) -> usize
+    ensures { result ≡ adds_in list.now }
+{
+    let mut count = 0;
+    'list: for edit in list {
+        if is_add(edit) {
+            count += 1;
+        }
+    }
+    count
+}
+
+/// How many edits of a list give actions to rules.
+pub(crate) fn count_modifies(list: &[Edit]) -> usize
+    ensures { result ≡ modifies_in list.now }
+{
+    let mut count = 0;
+    'list: for edit in list {
+        if is_modify(edit) {
+            count += 1;
+        }
+    }
+    count
+}
+
+fn is_add(edit: &Edit) -> bool
+    ensures { result ≡ is_add edit.now.word }
+{
+    matches!(edit.word, EditWord::Add)
+}
+
+fn is_modify(edit: &Edit) -> bool
+    ensures { result ≡ is_modify edit.now.word }
+{
+    matches!(edit.word, EditWord::Modify | EditWord::ModifyStrict)
 }

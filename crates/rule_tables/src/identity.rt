@@ -4,7 +4,7 @@ use crate::edit::Edit;
 use crate::matching::Match;
 use crate::rule::Rule;
 
-/// What tells the rules of one version apart: no two of them have the same table, priority and match.
+/// What tells the rules that are live at once apart: no two of them have the same table, priority and match.
 #[derive(Clone, Copy, Debug, PartialEq, Eq, Hash)]
 pub(crate) struct RuleIdentity {
     table: u8,

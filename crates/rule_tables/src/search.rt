@@ -31,15 +31,15 @@ pub(crate) fn stored_at(rules: &[StoredRule], number: u32) -> Option<&StoredRule
     }
 }
 
-/// The stored rule of a number, if it is live in a version.
-pub(crate) fn find_live(rules: &[StoredRule], version: u32, number: u32) -> Option<&StoredRule>
+/// The stored rule of a number, if it is live after so many edits.
+pub(crate) fn find_live(rules: &[StoredRule], after: u32, number: u32) -> Option<&StoredRule>
     requires { AreInOrder rules.now }
-    ensures rule { (made : List Modification) → option_map (λ s. stored_in made version s.now) result ≡ rule_numbered number (rules_at made version rules.now) }
-    ensures live { IfSome result (λ s. is_alive version s.now ≡ true) }
+    ensures rule { (made : List Modification) → option_map (λ s. stored_in made after s.now) result ≡ rule_numbered number (rules_at made after rules.now) }
+    ensures live { IfSome result (λ s. is_alive after s.now ≡ true) }
     ensures stored { IfSome result (λ s. stored_numbered number rules.now ≡ Some s.now) }
 {
     let stored = stored_at(rules, number)?;
-    if stored.is_live(version) {
+    if stored.is_live(after) {
         Some(stored)
     } else {
         None
@@ -68,29 +68,29 @@ fn better_of<'a>(rule: &'a StoredRule, best: Option<&'a StoredRule>) -> &'a Stor
     }
 }
 
-/// Whether a rule is live in a version, stands in a table and matches a key.
-fn is_candidate(stored: &StoredRule, version: u32, table: u8, key: &Key) -> bool
-    ensures { result ≡ is_candidate version table (numbers key.now) stored.now }
+/// Whether a rule is live after so many edits, stands in a table and matches a key.
+fn is_candidate(stored: &StoredRule, after: u32, table: u8, key: &Key) -> bool
+    ensures { result ≡ is_candidate after table (numbers key.now) stored.now }
 {
     let rule = &stored.rule;
     rule.table == table
-        && stored.is_live(version)
+        && stored.is_live(after)
         && agree(key, &rule.matching.key, &rule.matching.mask)
 }
 
-/// The winner for a key in a table of a version.
+/// The winner for a key in a table after so many edits.
 pub(crate) fn winner_of<'a>(
     rules: &'a [StoredRule],
-    version: u32,
+    after: u32,
     table: u8,
     key: &Key,
 ) -> Option<&'a StoredRule>
-    ensures { (made : List Modification) → option_map (λ s. stored_in made version s.now) result ≡ winner (rules_in table (rules_at made version rules.now)) (numbers key.now) }
+    ensures { (made : List Modification) → option_map (λ s. stored_in made after s.now) result ≡ winner (rules_in table (rules_at made after rules.now)) (numbers key.now) }
 {
     let mut best = None;
     'rules: for i in (0..rules.len()).rev() {
         let stored = &rules[i];
-        if is_candidate(stored, version, table, key) {
+        if is_candidate(stored, after, table, key) {
             best = Some(better_of(stored, best));
         }
     }

@@ -1,20 +1,23 @@
-ghost use Rattle.std.specs.Prelude.{◌≡◌, ◌<◌, length, map, count_by, None};
+ghost use Rattle.std.specs.Prelude.{◌≡◌, ◌<◌, ◌≤◌, length, map, count_by, None};
 ghost use Rattle.std.specs.Option.{ForSome};
-ghost use Rattle.std.specs.HashMap.{get};
-ghost use Rattle.rule_tables.specs.Stored.{acts_on, ended_by, with_end, is_same_identity, AreFound};
+ghost use Rattle.std.specs.HashMap.{get, spare};
+ghost use Rattle.rule_tables.specs.Signed.{signature_in};
+ghost use Rattle.rule_tables.specs.Stored.{acts_on, ended_by, with_end, is_same_identity, signatures_in, AreFound, IsWanted};
 
 use crate::actions::Actions;
 use crate::edit::Edit;
 use crate::identity::RuleIdentity;
 use crate::rule::Rule;
+use match_signatures::Signature;
 use std::alloc::Global;
 use std::collections::HashMap;
 
-/// What a modify made: from its version on, the rules that its edit picks have the actions of the edit, and its cookie
-/// where it has one.
+/// What a modify made: after it the rules that its edit picks have the actions of the edit, and its cookie where it has
+/// one.
 #[derive(Debug, Drop)]
 pub(crate) struct Modification {
-    pub(crate) version: u32,
+    /// The number of the edit.
+    pub(crate) number: u32,
     pub(crate) edit: Edit,
 }
 
@@ -23,7 +26,7 @@ pub(crate) struct Modification {
 pub(crate) struct StoredRule {
     pub(crate) rule: Rule,
     pub(crate) actions: Actions,
-    /// The first version without the rule, if there is one. Its first version is its number.
+    /// The number of the edit that ended its life, if one did. The edit that began it is that of the rule's number.
     pub(crate) gone: Option<u32>,
     /// The place in the log of what it was given last, if it was given anything.
     pub(crate) given: Option<usize>,
@@ -32,12 +35,11 @@ pub(crate) struct StoredRule {
 impl StoredRule {
     ghost use Rattle.spec_tables.specs.Edits.{rule_of};
     ghost use Rattle.rule_tables.specs.Views.{rule_view};
-    ghost use Rattle.rule_tables.specs.Stored.{is_alive};
+    ghost use Rattle.rule_tables.specs.Stored.{is_given, is_alive};
 
-    /// The rule that an edit adds, with these actions. It takes no memory.
-    pub(crate) fn new(number: u32, edit: &Edit, actions: Actions) -> StoredRule
-        requires { actions ≡ edit.now.actions }
-        ensures rule { rule_view result.rule result.actions ≡ rule_of number edit.now }
+    /// The rule that the edit of a number adds. It takes no memory.
+    pub(crate) fn new(number: u32, edit: Edit) -> StoredRule
+        ensures rule { rule_view result.rule result.actions ≡ rule_of number edit }
         ensures number { result.rule.number ≡ number }
         ensures gone { result.gone ≡ None }
         ensures given { result.given ≡ None }
@@ -50,40 +52,61 @@ impl StoredRule {
                 cookie: edit.cookie.unwrap_or(0),
                 matching: edit.matching,
             },
-            actions,
+            actions: edit.actions,
             gone: None,
             given: None,
         }
     }
 
-    /// Whether the rule is live in a version.
-    pub(crate) fn is_live(&self, version: u32) -> bool
-        ensures { result ≡ is_alive version self.now }
+    /// Whether the rule is live after so many edits.
+    pub(crate) fn is_live(&self, after: u32) -> bool
+        ensures { result ≡ is_alive after self.now }
     {
-        self.rule.number <= version
+        self.rule.number <= after
             && match self.gone {
                 None => true,
-                Some(gone) => version < gone,
+                Some(gone) => after < gone,
             }
     }
 
-    /// Whether an edit acts on the rule: it is live in the last version, and the edit picks it.
+    /// Whether an edit acts on the rule: it is live after the last edit, and this edit picks it.
     pub(crate) fn is_acted_on(&self, edit: &Edit) -> bool
         ensures { result ≡ acts_on edit.now self.now }
     {
         self.gone.is_none() && edit.picks(&self.rule)
     }
+
+    /// The same, where the signature of each rule that the edit picks includes one, and the rule has this signature.
+    pub(crate) fn is_found(&self, signature: &Signature, edit: &Edit, wanted: &Signature) -> bool
+        ensures { signature.now ≡ signature_in self.now.rule → IsWanted wanted.now edit.now
+            → result ≡ acts_on edit.now self.now }
+    {
+        signature.includes(wanted) && self.is_acted_on(edit)
+    }
+
+    /// Whether the rule has been given a modification by so many edits.
+    pub(crate) fn is_given(&self, modification: &Modification, after: u32) -> bool
+        ensures { result ≡ is_given after self.now modification.now }
+    {
+        self.rule.number < modification.number
+            && modification.number <= after
+            && modification.edit.picks(&self.rule)
+    }
 }
 
 /// On how many rules an edit acts.
-pub(crate) fn count_acted_on(rules: &[StoredRule], edit: &Edit) -> usize
+pub(crate) fn count_acted_on(rules: &[StoredRule], edit: &Edit, signatures: &[Signature]) -> usize
+    requires { signatures.now ≡ signatures_in rules.now }
     ensures { result ≡ count_by (acts_on edit.now) rules.now }
 {
+    let wanted = edit.wanted();
     let mut count = 0;
+    let mut place = 0;
     'rules: for stored in rules {
-        if stored.is_acted_on(edit) {
+        if stored.is_found(&signatures[place], edit, &wanted) {
             count += 1;
         }
+        place += 1;
     }
     count
 }
@@ -104,19 +127,25 @@ pub(crate) fn end_rules(
     places: &mut HashMap<RuleIdentity, u32>,
     edit: &Edit,
     gone: u32,
+    signatures: &[Signature],
 ) -> usize
-    requires { AreFound rules.old (λ q. get is_same_identity places.old q) }
+    requires found { AreFound rules.old (λ q. get is_same_identity places.old q) }
+    requires signed { signatures.now ≡ signatures_in rules.old }
     ensures rules { rules.new ≡ map (ended_by edit.now gone) rules.old }
     ensures found { AreFound rules.new (λ q. get is_same_identity places.new q) }
+    ensures spare { spare places.old ≤ spare places.new }
     ensures count { result ≡ count_by (acts_on edit.now) rules.old }
 {
+    let wanted = edit.wanted();
     let mut count = 0;
+    let mut place = 0;
     'rules: for stored in rules.iter_mut() {
-        if stored.is_acted_on(edit) {
+        if stored.is_found(&signatures[place], edit, &wanted) {
             places.remove(&RuleIdentity::of(&stored.rule));
             stored.gone = Some(gone);
             count += 1;
         }
+        place += 1;
     }
     count
 }

@@ -16,6 +16,7 @@ use Rattle.address_prefixes.specs.contracts.address_prefixes.AddressPrefixes as 
 use Rattle.tuple_classifier.specs.contracts.sorted.SortedNumbers as sorted
 use Rattle.tuple_classifier.specs.contracts.indexes.Indexes as indexes
 use Rattle.tuple_classifier.specs.contracts.live.LiveRule as live_rule
+use Rattle.tuple_classifier.specs.contracts.live_rules.LiveRules as live_rules
 use Rattle.tuple_classifier.specs.contracts.subtable.Subtable as subtable
 use Rattle.tuple_classifier.specs.contracts.subtables.Subtables as subtables
 use Rattle.tuple_classifier.specs.contracts.table.Table as table
@@ -111,8 +112,14 @@ table_send = search (sendable, crosses, prefixes_send, subtables_send) depth 100
 table_sync : IsSync (table.the_field).row
 table_sync = search (sendable, crosses, prefixes_sync, subtables_sync) depth 100 fits 20000
 
+live_rules_send : IsSend (live_rules.the_field).row
+live_rules_send = search (sendable, crosses, table_send, live_rule_send, actions_send) depth 100 fits 20000
+
+live_rules_sync : IsSync (live_rules.the_field).row
+live_rules_sync = search (sendable, crosses, table_sync, live_rule_sync, actions_sync) depth 100 fits 20000
+
 pub tables_send : IsSend (tables.the_field).row
-tables_send = search (sendable, crosses, table_send, live_rule_send, actions_send) depth 100 fits 20000
+tables_send = search (sendable, crosses, live_rules_send) depth 100 fits 20000
 
 pub tables_sync : IsSync (tables.the_field).row
-tables_sync = search (sendable, crosses, table_sync, live_rule_sync, actions_sync) depth 100 fits 20000
+tables_sync = search (sendable, crosses, live_rules_sync) depth 100 fits 20000

@@ -1,5 +1,6 @@
-pub mod AddLaws
 pub mod Boxes
+pub mod BundleLaws
+pub mod CarriedLaws
 pub mod ConsultLaws
 pub mod CountedLaws
 pub mod Crossing
@@ -19,8 +20,10 @@ pub mod PassLaws
 pub mod PlaceLaws
 pub mod PlacedLaws
 pub mod Places
+pub mod PreparedLaws
 pub mod PriorityLaws
 pub mod Seen
+pub mod SignedLaws
 pub mod TableLaws
 pub mod TablesLaws
 pub mod Times

@@ -1,5 +1,5 @@
 -- A list of which the first so many elements were mapped.
-use Rattle.std.proofs.Common.{◌≡◌, ℕ, zero, suc, List, [], ◌∷◌, length, map, Some, refl, sym, ap, arith}
+use Rattle.std.proofs.Common.{◌≡◌, ℕ, zero, suc, List, [], ◌∷◌, length, map, Some, refl, sym, ap, ap₂, ◌∙◌, arith}
 use Rattle.std.specs.Prelude.{slice_get, slice_set}
 use Rattle.std.proofs.lemmas.Option.{same_Some}
 
@@ -23,3 +23,15 @@ pub mapped_to_set : {A : Type 0} (f : A → A) (n : ℕ) (xs : List A) (x : A) �
 mapped_to_set f n [] x at = absurd (cc)
 mapped_to_set {A} f zero (y ∷ xs) x at = ap (λ (z : A). f z ∷ xs) (sym (same_Some y x at))
 mapped_to_set {A} f (suc n) (y ∷ xs) x at = ap (λ (ys : List A). f y ∷ ys) (mapped_to_set f n xs x at)
+
+-- the next element stays as it is
+pub mapped_to_same : {A : Type 0} (f : A → A) (n : ℕ) (xs : List A) (x : A) → slice_get xs n ≡ Some x → f x ≡ x → mapped_to n f xs ≡ mapped_to (suc n) f xs
+mapped_to_same f n [] x at same = absurd (cc)
+mapped_to_same {A} f zero (y ∷ xs) x at same = ap (λ (z : A). z ∷ xs) (same_Some y x at ∙ sym same ∙ ap f (sym (same_Some y x at)))
+mapped_to_same {A} f (suc n) (y ∷ xs) x at same = ap (λ (ys : List A). f y ∷ ys) (mapped_to_same f n xs x at same)
+
+-- what the elements are seen as stays, if it does at each
+pub mapped_to_keeps : {A B : Type 0} (f : A → A) (g : A → B) → ((x : A) → g (f x) ≡ g x) → (n : ℕ) (xs : List A) → map g (mapped_to n f xs) ≡ map g xs
+mapped_to_keeps f g keeps zero xs = refl
+mapped_to_keeps f g keeps (suc n) [] = refl
+mapped_to_keeps {A} {B} f g keeps (suc n) (x ∷ xs) = ap₂ (λ (y : B) (ys : List B). y ∷ ys) (keeps x) (mapped_to_keeps f g keeps n xs)

@@ -1,18 +1,18 @@
 -- Where the actions of the live rules are, as rules come and go.
-use Rattle.std.proofs.Common.{◌≡◌, ℕ, zero, suc, ◌+◌, ◌-◌, ◌<◌, ◌≤◌, Bool, true, false, ◌==◌, List, [], ◌∷◌, ◌++◌, length, set, get_or, map, filter, slice_get, Some, ◌⊎◌, inl, inr, refl, sym, ap, ◌∙◌, subst, arith, eqb-true, ⊎_elim}
-use Rattle.std.proofs.lemmas.Bool.{cond-true, cond-false, cases_lt}
-use Rattle.std.proofs.lemmas.List.{length-set, get_or-set_same, get_or-set_other}
+use Rattle.std.proofs.Common.{◌≡◌, ℕ, zero, suc, ◌+◌, ◌-◌, ◌<◌, ◌≤◌, Bool, true, false, ◌==◌, List, [], ◌∷◌, ◌++◌, length, set, get_or, map, filter, take, replicate, slice_get, Some, ◌⊎◌, inl, inr, refl, sym, ap, ◌∙◌, subst, arith, eqb-true}
+use Rattle.std.proofs.lemmas.Bool.{cond-true, cond-false}
+use Rattle.std.proofs.lemmas.List.{length-set, length-append, length-take, length-replicate, get_or-set_same, get_or-set_other, get_or-append-add, get_or-replicate, get_or-take}
+use Rattle.std.proofs.Math.ListN.{get_or-append}
 use Rattle.std.proofs.lemmas.Option.{same_Some}
 use Rattle.spec_tables.specs.Rules.{Rule}
 use Rattle.spec_tables.specs.Edits.{Edit}
 use Rattle.translation_laws.proofs.KeysAlike.{eqb-false}
 use Rattle.translation_laws.proofs.MemberLaws.{Among, Among_in-map, Among-filter, Among-append}
 use Rattle.tuple_classifier.specs.declared.live.LiveRule.{LiveRule}
-use Rattle.tuple_classifier.specs.Live.{plain_rule, plain_rules, given_by, given_to, IsRising, IsWithinPlaces, IsPlaced, ArePlaced}
+use Rattle.tuple_classifier.specs.Live.{plain_rule, plain_rules, given_by, given_to, IsRising, IsPlaced, ArePlaced}
 use Rattle.tuple_classifier.proofs.EditLaws.{given_keeps}
 use Rattle.tuple_classifier.proofs.LiveLaws.{live_at, same_default}
 use Rattle.staged_lookup.proofs.Members.{among_map}
-use Rattle.tuple_classifier.proofs.Members.{among_at, place_of_among}
 
 pub placed_filter : (p : LiveRule → Bool) (live : List LiveRule) (places : List ℕ) → ArePlaced live places → ArePlaced (filter p live) places
 placed_filter p live places is l m = is l (Among-filter p l live m).0
@@ -47,91 +47,77 @@ same_live (k ∷ live) (suc i) l x rising at (inl e) is =
     absurd (omega (arith, lt, f, is))
 same_live (k ∷ live) (suc i) l x rising at (inr m) is = same_live live i l x rising.1 at m is
 
-pub number_kept : (e : Edit) (k : ℕ) (l : LiveRule) → (given_by e k l).rule.number ≡ l.rule.number
-number_kept e k l = ap (λ (r : Rule). r.number) (given_keeps e k l)
+pub number_kept : (number : ℕ) (e : Edit) (k : ℕ) (l : LiveRule) → (given_by number e k l).rule.number ≡ l.rule.number
+number_kept number e k l = ap (λ (r : Rule). r.number) (given_keeps number e k l)
 
-pub placed_given : (number : ℕ) (e : Edit) (k : ℕ) (live : List LiveRule) (i : ℕ) (x : LiveRule) (places : List ℕ) → IsRising (plain_rules live) → slice_get live i ≡ Some x → x.rule.number ≡ number
-    → ArePlaced live places → ArePlaced (map (given_to number e k) live) (set places (number - 1) (given_by e k x).given)
-placed_given number e k live i x places rising at is placed l m =
-    let old = among_map (given_to number e k) l live m in
-    by old.0 old.1 old.2 (old.0.rule.number == number) refl
+pub placed_given : (named number : ℕ) (e : Edit) (k : ℕ) (live : List LiveRule) (i : ℕ) (x : LiveRule) (places : List ℕ) → IsRising (plain_rules live) → slice_get live i ≡ Some x → x.rule.number ≡ named
+    → ArePlaced live places → ArePlaced (map (given_to named number e k) live) (set places (named - 1) (given_by number e k x).given)
+placed_given named number e k live i x places rising at is placed l m =
+    let old = among_map (given_to named number e k) l live m in
+    by old.0 old.1 old.2 (old.0.rule.number == named) refl
   where
     own : IsPlaced x places
     own = placed x (live_at live i x at)
 
-    by : (j : LiveRule) → Among j live → l ≡ given_to number e k j → (t : Bool) → (j.rule.number == number) ≡ t → IsPlaced l (set places (number - 1) (given_by e k x).given)
+    by : (j : LiveRule) → Among j live → l ≡ given_to named number e k j → (t : Bool) → (j.rule.number == named) ≡ t → IsPlaced l (set places (named - 1) (given_by number e k x).given)
     by j a q true h =
-        let same : j ≡ x = same_live live i j x rising at a (eqb-true j.rule.number number h ∙ sym is) in
-        subst (λ (y : LiveRule). IsPlaced y (set places (number - 1) (given_by e k x).given))
-        (sym (q ∙ cond-true (j.rule.number == number) (given_by e k j) j h ∙ ap (given_by e k) same))
-        (placed_here (given_by e k x) number places (let p = own.within.positive in omega (arith, p, is)) (let s = own.within.short in omega (arith, s, is)) (number_kept e k x ∙ is))
+        let same : j ≡ x = same_live live i j x rising at a (eqb-true j.rule.number named h ∙ sym is) in
+        subst (λ (y : LiveRule). IsPlaced y (set places (named - 1) (given_by number e k x).given))
+        (sym (q ∙ cond-true (j.rule.number == named) (given_by number e k j) j h ∙ ap (given_by number e k) same))
+        (placed_here (given_by number e k x) named places (let p = own.within.positive in omega (arith, p, is)) (let s = own.within.short in omega (arith, s, is)) (number_kept number e k x ∙ is))
     by j a q false h =
-        subst (λ (y : LiveRule). IsPlaced y (set places (number - 1) (given_by e k x).given))
-        (sym (q ∙ cond-false (j.rule.number == number) (given_by e k j) j h))
-        (placed_beside j number (given_by e k x).given places (placed j a) (let p = own.within.positive in omega (arith, p, is)) (eqb-false j.rule.number number h))
-
-pub within_given : (e : Edit) (k : ℕ) (live : List LiveRule) (places : List ℕ) → ArePlaced live places → (l : LiveRule) → Among l (map (given_by e k) live) → IsWithinPlaces l places
-within_given e k live places placed l m =
-    let old = among_map (given_by e k) l live m in
-    let own = placed old.0 old.1 in
-    let n = ap (λ (y : LiveRule). y.rule.number) old.2 ∙ number_kept e k old.0 in
-    record { positive = (let p = own.within.positive in omega (arith, p, n)); short = (let s = own.within.short in omega (arith, s, n)) }
-
--- ---- all places written, one after the other
-
-pub numbers_rise : (live : List LiveRule) (i j : ℕ) (d : LiveRule) → IsRising (plain_rules live) → j < i → i < length live → (get_or live j d).rule.number < (get_or live i d).rule.number
-numbers_rise [] i j d rising lt within = absurd (omega (arith, within))
-numbers_rise (k ∷ live) zero j d rising lt within = absurd (omega (arith, lt))
-numbers_rise (k ∷ live) (suc i) zero d rising lt within = rising.0 (plain_rule (get_or live i d)) (Among_in-map plain_rule (get_or live i d) live (among_at live i d (omega (arith, within))))
-numbers_rise (k ∷ live) (suc i) (suc j) d rising lt within = numbers_rise live i j d rising.1 (omega (arith, lt)) (omega (arith, within))
-
--- the first so many live rules are placed, among places of a length
-pub record ArePlacedTo (i : ℕ) (live : List LiveRule) (places : List ℕ) (most : ℕ) : Type 0 where
-  pub same_length : length places ≡ most
-  pub placed : (j : ℕ) (d : LiveRule) → j < i → j < length live → IsPlaced (get_or live j d) places
-
-pub one_placed : (live : List LiveRule) (places : List ℕ) (most i : ℕ) (x : LiveRule) → IsRising (plain_rules live) → i < length live → x ≡ get_or live i x → IsWithinPlaces x places
-    → ArePlacedTo i live places most → ArePlacedTo (i + 1) live (set places (x.rule.number - 1) x.given) most
-one_placed live places most i x rising within is own to = record {
-  same_length = length-set places (x.rule.number - 1) x.given ∙ to.same_length;
-  placed = λ j d lt short. by j d short (j == i) refl lt;
-}
-  where
-    by : (j : ℕ) (d : LiveRule) → j < length live → (t : Bool) → (j == i) ≡ t → j < i + 1 → IsPlaced (get_or live j d) (set places (x.rule.number - 1) x.given)
-    by j d short true h lt =
-        let here : get_or live j d ≡ x = ap (λ (n : ℕ). get_or live n d) (eqb-true j i h) ∙ same_default live i d x within ∙ sym is in
-        subst (λ (y : LiveRule). IsPlaced y (set places (x.rule.number - 1) x.given)) (sym here) (placed_here x x.rule.number places own.positive own.short refl)
-    by j d short false h lt =
-        let below : j < i = before j h lt in
-        let rise = numbers_rise live i j d rising below within in
-        let number : (get_or live i d).rule.number ≡ x.rule.number = ap (λ (y : LiveRule). y.rule.number) (same_default live i d x within ∙ sym is) in
-        placed_beside (get_or live j d) x.rule.number x.given places (to.placed j d below short) own.positive (λ e. omega (arith, e, rise, number))
-      where
-        before : (n : ℕ) → (n == i) ≡ false → n < i + 1 → n < i
-        before n f le = ⊎_elim (λ (lt : n < i). lt) (λ (ge : i ≤ n). absurd (eqb-false n i f (omega (arith, ge, le)))) (cases_lt n i)
-
-pub all_placed : (live : List LiveRule) (places : List ℕ) (most i : ℕ) → i ≡ length live → ArePlacedTo i live places most → ArePlaced live places
-all_placed live places most i at_end to l m =
-    let k = place_of_among l live m in
-    let within = k.1 in
-    subst (λ (y : LiveRule). IsPlaced y places) (sym (k.2 l)) (to.placed k.0 l (omega (arith, within, at_end)) within)
+        subst (λ (y : LiveRule). IsPlaced y (set places (named - 1) (given_by number e k x).given))
+        (sym (q ∙ cond-false (j.rule.number == named) (given_by number e k j) j h))
+        (placed_beside j named (given_by number e k x).given places (placed j a) (let p = own.within.positive in omega (arith, p, is)) (eqb-false j.rule.number named h))
 
 -- ---- one more rule
 
-pub placed_more : (live : List LiveRule) (l : LiveRule) (places places' : List ℕ) (number : ℕ) → ArePlaced live places → length places < number → length places' ≡ number → l.rule.number ≡ number
-    → get_or places' (number - 1) 0 ≡ l.given → ((i : ℕ) → i < length places → get_or places' i 0 ≡ get_or places i 0) → ArePlaced (live ++ l ∷ []) places'
-placed_more live l places places' number placed short long is own others j m = by (Among-append j live (l ∷ []) m)
+-- it gets the next free places; those of the others stay
+pub placed_more : (live : List LiveRule) (l : LiveRule) (places : List ℕ) (k : ℕ) → ArePlaced live places → length places < l.rule.number → l.given ≡ k
+    → ArePlaced (live ++ l ∷ []) (places ++ replicate (l.rule.number - length places) k)
+placed_more live l places k placed short given j m = by (Among-append j live (l ∷ []) m)
   where
-    by : Among j live ⊎ Among j (l ∷ []) → IsPlaced j places'
+    filled : length (replicate (l.rule.number - length places) k) ≡ l.rule.number - length places
+    filled = length-replicate (l.rule.number - length places) k
+
+    long : length (places ++ replicate (l.rule.number - length places) k) ≡ length places + length (replicate (l.rule.number - length places) k)
+    long = length-append places (replicate (l.rule.number - length places) k)
+
+    last : l.rule.number - 1 ≡ length places + (l.rule.number - 1 - length places)
+    last = omega (arith, short)
+
+    by : Among j live ⊎ Among j (l ∷ []) → IsPlaced j (places ++ replicate (l.rule.number - length places) k)
     by (inl a) =
         let was = placed j a in
         let positive = was.within.positive in
         let old_short = was.within.short in
-        record { within = record { positive = positive; short = omega (arith, old_short, short, long) }; given = others (j.rule.number - 1) (omega (arith, positive, old_short)) ∙ was.given }
+        record {
+          within = record { positive = positive; short = omega (arith, old_short, long) };
+          given = get_or-append places (replicate (l.rule.number - length places) k) 0 (j.rule.number - 1) (omega (arith, positive, old_short)) ∙ was.given;
+        }
     by (inr (inl e)) =
-        subst (λ (y : LiveRule). IsPlaced y places') (sym e)
-        (record { within = record { positive = omega (arith, short, is); short = omega (arith, long, is) }; given = ap (λ (n : ℕ). get_or places' (n - 1) 0) is ∙ own })
+        subst (λ (y : LiveRule). IsPlaced y (places ++ replicate (l.rule.number - length places) k)) (sym e)
+        (record {
+          within = record { positive = omega (arith, short); short = omega (arith, long, filled, short) };
+          given = ap (λ (n : ℕ). get_or (places ++ replicate (l.rule.number - length places) k) n 0) last
+              ∙ get_or-append-add places (replicate (l.rule.number - length places) k) (l.rule.number - 1 - length places) 0
+              ∙ get_or-replicate (l.rule.number - length places) (l.rule.number - 1 - length places) k 0 (omega (arith, short)) ∙ sym given;
+        })
     by (inr (inr a)) = absurd a
+
+-- ---- the first so many places
+
+pub placed_front : (live : List LiveRule) (places : List ℕ) (n : ℕ) → ArePlaced live places → ((l : LiveRule) → Among l live → l.rule.number ≤ n) → ArePlaced live (take n places)
+placed_front live places n placed few l m =
+    let was = placed l m in
+    let positive = was.within.positive in
+    let short = was.within.short in
+    let most = few l m in
+    let k = length-take n places in
+    record {
+      within = record { positive = positive; short = omega (arith, k, short, most) };
+      given = get_or-take n places (l.rule.number - 1) 0 (omega (arith, positive, most)) ∙ was.given;
+    }
 
 -- ---- what stands at a number
 

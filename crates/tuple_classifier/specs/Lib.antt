@@ -1,8 +1,10 @@
+pub mod Bundles
 pub mod ByTable
 pub mod Held
 pub mod Indexes
 pub mod Kept
 pub mod Live
+pub mod LiveRules
 pub mod Numbers
 pub mod Order
 pub mod Parts

@@ -13,19 +13,19 @@
 //!
 //! # What is promised
 //!
-//! Contracts see `Tables` as a `Version`, which is a number and the rules (`specs/Versions`).
+//! Contracts see `Tables` as a `Version`, which is a number, how many edits led to it, and the rules (`specs/Versions`).
 //!
 //! - `new` has no rules, which is version 0.
 //! - `look` answers the number of the rule that wins for a key in a table, as the definition `winner` finds it by a
 //!   scan, and adds to `consulted` the bits that `consults` has for this table and key, no fewer and no more. It takes no
 //!   memory, so it can't fail.
 //! - `actions` are those that a live rule has in this version.
-//! - `apply` makes the next version by an edit of any of the five words, as `after` says from `edited` of `spec_tables`.
-//!   Where it lacks memory all answers stay. A delete takes none.
+//! - `apply` makes the next version by the edits of a bundle, of any of the five words, as `after` says from `edited` of
+//!   `spec_tables`. Where it lacks memory all answers stay. Deletes alone take none.
 //!
-//! `after` leads from a version of a list of edits to the next one, and from the newest version of a history of
-//! `rule_tables` to the newest after that edit (`proofs/VersionLaws`). So two copies of the tables to which the same
-//! edits were applied are seen alike, and answer alike, whichever of them is published.
+//! `after` leads from a version of a list of edits in bundles to the next one, and those are the versions of their history
+//! of `rule_tables` (`proofs/VersionLaws`). So two copies of the tables to which the same bundles were applied are seen
+//! alike, and answer alike, whichever of them is published.
 //!
 //! # How
 //!
@@ -51,9 +51,15 @@
 //!
 //! The live rules stand beside the subtables in the order of their numbers, each in a box of its own, and each has the
 //! place of its actions among the lists of actions that edits gave. The same places stand by number too, so that the
-//! actions of a winner are read without a search for its rule. Looking up which rule an edit names is a probe as well. An
-//! add puts its rule in, and only then takes out the rule that it replaces. Where it lacks memory on the way it takes out
-//! what it put in, so that a refusal leaves what was there.
+//! actions of a winner are read without a search for its rule. Looking up which rule an edit names is a probe as well.
+//! Beside its box each live rule has the signature of its match (`match_signatures`). A loose word goes over these, and reads
+//! only the rules whose signature includes its own.
+//!
+//! Nobody sees the tables within a bundle. So `apply` takes all memory first: it puts the actions of all edits and the rules
+//! of all adds in, behind what is there, and takes them out again where memory lacks. Then it carries the edits out, each
+//! on the rules of less numbers than its own. Those that later edits add have greater ones, so they stay as if they weren't
+//! there yet (`proofs/BundleLaws`). A search for the rule that an edit names finds the least number, so it tells by that
+//! number whether there is an earlier one.
 //!
 //! # What it costs
 //!
@@ -62,16 +68,19 @@
 //!   mask. A probe takes no hash where all rules of the mask are alike under the stage, as routes are in the Ethernet type.
 //! - The first mask of a lookup that has a prefix of an address takes a walk of its trie, of a step for each node on the way.
 //!   Those after it take none, so the time of a lookup grows by the masks that it goes over, and hardly by the prefixes.
-//! - An add or a strict word finds the subtable of its mask by one hash, however many masks there are, and then takes a few
-//!   probes and a walk of each trie. The sorted lists are of different priorities, so an add moves what stands after its place
-//!   in one only where no rule of the mask has the priority yet, and a strict delete only where no other rule has it. Else they
-//!   change a count. A strict delete also moves the addresses of the live rules of greater numbers, of 8 bytes each.
+//! - An add or a strict word, also in a bundle, finds the subtable of its mask by one hash, however many masks there are, and
+//!   then takes a few probes and a walk of each trie. The sorted lists are of different priorities, so an add moves what stands
+//!   after its place in one only where no rule of the mask has the priority yet, and a strict delete only where no other rule
+//!   has it. Else they change a count. Where a rule goes by its name, by a strict delete or for an added one, the addresses of
+//!   the live rules of greater numbers move, of 8 bytes each.
 //! - Where it brings a new mask, or changes the greatest priority of one, where the mask belongs in the order is found by a
 //!   binary search, and the places behind, of 4 bytes each, move by one. A mask that stood there before, or goes, is first found
 //!   by a pass over these, and a mask that goes takes a second one.
-//! - A loose word passes once over the live rules.
-//! - The actions of an edit stay until the tables are dropped, even where no live rule has them any more, and so do the
-//!   four bytes that say where those of a number are. The actions of a rule take two reads.
+//! - A loose modify passes once over the signatures of the live rules, and a loose delete twice, of 24 bytes for each rule with
+//!   the address of its box. It tests the matches of the rules that it reaches, and of the few others whose signature includes
+//!   its own.
+//! - The actions of an edit stay until the tables are dropped, even where no live rule has them any more or had them in any
+//!   version, and so do the four bytes that say where those of a number are. The actions of a rule take two reads.
 //!
 //! # What is left to others
 //!
@@ -80,8 +89,10 @@
 #![tactic(auto)]
 
 mod by_table;
+mod entry;
 mod indexes;
 mod live;
+mod live_rules;
 mod lookup;
 mod order;
 mod sorted;

@@ -1,15 +1,17 @@
-ghost use Rattle.std.specs.Prelude.{◌≡◌, ℕ, ◌<◌, ◌≤◌, ◌+◌, ◌-◌, ◌^◌, ◌++◌, ◌∷◌, [], get_or, List, OnOk, OnErr, vec_len, vec_capacity, filter, map, length, slice_get, Some, IfSome, IfOk, IsNone};
+ghost use Rattle.std.specs.Prelude.{◌≡◌, ℕ, ◌<◌, ◌≤◌, ◌+◌, ◌-◌, ◌^◌, ◌++◌, ◌∷◌, [], List, OnOk, OnErr, vec_len, vec_capacity, not, filter, map, take, replicate, length, slice_get, slice_set, Some, IfSome, IfOk, IsNone};
+ghost use Rattle.std.specs.List.{find};
 ghost use Rattle.std.specs.List.Sorted.{IsNonDecreasingBy};
 ghost use Rattle.translation_laws.specs.Members.{Among};
-ghost use Rattle.std.specs.Option.{option_map_or};
-ghost use Rattle.spec_actions.specs.declared.action.OfAction.{OfAction};
+ghost use Rattle.std.specs.Option.{option_map, option_map_or};
 ghost use Rattle.spec_tables.specs.declared.edit_word.EditWord.TheVariants.{ModifyStrict};
 ghost use Rattle.spec_tables.specs.Rules as seen;
+ghost use Rattle.spec_tables.specs.Edits.{is_named_by};
 ghost use Rattle.tuple_classifier.specs.ByTable.{AreClassified, HaveNoRule};
-ghost use Rattle.tuple_classifier.specs.Live.{unboxed, live_rules, plain_rule, plain_rules, given_by, given_to, is_kept, is_unlike, IsRising, AreOfVersion, IsWithinPlaces, ArePlaced};
+ghost use Rattle.tuple_classifier.specs.Live.{unboxed, plain_rule, plain_rules, given_by, given_to, is_found, is_kept, is_unlike, earlier, IsRising, AreIdentifiedBefore, ArePlaced};
 ghost use Rattle.tuple_classifier.specs.declared.live.LiveRule.{LiveRule};
 
 use crate::by_table::{find_named, insert_in, take_from};
+use crate::entry::RuleEntry;
 use crate::table::Table;
 use rule_tables::{Edit, EditWord, Rule};
 use staged_lookup::Rank;
@@ -23,16 +25,15 @@ pub(crate) struct LiveRule {
 }
 
 impl LiveRule {
-    ghost use Rattle.tuple_classifier.specs.Live.{given_by, plain_rule};
+    ghost use Rattle.tuple_classifier.specs.Live.{given_by, is_acted_on, plain_rule};
     ghost use Rattle.staged_lookup.specs.Ranks.{rank_of};
     ghost use Rattle.std.specs.Prelude.{List};
     ghost use Rattle.spec_actions.specs.declared.action.OfAction.{OfAction};
     ghost use Rattle.spec_tables.specs.Edits.{rule_of};
     ghost use Rattle.rule_tables.specs.Views.{rule_view};
-    ghost use Rattle.std.specs.Prelude.{IfOk};
 
     /// The rule that an edit adds, with its actions at a place.
-    fn new(number: u32, edit: &Edit, given: u32) -> LiveRule
+    pub(crate) fn new(number: u32, edit: &Edit, given: u32) -> LiveRule
         ensures rule { (actions : List OfAction)
             → rule_view result.rule actions
             ≡ record (rule_of number edit.now) { actions = actions } }
@@ -50,22 +51,6 @@ impl LiveRule {
         }
     }
 
-    /// The same in a box of its own, so that the rules before it can be taken out without moving it.
-    pub(crate) fn boxed(
-        alloc: Global,
-        number: u32,
-        edit: &Edit,
-        given: u32,
-    ) -> Result<Box<LiveRule>, AllocError>
-        ensures rule { IfOk result
-            (λ b. (actions : List OfAction)
-            → rule_view b.value.rule actions
-            ≡ record (rule_of number edit.now) { actions = actions }) }
-        ensures given { IfOk result (λ b. b.value.given ≡ given) }
-    {
-        Ok(Box::new(alloc, LiveRule::new(number, edit, given))?)
-    }
-
     /// What decides between the rule and others that match.
     pub(crate) fn rank(&self) -> Rank
         ensures { result ≡ rank_of (plain_rule self.now) }
@@ -76,11 +61,18 @@ impl LiveRule {
         }
     }
 
-    /// Gives the rule the cookie of an edit, if that has one, and the actions at a place, if the edit picks it.
-    fn give(&mut self, edit: &Edit, given: u32)
-        ensures { self.new ≡ given_by edit.now given self.old }
+    /// Whether the edit of a number acts on the rule. In a bundle the rules of later edits are there already.
+    pub(crate) fn is_acted_on(&self, edit: &Edit, number: u32) -> bool
+        ensures { result ≡ is_acted_on number edit.now self.now }
     {
-        if edit.picks(&self.rule) {
+        self.rule.number < number && edit.picks(&self.rule)
+    }
+
+    /// Gives the rule the cookie of an edit, if that has one, and the actions at a place, if the edit acts on it.
+    pub(crate) fn give(&mut self, edit: &Edit, number: u32, given: u32)
+        ensures { self.new ≡ given_by number edit.now given self.old }
+    {
+        if self.is_acted_on(edit, number) {
             self.rule.cookie = edit.cookie.unwrap_or(self.rule.cookie);
             self.given = given;
         }
@@ -88,7 +80,7 @@ impl LiveRule {
 }
 
 /// The place of the live rule of a number, which rise along the rules.
-pub(crate) fn place_of(live: &[Box<LiveRule>], number: u32) -> Option<usize>
+pub(crate) fn place_of(live: &[RuleEntry], number: u32) -> Option<usize>
     requires { IsNonDecreasingBy (λ l. l.rule.number) (unboxed live.now) }
     ensures some { IfSome result
         (λ i. (i < length live.now)
@@ -96,7 +88,7 @@ pub(crate) fn place_of(live: &[Box<LiveRule>], number: u32) -> Option<usize>
     ensures none { IsNone result → (l : LiveRule) → Among l (unboxed live.now)
         → l.rule.number ≡ number → ⊥ }
 {
-    let place = live.partition_point(|l| l.rule.number < number);
+    let place = live.partition_point(|l| l.rule.rule.number < number);
     if place >= live.len() {
         return None;
     }
@@ -108,123 +100,146 @@ pub(crate) fn place_of(live: &[Box<LiveRule>], number: u32) -> Option<usize>
 }
 
 /// The live rule at a place.
-fn rule_at(live: &[Box<LiveRule>], place: usize) -> &LiveRule
+fn rule_at(live: &[RuleEntry], place: usize) -> &LiveRule
     requires { place < length live.now }
     ensures { slice_get (unboxed live.now) place ≡ Some result.now }
 {
-    &live[place]
+    &live[place].rule
 }
 
-/// Gives the rules that an edit picks its cookie, if it has one, and the actions at a place, passing over all.
-fn give_all(live: &mut [Box<LiveRule>], edit: &Edit, given: u32)
-    ensures { unboxed live.new ≡ map (given_by edit.now given) (unboxed live.old) }
-{
-    'live: for l in live.iter_mut() {
-        l.give(edit, given);
-    }
-}
-
-/// Writes where the actions of all live rules are.
-fn place_all(live: &[Box<LiveRule>], places: &mut Vec<u32>)
-    requires rising { IsRising (plain_rules (unboxed live.now)) }
-    requires within { (l : LiveRule) → Among l (unboxed live.now)
-        → IsWithinPlaces l places.old.items }
-    ensures placed { ArePlaced (unboxed live.now) places.new.items }
-    ensures length { length places.new.items ≡ length places.old.items }
-{
-    'live: for i in 0..live.len() {
-        let l = rule_at(live, i);
-        places[l.rule.number as usize - 1] = l.given;
-    }
-}
-
-/// Gives the rule of a number what an edit gives, if the edit picks it.
-fn give_numbered(
-    live: &mut [Box<LiveRule>],
+/// Gives the live rule at a place what an edit gives, if the edit acts on it.
+fn give_at(
+    live: &mut [RuleEntry],
     places: &mut Vec<u32>,
+    place: usize,
+    edit: &Edit,
     number: u32,
-    edit: &Edit,
     given: u32,
 )
+    requires within { place < length live.old }
     requires rising { IsRising (plain_rules (unboxed live.old)) }
     requires placed { ArePlaced (unboxed live.old) places.old.items }
-    ensures live { unboxed live.new ≡ map (given_to number edit.now given) (unboxed live.old) }
+    ensures live { (l : LiveRule) → slice_get (unboxed live.old) place ≡ Some l
+        → unboxed live.new
+        ≡ slice_set (unboxed live.old) place (given_by number edit.now given l) }
     ensures placed { ArePlaced (unboxed live.new) places.new.items }
     ensures length { length places.new.items ≡ length places.old.items }
 {
-    if let Some(place) = place_of(live, number) {
-        let l = &mut live[place];
-        l.give(edit, given);
-        places[number as usize - 1] = l.given;
-    }
+    let l = &mut live[place];
+    l.give(edit, number, given);
+    places[l.rule.rule.number as usize - 1] = l.rule.given;
 }
 
-/// Gives the rule that a strict modify names what the edit gives. It is the only one that the edit picks.
-fn give_named(
-    tables: &[Table],
-    live: &mut [Box<LiveRule>],
-    places: &mut Vec<u32>,
-    edit: &Edit,
-    given: u32,
-)
+/// Gives the rules on which an edit acts its cookie, if it has one, and the actions at a place, passing over all.
+fn give_all(live: &mut [RuleEntry], places: &mut Vec<u32>, edit: &Edit, number: u32, given: u32)
     requires rising { IsRising (plain_rules (unboxed live.old)) }
     requires placed { ArePlaced (unboxed live.old) places.old.items }
-    requires word { edit.now.word ≡ ModifyStrict }
-    ensures live { (lists : List (List OfAction)) (version : ℕ)
-        → AreOfVersion (live_rules lists (unboxed live.old)) version
-        → AreClassified tables.now (plain_rules (unboxed live.old))
-        → unboxed live.new ≡ map (given_by edit.now given) (unboxed live.old) }
+    ensures live { unboxed live.new ≡ map (given_by number edit.now given) (unboxed live.old) }
     ensures placed { ArePlaced (unboxed live.new) places.new.items }
     ensures length { length places.new.items ≡ length places.old.items }
 {
-    if let Some(number) = find_named(tables, edit) {
-        give_numbered(live, places, number, edit, given);
-    }
-}
-
-/// Gives the rules that a modify picks its cookie, if it has one, and the actions at a place.
-pub(crate) fn give(
-    tables: &[Table],
-    live: &mut [Box<LiveRule>],
-    places: &mut Vec<u32>,
-    edit: &Edit,
-    given: u32,
-)
-    requires rising { IsRising (plain_rules (unboxed live.old)) }
-    requires placed { ArePlaced (unboxed live.old) places.old.items }
-    ensures live { (lists : List (List OfAction)) (version : ℕ)
-        → AreOfVersion (live_rules lists (unboxed live.old)) version
-        → AreClassified tables.now (plain_rules (unboxed live.old))
-        → unboxed live.new ≡ map (given_by edit.now given) (unboxed live.old) }
-    ensures placed { ArePlaced (unboxed live.new) places.new.items }
-    ensures length { length places.new.items ≡ length places.old.items }
-{
-    match edit.word {
-        EditWord::ModifyStrict => give_named(tables, live, places, edit, given),
-        _ => {
-            give_all(live, edit, given);
-            place_all(live, places);
+    let wanted = edit.wanted();
+    'live: for i in 0..live.len() {
+        if live[i].is_acted_on(edit, number, &wanted) {
+            give_at(live, places, i, edit, number, given);
         }
     }
 }
 
-/// Takes the rules that an edit picks out of the tables.
-pub(crate) fn take_picked(tables: &mut Vec<Table>, live: &[Box<LiveRule>], edit: &Edit)
+/// Gives the live rule of a number what an edit gives, if the edit acts on it.
+fn give_numbered(
+    live: &mut [RuleEntry],
+    places: &mut Vec<u32>,
+    named: u32,
+    edit: &Edit,
+    number: u32,
+    given: u32,
+)
+    requires rising { IsRising (plain_rules (unboxed live.old)) }
+    requires placed { ArePlaced (unboxed live.old) places.old.items }
+    ensures live { unboxed live.new
+        ≡ map (given_to named number edit.now given) (unboxed live.old) }
+    ensures placed { ArePlaced (unboxed live.new) places.new.items }
+    ensures length { length places.new.items ≡ length places.old.items }
+{
+    if let Some(place) = place_of(live, named) {
+        give_at(live, places, place, edit, number, given);
+    }
+}
+
+/// The number of the rule that an edit names, if it is less than that of the edit.
+pub(crate) fn find_earlier(tables: &[Table], edit: &Edit, number: u32) -> Option<u32>
+    ensures { (rules : List seen.Rule) → AreClassified tables.now rules
+        → result ≡ earlier number (option_map (λ r. r.number) (find (is_named_by edit.now) rules)) }
+{
+    let named = find_named(tables, edit)?;
+    if named < number { Some(named) } else { None }
+}
+
+/// Gives the rule that a strict modify names what the edit gives. It is the only one on which the edit acts.
+fn give_named(
+    tables: &[Table],
+    live: &mut [RuleEntry],
+    places: &mut Vec<u32>,
+    edit: &Edit,
+    number: u32,
+    given: u32,
+)
+    requires rising { IsRising (plain_rules (unboxed live.old)) }
+    requires classified { AreClassified tables.now (plain_rules (unboxed live.old)) }
+    requires placed { ArePlaced (unboxed live.old) places.old.items }
+    requires identified { AreIdentifiedBefore number (plain_rules (unboxed live.old)) }
+    requires word { edit.now.word ≡ ModifyStrict }
+    ensures live { unboxed live.new ≡ map (given_by number edit.now given) (unboxed live.old) }
+    ensures placed { ArePlaced (unboxed live.new) places.new.items }
+    ensures length { length places.new.items ≡ length places.old.items }
+{
+    if let Some(named) = find_earlier(tables, edit, number) {
+        give_numbered(live, places, named, edit, number, given);
+    }
+}
+
+/// Gives the rules on which a modify acts its cookie, if it has one, and the actions at a place.
+pub(crate) fn give(
+    tables: &[Table],
+    live: &mut [RuleEntry],
+    places: &mut Vec<u32>,
+    edit: &Edit,
+    number: u32,
+    given: u32,
+)
+    requires rising { IsRising (plain_rules (unboxed live.old)) }
+    requires classified { AreClassified tables.now (plain_rules (unboxed live.old)) }
+    requires placed { ArePlaced (unboxed live.old) places.old.items }
+    requires identified { AreIdentifiedBefore number (plain_rules (unboxed live.old)) }
+    ensures live { unboxed live.new ≡ map (given_by number edit.now given) (unboxed live.old) }
+    ensures placed { ArePlaced (unboxed live.new) places.new.items }
+    ensures length { length places.new.items ≡ length places.old.items }
+{
+    match edit.word {
+        EditWord::ModifyStrict => give_named(tables, live, places, edit, number, given),
+        _ => give_all(live, places, edit, number, given),
+    }
+}
+
+/// Takes the rules on which an edit acts out of the tables.
+pub(crate) fn take_picked(tables: &mut Vec<Table>, live: &[RuleEntry], edit: &Edit, number: u32)
     requires rising { IsRising (plain_rules (unboxed live.now)) }
     requires classified { AreClassified tables.old.items (plain_rules (unboxed live.now)) }
     ensures { AreClassified tables.new.items
-        (plain_rules (filter (is_kept edit.now) (unboxed live.now))) }
+        (plain_rules (filter (is_kept number edit.now) (unboxed live.now))) }
 {
+    let wanted = edit.wanted();
     'live: for i in 0..live.len() {
-        let l = rule_at(live, i);
-        if edit.picks(&l.rule) {
+        if live[i].is_acted_on(edit, number, &wanted) {
+            let l = rule_at(live, i);
             take_from(tables, l.rule.table, &l.rule.matching, l.rank());
         }
     }
 }
 
 /// Takes the live rule of a number out, and out of the tables.
-pub(crate) fn take_numbered(tables: &mut Vec<Table>, live: &mut Vec<Box<LiveRule>>, number: u32)
+pub(crate) fn take_numbered(tables: &mut Vec<Table>, live: &mut Vec<RuleEntry>, number: u32)
     requires rising { IsRising (plain_rules (unboxed live.old.items)) }
     requires classified { AreClassified tables.old.items (plain_rules (unboxed live.old.items)) }
     ensures live { unboxed live.new.items ≡ filter (is_unlike number) (unboxed live.old.items) }
@@ -240,7 +255,7 @@ pub(crate) fn take_numbered(tables: &mut Vec<Table>, live: &mut Vec<Box<LiveRule
 /// Takes the live rule of a number out, if one is given, and out of the tables.
 pub(crate) fn take_replaced(
     tables: &mut Vec<Table>,
-    live: &mut Vec<Box<LiveRule>>,
+    live: &mut Vec<RuleEntry>,
     replaced: Option<u32>,
 )
     requires rising { IsRising (plain_rules (unboxed live.old.items)) }
@@ -276,22 +291,39 @@ pub(crate) fn insert_live(
 }
 
 /// Adds a live rule, for which there is room.
-pub(crate) fn push_rule(live: &mut Vec<Box<LiveRule>>, l: Box<LiveRule>)
+pub(crate) fn push_rule(live: &mut Vec<RuleEntry>, l: RuleEntry)
     requires { vec_len live.old + 1 ≤ vec_capacity live.old }
-    ensures { unboxed live.new.items ≡ unboxed live.old.items ++ l.value ∷ [] }
+    ensures { live.new.items ≡ live.old.items ++ l ∷ [] }
 {
     let Ok(()) = live.push(l) else { unreachable!() };
 }
 
-/// Takes the rules out that an edit picks.
-pub(crate) fn keep_others(live: &mut Vec<Box<LiveRule>>, edit: &Edit)
-    ensures { unboxed live.new.items ≡ filter (is_kept edit.now) (unboxed live.old.items) }
+/// Takes the rules out on which an edit acts.
+pub(crate) fn keep_others(live: &mut Vec<RuleEntry>, edit: &Edit, number: u32)
+    ensures { unboxed live.new.items ≡ filter (is_kept number edit.now) (unboxed live.old.items) }
 {
+    let wanted = edit.wanted();
     live.retain(
-        |l: &Box<LiveRule>| -> bool
-            ensures { result ≡ is_kept edit.entry.now l.now.value }
-        { !edit.picks(&l.rule) },
+        |l: &RuleEntry| -> bool
+            ensures { result ≡ not (is_found wanted number edit.entry.now l.now) }
+        { !l.is_acted_on(edit, number, &wanted) },
     );
+}
+
+/// Takes the rules from a place on out, and out of the subtables. It takes no memory.
+pub(crate) fn take_behind(tables: &mut Vec<Table>, live: &mut Vec<RuleEntry>, place: usize)
+    requires rising { IsRising (plain_rules (unboxed live.old.items)) }
+    requires classified { AreClassified tables.old.items (plain_rules (unboxed live.old.items)) }
+    ensures live { live.new.items ≡ take place live.old.items }
+    ensures classified { AreClassified tables.new.items (plain_rules (unboxed live.new.items)) }
+{
+    'live: while live.len() > place {
+        let Some(entry) = live.pop() else {
+            unreachable!()
+        };
+        let l = &entry.rule;
+        take_from(tables, l.rule.table, &l.rule.matching, l.rank());
+    }
 }
 
 /// Writes where the actions of the rule of a number are, for which there is room. Numbers before it that no rule has get
@@ -299,10 +331,8 @@ pub(crate) fn keep_others(live: &mut Vec<Box<LiveRule>>, edit: &Edit)
 pub(crate) fn push_place(places: &mut Vec<u32>, number: u32, place: u32)
     requires short { length places.old.items < number }
     requires room { number ≤ vec_capacity places.old }
-    ensures length { length places.new.items ≡ number }
-    ensures place { get_or places.new.items (number - 1) 0 ≡ place }
-    ensures others { (i : ℕ) → i < length places.old.items
-        → get_or places.new.items i 0 ≡ get_or places.old.items i 0 }
+    ensures { places.new.items
+        ≡ places.old.items ++ replicate (number - length places.old.items) place }
 {
     let Ok(()) = places.resize(number as usize, place) else {
         unreachable!()

@@ -31,8 +31,8 @@ give_to-requires c =
           omega arith;
     }
 
-pub returns-in_default : goal.returns-in_default
-returns-in_default c =
+pub returns-in_default-clause-given : goal.returns-in_default-clause-given
+returns-in_default-clause-given c =
     let found : c.copied-place.result ≡ get is_same_identity c.args.places.now c.named_by.result = c.copied-place.ensures ∙ c.get.ensures.value in
     let word : c.args.edit.now.word ≡ ModifyStrict =
     strict_modify c.args.edit.now.word c.requires.modify (λ is. c.in_default.not-Modify (ap (λ e. e.word) c.edit.view_is ∙ is)) in
@@ -45,4 +45,19 @@ returns-in_default c =
       priority = c.named_by.ensures.priority;
       matching = c.named_by.ensures.matching;
     }) i s at)
-    c.give_to.ensures
+    c.give_to.ensures.given
+
+pub returns-in_default-clause-count : goal.returns-in_default-clause-count
+returns-in_default-clause-count c =
+    let found : c.copied-place.result ≡ get is_same_identity c.args.places.now c.named_by.result = c.copied-place.ensures ∙ c.get.ensures.value in
+    let word : c.args.edit.now.word ≡ ModifyStrict =
+    strict_modify c.args.edit.now.word c.requires.modify (λ is. c.in_default.not-Modify (ap (λ e. e.word) c.edit.view_is ∙ is)) in
+    c.give_to.ensures.count
+    ∙ ap (λ (n : ℕ). vec_len c.args.givings.now + n) (sym (count_named c.args.rules.now (λ q. get is_same_identity c.args.places.now q) c.requires.found (lookup_respects c.args.places.now.entries) c.args.edit.now c.named_by.result
+    (record {
+      strict = λ r. ap (λ (w : EditWord). is_picked_by w c.args.edit.now (rule_view r [])) word;
+      table = c.named_by.ensures.table;
+      priority = c.named_by.ensures.priority;
+      matching = c.named_by.ensures.matching;
+    })
+    c.copied-place.result found))

@@ -8,4 +8,4 @@ use Rattle.rule_tables.proofs.search.winner_of.Given as goal
 
 abbrev pub invariant-rules : goal.invariant-rules
 invariant-rules l =
-    (made : List Modification) → option_map (λ s. stored_in made l.version s.now) l.best ≡ winner_in made l.version l.table (numbers l.key) (drop l.i l.rules)
+    (made : List Modification) → option_map (λ s. stored_in made l.after s.now) l.best ≡ winner_in made l.after l.table (numbers l.key) (drop l.i l.rules)

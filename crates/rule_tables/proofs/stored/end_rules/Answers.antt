@@ -1,41 +1,55 @@
-use Rattle.std.proofs.Common.{◌≡◌, ◌<◌, true, false, cond, length, get_or, Some, None, sym, ap, ◌∙◌, arith}
+use Rattle.std.proofs.Common.{◌≡◌, ℕ, ◌+◌, ◌<◌, ◌≤◌, true, false, cond, length, get_or, Some, None, refl, sym, ap, ◌∙◌, arith}
 use Rattle.std.specs.Prelude.{slice_get}
-use Rattle.std.specs.HashMap.{get}
+use Rattle.std.specs.HashMap.{get, spare}
 use Rattle.std.proofs.lemmas.List.{set-get_or}
 use Rattle.std.proofs.lemmas.Option.{slice_get-get_or}
 use Rattle.rule_tables.specs.declared.identity.RuleIdentity.{RuleIdentity}
 use Rattle.rule_tables.specs.declared.stored.StoredRule.{StoredRule}
-use Rattle.rule_tables.specs.Stored.{acts_on, ended_by, is_same_identity}
+use Rattle.rule_tables.specs.Stored.{acts_on, ended_by, is_same_identity, signatures_in}
 use Rattle.rule_tables.proofs.EndingSteps.{life_ends, life_stays, counts_more, counts_same, found_step}
 use Rattle.rule_tables.proofs.FilterMaps.{mapped_to_all}
 use Rattle.rule_tables.proofs.Finds.{lookup_respects, found_moved}
+use Rattle.rule_tables.proofs.SignedLaws.{signature_at, signatures_set}
 use Rattle.rule_tables.proofs.stored.end_rules.Goals as goal
-use Rattle.rule_tables.proofs.stored.end_rules.Goals.{then-is_acted_on, else-is_acted_on}
+use Rattle.rule_tables.proofs.stored.end_rules.Goals.{then-is_found, else-is_found}
 
 pub rules-preserved : goal.rules-preserved
 rules-preserved c =
     let within : c.rules.stored-index < length c.rules.rules = omega arith in
     let it : StoredRule = get_or c.rules.rules c.rules.stored-index c.stored-item.result in
     let at : slice_get c.rules.rules c.rules.stored-index ≡ Some it = slice_get-get_or c.rules.rules c.rules.stored-index c.stored-item.result within in
-    elim c.if-is_acted_on.branch [
-      | then-is_acted_on w ↦
-          let acts : acts_on c.args.edit.now it ≡ true = sym c.is_acted_on.ensures ∙ w.if-is_acted_on.true in
+    elim c.if-is_found.branch [
+      | then-is_found w ↦
+          let acts : acts_on c.args.edit.now it ≡ true = sym (c.is_found.ensures (signature_at c.args.signatures.now c.rules.rules c.rules.stored-index c.rules.place it _ c.rules.invariant.signed c.rules.invariant.place at) c.wanted-wanted.ensures) ∙ w.if-is_found.true in
           record {
+            place = ap (λ (k : ℕ). k + 1) c.rules.invariant.place;
+            signed = c.rules.invariant.signed ∙ sym (ap signatures_in w.rules-is ∙ signatures_set c.rules.rules c.rules.stored-index it (record it { gone = Some c.args.gone }) at refl);
             rules = w.rules-is ∙ life_ends c.args.rules.now c.rules.rules c.args.edit.now c.args.gone c.rules.stored-index it c.rules.invariant.rules at acts;
             found =
-                found_moved _ c.if-is_acted_on.rules _ _ w.rules-is (λ q. ap (λ places. get is_same_identity places q) w.places-is)
+                found_moved _ c.if-is_found.rules _ _ w.rules-is (λ q. ap (λ places. get is_same_identity places q) w.places-is)
                 (found_step c.args.rules.now c.rules.rules c.args.edit.now c.args.gone c.rules.stored-index it c.rules.invariant.rules at
                 (λ q. get is_same_identity c.rules.places q) (λ q. get is_same_identity w.remove-stored.new.self q)
                 c.rules.invariant.found (lookup_respects c.rules.places.entries) acts
                 (λ q. w.remove-stored.ensures.updates.0 q ∙ ap (λ (k : RuleIdentity). cond (is_same_identity k q) None (get is_same_identity c.rules.places q)) w.of.ensures));
+            spare =
+                let more : spare c.rules.places ≤ spare w.remove-stored.new.self = w.remove-stored.ensures.spare in
+                let so_far : spare c.args.places.now ≤ spare c.rules.places = c.rules.invariant.spare in
+                let now : spare c.if-is_found.places ≡ spare w.remove-stored.new.self = ap (λ places. spare places) w.places-is in
+                omega arith;
             count = w.count-is ∙ counts_more c.args.rules.now c.rules.rules c.args.edit.now c.args.gone c.rules.stored-index it c.rules.invariant.rules at c.rules.count c.rules.invariant.count acts;
           }
-      | else-is_acted_on w ↦
-          let idle : acts_on c.args.edit.now it ≡ false = sym c.is_acted_on.ensures ∙ w.if-is_acted_on.false in
-          let same : c.if-is_acted_on.rules ≡ c.rules.rules = w.rules-is ∙ set-get_or c.rules.rules c.rules.stored-index c.stored-item.result in
+      | else-is_found w ↦
+          let idle : acts_on c.args.edit.now it ≡ false = sym (c.is_found.ensures (signature_at c.args.signatures.now c.rules.rules c.rules.stored-index c.rules.place it _ c.rules.invariant.signed c.rules.invariant.place at) c.wanted-wanted.ensures) ∙ w.if-is_found.false in
+          let same : c.if-is_found.rules ≡ c.rules.rules = w.rules-is ∙ set-get_or c.rules.rules c.rules.stored-index c.stored-item.result in
           record {
+            place = ap (λ (k : ℕ). k + 1) c.rules.invariant.place;
+            signed = c.rules.invariant.signed ∙ sym (ap signatures_in same);
             rules = same ∙ life_stays c.args.rules.now c.rules.rules c.args.edit.now c.args.gone c.rules.stored-index it c.rules.invariant.rules at idle;
-            found = found_moved c.rules.rules c.if-is_acted_on.rules _ _ same (λ q. ap (λ places. get is_same_identity places q) w.places-is) c.rules.invariant.found;
+            found = found_moved c.rules.rules c.if-is_found.rules _ _ same (λ q. ap (λ places. get is_same_identity places q) w.places-is) c.rules.invariant.found;
+            spare =
+                let so_far : spare c.args.places.now ≤ spare c.rules.places = c.rules.invariant.spare in
+                let now : spare c.if-is_found.places ≡ spare c.rules.places = ap (λ places. spare places) w.places-is in
+                omega arith;
             count = w.count-is ∙ counts_same c.args.rules.now c.rules.rules c.args.edit.now c.args.gone c.rules.stored-index it c.rules.invariant.rules at c.rules.count c.rules.invariant.count idle;
           }
     ]

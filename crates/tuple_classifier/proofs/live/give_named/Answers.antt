@@ -1,18 +1,19 @@
-use Rattle.std.proofs.Common.{map, refl, sym, ap, ◌∙◌}
-use Rattle.std.specs.List.{find}
+use Rattle.std.proofs.Common.{map, sym, ap, ◌∙◌}
 use Rattle.std.specs.Option.{option_map_or}
-use Rattle.spec_tables.specs.Edits.{is_named_by}
+use Rattle.tuple_classifier.specs.Bundles.{names_one}
 use Rattle.tuple_classifier.specs.Live.{unboxed, plain_rules, given_to}
 use Rattle.tuple_classifier.proofs.GivenLaws.{given_named}
 use Rattle.tuple_classifier.proofs.live.give_named.Goals as goal
 
 pub returns-in-Some-clause-live : goal.returns-in-Some-clause-live
-returns-in-Some-clause-live c lists version is classified =
+returns-in-Some-clause-live c =
     c.give_numbered.ensures.live
-    ∙ ap (λ o. option_map_or (λ n. map (given_to n c.args.edit.now c.args.given) (unboxed c.args.live.now)) o (unboxed c.args.live.now)) (sym c.in-Some.is ∙ c.find_named.ensures (plain_rules (unboxed c.args.live.now)) classified)
-    ∙ given_named c.args.edit.now c.args.given lists (unboxed c.args.live.now) version (find (is_named_by c.args.edit.now) (plain_rules (unboxed c.args.live.now))) c.requires.word is refl
+    ∙ ap (λ o. option_map_or (λ n. map (given_to n c.args.number c.args.edit.now c.args.given) (unboxed c.args.live.now)) o (unboxed c.args.live.now)) (sym c.in-Some.is)
+    ∙ given_named c.args.number c.args.edit.now c.args.given (unboxed c.args.live.now) _ (ap names_one c.requires.word) c.requires.rising c.requires.identified
+    (sym (c.find_earlier.ensures (plain_rules (unboxed c.args.live.now)) c.requires.classified))
 
 pub returns-in_default-clause-live : goal.returns-in_default-clause-live
-returns-in_default-clause-live c lists version is classified =
-    ap (λ o. option_map_or (λ n. map (given_to n c.args.edit.now c.args.given) (unboxed c.args.live.now)) o (unboxed c.args.live.now)) (sym c.in_default.is ∙ c.find_named.ensures (plain_rules (unboxed c.args.live.now)) classified)
-    ∙ given_named c.args.edit.now c.args.given lists (unboxed c.args.live.now) version (find (is_named_by c.args.edit.now) (plain_rules (unboxed c.args.live.now))) c.requires.word is refl
+returns-in_default-clause-live c =
+    ap (λ o. option_map_or (λ n. map (given_to n c.args.number c.args.edit.now c.args.given) (unboxed c.args.live.now)) o (unboxed c.args.live.now)) (sym c.in_default.is)
+    ∙ given_named c.args.number c.args.edit.now c.args.given (unboxed c.args.live.now) _ (ap names_one c.requires.word) c.requires.rising c.requires.identified
+    (sym (c.find_earlier.ensures (plain_rules (unboxed c.args.live.now)) c.requires.classified))

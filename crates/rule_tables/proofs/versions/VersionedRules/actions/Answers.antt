@@ -1,25 +1,18 @@
-use Rattle.std.proofs.Common.{Some, sym, ap, ◌∙◌}
+use Rattle.std.proofs.Common.{ℕ, ◌≤◌, List, IsTrue, sym, ap, ◌∙◌, subst}
 use Rattle.std.specs.Option.{option_map}
-use Rattle.spec_tables.specs.Live.{rule_numbered}
-use Rattle.rule_tables.specs.Stored.{actions_in}
-use Rattle.rule_tables.proofs.Led.{led_at_number}
-use Rattle.rule_tables.proofs.Numbered.{not_live}
-use Rattle.rule_tables.proofs.Seen.{in_order_there, seen_rules}
+use Rattle.spec_tables.specs.Rules.{Rule}
+use Rattle.spec_tables.specs.Live.{is_live, rule_numbered}
+use Rattle.rule_tables.specs.History.{applied}
+use Rattle.rule_tables.proofs.SeenVersions.{seen_within, seen_rules_of}
 use Rattle.rule_tables.proofs.versions.VersionedRules.actions.Goals as goal
 
-pub find_live-requires : goal.find_live-requires
-find_live-requires c = in_order_there c.self.inside.rules.items c.deref.result.now c.deref.ensures.value c.self.invariant.consistent.in_order
+pub actions-requires-clause-made : goal.actions-requires-clause-made
+actions-requires-clause-made c = subst (λ (n : ℕ). n ≤ applied c.self.inside.edited.history) (sym c.edits_through-edits.ensures) (seen_within c.self.inside c.args.self.now c.self.view_is c.self.invariant c.args.v c.requires.made)
 
-pub unreachable-requires : goal.unreachable-requires
-unreachable-requires c =
-    not_live c.args.number _ (c.in-None.ensures.rule c.self.inside.modifications.items ∙ ap (rule_numbered c.args.number) (seen_rules c.self.inside.modifications.items c.self.inside.rules.items c.deref.result.now c.self.inside.last c.self.inside.changes c.args.self.now c.deref.ensures.value c.self.view_is c.args.v c.requires.made)) c.requires.live
-
-pub actions_in-requires-clause-given : goal.actions_in-requires-clause-given
-actions_in-requires-clause-given c =
-    led_at_number c.self.inside.givings.items c.deref-in-Some.result.now c.self.inside.modifications.items c.deref-in-Some-2.result.now c.self.inside.rules.items c.deref.result.now c.args.number c.in-Some.stored.now
-    c.deref-in-Some.ensures.value c.deref-in-Some-2.ensures.value c.deref.ensures.value c.in-Some.ensures.stored c.self.invariant.led
+pub actions-requires-clause-live : goal.actions-requires-clause-live
+actions-requires-clause-live c =
+    subst (λ (rules : List Rule). IsTrue (is_live c.args.number rules)) (sym (seen_rules_of c.self.inside c.args.self.now c.self.view_is c.edits_through-edits.result c.args.v c.edits_through-edits.ensures)) c.requires.live
 
 pub returns : goal.returns
 returns c =
-    ap (option_map (λ r. r.actions)) (ap (rule_numbered c.args.number) (sym (seen_rules c.self.inside.modifications.items c.self.inside.rules.items c.deref.result.now c.self.inside.last c.self.inside.changes c.args.self.now c.deref.ensures.value c.self.view_is c.args.v c.requires.made)) ∙ sym (c.in-Some.ensures.rule c.self.inside.modifications.items))
-    ∙ ap (λ x. Some x) (sym (c.actions_in.ensures ∙ ap (λ made. actions_in made c.args.v c.in-Some.stored.now) c.deref-in-Some-2.ensures.value))
+    sym (ap (λ (rules : List Rule). option_map (λ (r : Rule). r.actions) (rule_numbered c.args.number rules)) (seen_rules_of c.self.inside c.args.self.now c.self.view_is c.edits_through-edits.result c.args.v c.edits_through-edits.ensures)) ∙ c.actions.ensures

@@ -1,14 +1,11 @@
-use Rattle.std.proofs.Common.{ap, ◌∙◌}
+use Rattle.std.proofs.Common.{ℕ, ◌≤◌, sym, ap, ◌∙◌, subst}
 use Rattle.spec_tables.specs.Live.{is_live}
-use Rattle.rule_tables.specs.Stored.{stored_in}
-use Rattle.rule_tables.proofs.Numbered.{live_if_found}
-use Rattle.rule_tables.proofs.Seen.{in_order_there, seen_rules}
+use Rattle.rule_tables.specs.History.{applied}
+use Rattle.rule_tables.proofs.SeenVersions.{seen_within, seen_rules_of}
 use Rattle.rule_tables.proofs.versions.VersionedRules.live.Goals as goal
 
-pub find_live-requires : goal.find_live-requires
-find_live-requires c = in_order_there c.self.inside.rules.items c.deref.result.now c.deref.ensures.value c.self.invariant.consistent.in_order
+pub live-requires : goal.live-requires
+live-requires c = subst (λ (n : ℕ). n ≤ applied c.self.inside.edited.history) (sym c.edits_through-edits.ensures) (seen_within c.self.inside c.args.self.now c.self.view_is c.self.invariant c.args.v c.requires)
 
 pub returns : goal.returns
-returns c =
-    c.is_some.ensures ∙ live_if_found (λ s. stored_in c.self.inside.modifications.items c.args.v s.now) c.find_live.result c.args.number _ (c.find_live.ensures.rule c.self.inside.modifications.items)
-    ∙ ap (is_live c.args.number) (seen_rules c.self.inside.modifications.items c.self.inside.rules.items c.deref.result.now c.self.inside.last c.self.inside.changes c.args.self.now c.deref.ensures.value c.self.view_is c.args.v c.requires)
+returns c = c.live.ensures ∙ ap (is_live c.args.number) (seen_rules_of c.self.inside c.args.self.now c.self.view_is c.edits_through-edits.result c.args.v c.edits_through-edits.ensures)

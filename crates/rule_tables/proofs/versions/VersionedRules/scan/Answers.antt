@@ -1,15 +1,16 @@
-use Rattle.std.proofs.Common.{ap, ◌∙◌}
+use Rattle.std.proofs.Common.{ℕ, ◌≤◌, sym, ap, ◌∙◌, subst}
 use Rattle.std.specs.Option.{option_map}
 use Rattle.ovs_fields.specs.Packed.{numbers}
 use Rattle.spec_tables.specs.Rules.{rules_in, winner}
-use Rattle.rule_tables.proofs.Seen.{seen_rules}
+use Rattle.rule_tables.specs.History.{applied}
+use Rattle.rule_tables.proofs.SeenVersions.{seen_within, seen_rules_of}
 use Rattle.rule_tables.proofs.versions.VersionedRules.scan.Goals as goal
 
-pub returns-in_err-stored : goal.returns-in_err-stored
-returns-in_err-stored c =
-    c.from_residual.ensures
-    ∙ ap (option_map (λ r. r.number)) (c.in_err-stored.ensures c.self.inside.modifications.items ∙ ap (λ rules. winner (rules_in c.args.table rules) (numbers c.args.key.now)) (seen_rules c.self.inside.modifications.items c.self.inside.rules.items c.deref.result.now c.self.inside.last c.self.inside.changes c.args.self.now c.deref.ensures.value c.self.view_is c.args.v c.requires))
+pub scan-requires : goal.scan-requires
+scan-requires c = subst (λ (n : ℕ). n ≤ applied c.self.inside.edited.history) (sym c.edits_through-edits.ensures) (seen_within c.self.inside c.args.self.now c.self.view_is c.self.invariant c.args.v c.requires)
 
 pub returns : goal.returns
 returns c =
-    ap (option_map (λ r. r.number)) (c.in_ok-stored.ensures c.self.inside.modifications.items ∙ ap (λ rules. winner (rules_in c.args.table rules) (numbers c.args.key.now)) (seen_rules c.self.inside.modifications.items c.self.inside.rules.items c.deref.result.now c.self.inside.last c.self.inside.changes c.args.self.now c.deref.ensures.value c.self.view_is c.args.v c.requires))
+    c.scan.ensures
+    ∙ ap (λ rules. option_map (λ r. r.number) (winner (rules_in c.args.table rules) (numbers c.args.key.now)))
+    (seen_rules_of c.self.inside c.args.self.now c.self.view_is c.edits_through-edits.result c.args.v c.edits_through-edits.ensures)

@@ -1,8 +1,11 @@
-use Rattle.std.proofs.Common.{sym, ap, ◌∙◌}
-use Rattle.rule_tables.specs.History.{newest}
-use Rattle.rule_tables.specs.Stored.{rules_at}
-use Rattle.rule_tables.proofs.Histories.{newest-versions_to}
+use Rattle.std.proofs.Common.{◌<◌, ◌≤◌, ◌^◌, length, arith}
+use Rattle.rule_tables.specs.History.{applied}
+use Rattle.bundle_laws.proofs.Bundles.{few_bundles}
 use Rattle.rule_tables.proofs.versions.VersionedRules.version.Goals as goal
 
-pub returns : goal.returns
-returns c = sym (newest-versions_to c.self.inside.last c.self.inside.changes (λ v. rules_at c.self.inside.modifications.items v c.self.inside.rules.items)) ∙ ap newest c.self.view_is
+pub overflow_cast-result : goal.overflow_cast-result
+overflow_cast-result c =
+    let few : length c.self.inside.bundles.items ≤ applied c.self.inside.edited.history =
+    few_bundles c.self.inside.bundles.items (applied c.self.inside.edited.history) c.self.invariant.0 in
+    let fits : applied c.self.inside.edited.history < 2 ^ 32 = c.self.invariant.1 in
+    grind (arith, few, fits)

@@ -1,0 +1,49 @@
+use Rattle.std.proofs.Common.{refl, sym, ap, ◌∙◌}
+use Rattle.rule_tables.specs.Stored.{signatures_in}
+use Rattle.rule_tables.proofs.Logged.{log_moved}
+use Rattle.rule_tables.proofs.Sound.{sound_moved}
+use Rattle.rule_tables.proofs.edited.EditedRules.reserve.Goals as goal
+
+pub invariant_of-self : goal.invariant_of-self
+invariant_of-self c = record {
+  consistent =
+      sound_moved c.self.inside.modifications.items c.self.inside.modifications.items c.self.inside.rules.items _ _ _ _ _ refl c.in_err-reserve.ensures.items (λ q. refl) c.self.invariant.consistent;
+  log = log_moved c.self.inside.log c.self.inside.modifications.items c.self.inside.modifications.items c.self.inside.rules.items _ refl c.in_err-reserve.ensures.items c.self.invariant.log;
+  signed = c.self.invariant.signed ∙ sym (ap signatures_in c.in_err-reserve.ensures.items);
+}
+
+pub invariant_of-self-in_err-reserve-2 : goal.invariant_of-self-in_err-reserve-2
+invariant_of-self-in_err-reserve-2 c = record {
+  consistent =
+      sound_moved c.self.inside.modifications.items c.self.inside.modifications.items c.self.inside.rules.items _ _ _ _ _ refl c.in_ok-reserve.ensures.items
+      (λ q. c.in_err-reserve-2.ensures.entries.2 q) c.self.invariant.consistent;
+  log = log_moved c.self.inside.log c.self.inside.modifications.items c.self.inside.modifications.items c.self.inside.rules.items _ refl c.in_ok-reserve.ensures.items c.self.invariant.log;
+  signed = c.self.invariant.signed ∙ sym (ap signatures_in c.in_ok-reserve.ensures.items);
+}
+
+pub invariant_of-self-in_err-reserve-3 : goal.invariant_of-self-in_err-reserve-3
+invariant_of-self-in_err-reserve-3 c = record {
+  consistent =
+      sound_moved c.self.inside.modifications.items _ c.self.inside.rules.items _ _ _ _ _ c.in_err-reserve-3.ensures.items c.in_ok-reserve.ensures.items
+      (λ q. c.in_ok-reserve-2.ensures.entries.2 q) c.self.invariant.consistent;
+  log = log_moved c.self.inside.log c.self.inside.modifications.items _ c.self.inside.rules.items _ c.in_err-reserve-3.ensures.items c.in_ok-reserve.ensures.items c.self.invariant.log;
+  signed = c.self.invariant.signed ∙ sym (ap signatures_in c.in_ok-reserve.ensures.items);
+}
+
+pub invariant_of-self-in_err-reserve-4 : goal.invariant_of-self-in_err-reserve-4
+invariant_of-self-in_err-reserve-4 c = record {
+  consistent =
+      sound_moved c.self.inside.modifications.items _ c.self.inside.rules.items _ _ _ _ _ c.in_ok-reserve-3.ensures.items c.in_ok-reserve.ensures.items
+      (λ q. c.in_ok-reserve-2.ensures.entries.2 q) c.self.invariant.consistent;
+  log = log_moved c.self.inside.log c.self.inside.modifications.items _ c.self.inside.rules.items _ c.in_ok-reserve-3.ensures.items c.in_ok-reserve.ensures.items c.self.invariant.log;
+  signed = c.in_err-reserve-4.ensures.items ∙ c.self.invariant.signed ∙ sym (ap signatures_in c.in_ok-reserve.ensures.items);
+}
+
+pub invariant_of-self-2 : goal.invariant_of-self-2
+invariant_of-self-2 c = record {
+  consistent =
+      sound_moved c.self.inside.modifications.items _ c.self.inside.rules.items _ _ _ _ _ c.in_ok-reserve-3.ensures.items c.in_ok-reserve.ensures.items
+      (λ q. c.in_ok-reserve-2.ensures.entries.2 q) c.self.invariant.consistent;
+  log = log_moved c.self.inside.log c.self.inside.modifications.items _ c.self.inside.rules.items _ c.in_ok-reserve-3.ensures.items c.in_ok-reserve.ensures.items c.self.invariant.log;
+  signed = c.in_ok-reserve-4.ensures.items ∙ c.self.invariant.signed ∙ sym (ap signatures_in c.in_ok-reserve.ensures.items);
+}
