@@ -1,9 +1,9 @@
--- The numbers of the rules of a version rise.
+-- The numbers of the rules that edits make rise.
 use Rattle.std.proofs.Common.{ℕ, zero, suc, ◌≤◌, ◌<◌, Bool, true, false, not, if◌then◌else◌, List, [], ◌∷◌, ◌++◌, filter, slice_get, Option, Some, None, arith}
 use Rattle.spec_tables.specs.declared.edit_word.EditWord.{EditWord}
 use Rattle.spec_tables.specs.declared.edit_word.EditWord.TheVariants.{Add, Modify, ModifyStrict, Delete, DeleteStrict}
 use Rattle.spec_tables.specs.Rules.{Rule}
-use Rattle.spec_tables.specs.Edits.{Edit, rule_of, with_actions, modified, without, is_named_by, is_reached_by, edited, after_edit, version}
+use Rattle.spec_tables.specs.Edits.{Edit, rule_of, with_actions, modified, without, is_named_by, is_reached_by, edited, after_edit, after_edits}
 
 -- numbers rise from above a bound on, and none is above another
 abbrev pub Rise : ℕ → ℕ → List Rule → Type 0
@@ -49,7 +49,7 @@ rise_after : (n : ℕ) (e : Option Edit) (rules : List Rule) → Rise 0 n rules 
 rise_after n None rules h = rise_higher 0 n (suc n) rules (omega arith) h
 rise_after n (Some e) rules h = rise_edited e.word n e rules h
 
-pub rise_version : (edits : List Edit) (v : ℕ) → Rise 0 v (version edits v)
-unfolding version
-rise_version edits zero = tt
-rise_version edits (suc v) = rise_after v (slice_get edits v) (version edits v) (rise_version edits v)
+pub rise_after_edits : (edits : List Edit) (n : ℕ) → Rise 0 n (after_edits edits n)
+unfolding after_edits
+rise_after_edits edits zero = tt
+rise_after_edits edits (suc n) = rise_after n (slice_get edits n) (after_edits edits n) (rise_after_edits edits n)

@@ -5,12 +5,13 @@ use Rattle.std.proofs.lemmas.Bool.{and_parts, and_from}
 use Rattle.spec_tables.specs.declared.edit_word.EditWord.{EditWord}
 use Rattle.spec_tables.specs.declared.edit_word.EditWord.TheVariants.{Add, Modify, ModifyStrict, Delete, DeleteStrict}
 use Rattle.spec_tables.specs.Rules.{Rule}
-use Rattle.spec_tables.specs.Edits.{Edit, rule_of, with_actions, modified, without, is_named_by, is_reached_by, edited, after_edit, version, has_sound_actions}
+use Rattle.spec_tables.specs.Edits.{Edit, rule_of, with_actions, modified, without, is_named_by, is_reached_by, edited, after_edit, after_edits, has_sound_actions}
+use Rattle.spec_tables.specs.Bundles.{edits_through, version}
 use Rattle.spec_tables.specs.Live.{rule_numbered}
 use Rattle.rule_tables.specs.History.{rules_of, history_of}
 use Rattle.rule_tables.proofs.Histories.{rules_of-history}
 use Rattle.pipe_model.specs.Runnable.{IsAmong, AreRunnable, is_sound_rule}
-use Rattle.pipe_model.proofs.Rising.{Rise, rise_version}
+use Rattle.pipe_model.proofs.Rising.{Rise, rise_after_edits}
 
 -- ---- the rule of a number
 
@@ -66,19 +67,23 @@ sound_after : (n : ℕ) (e : Option Edit) (rules : List Rule) → ((x : Edit) �
 sound_after n None rules sound h = h
 sound_after n (Some e) rules sound h = sound_edited e.word n e rules (sound e refl) h
 
-sound_version : (edits : List Edit) (v : ℕ) → list_all has_sound_actions edits ≡ true → list_all is_sound_rule (version edits v) ≡ true
-unfolding version
-sound_version edits zero all = refl
-sound_version edits (suc v) all = sound_after (suc v) (slice_get edits v) (version edits v) (λ e. sound_at edits v e all) (sound_version edits v all)
+sound_after_edits : (edits : List Edit) (v : ℕ) → list_all has_sound_actions edits ≡ true → list_all is_sound_rule (after_edits edits v) ≡ true
+unfolding after_edits
+sound_after_edits edits zero all = refl
+sound_after_edits edits (suc v) all = sound_after (suc v) (slice_get edits v) (after_edits edits v) (λ e. sound_at edits v e all) (sound_after_edits edits v all)
 
 -- ---- versions
 
-pub runnable-version : (edits : List Edit) (v : ℕ) → IsTrue (list_all has_sound_actions edits) → AreRunnable (version edits v)
-runnable-version edits v all = record {
-  sound = sound_version edits v all;
-  numbered = λ r among. found_numbered 0 v (version edits v) r (rise_version edits v) among;
+pub runnable-after_edits : (edits : List Edit) (n : ℕ) → IsTrue (list_all has_sound_actions edits) → AreRunnable (after_edits edits n)
+runnable-after_edits edits n all = record {
+  sound = sound_after_edits edits n all;
+  numbered = λ r among. found_numbered 0 n (after_edits edits n) r (rise_after_edits edits n) among;
 }
 
+pub runnable-version : (edits : List Edit) (bundles : List ℕ) (v : ℕ) → IsTrue (list_all has_sound_actions edits) → AreRunnable (version edits bundles v)
+runnable-version edits bundles v all = runnable-after_edits edits (edits_through bundles v) all
+
 -- those of a history of these edits
-pub runnable-history : (edits : List Edit) (v : ℕ) → v ≤ length edits → IsTrue (list_all has_sound_actions edits) → AreRunnable (rules_of (history_of edits) v)
-runnable-history edits v made all = subst AreRunnable (sym (rules_of-history edits v made)) (runnable-version edits v all)
+pub runnable-history : (edits : List Edit) (bundles : List ℕ) (v : ℕ) → edits_through bundles v ≤ length edits → IsTrue (list_all has_sound_actions edits)
+    → AreRunnable (rules_of (history_of edits bundles) v)
+runnable-history edits bundles v made all = subst AreRunnable (sym (rules_of-history edits bundles v made)) (runnable-version edits bundles v all)

@@ -1,6 +1,6 @@
 use std::marker::Brand;
 
-/// Names one run: all values of one name have the same ports, edits, sync points and traces.
+/// Names one run: all values of one name have the same ports, edits, bundles, sync points and traces.
 ///
 /// So a value of the name says which frame of which port it speaks of without holding the run. A program knows what
 /// the run is only once it has read it. The function that has read it calls one function with the name `Brand`, and
@@ -15,5 +15,5 @@ pub trait Case {
 impl Case for Brand {
     ghost use Rattle.std.specs.Prelude.{[]};
 
-    ghost run = { record { ports = []; edits = []; syncs = []; traces = []; flow_limit = 0; steps = [] } };
+    ghost run = { record { ports = []; edits = []; bundles = []; syncs = []; traces = []; flow_limit = 0; steps = [] } };
 }

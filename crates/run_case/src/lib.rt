@@ -13,7 +13,7 @@
 //! `spec_case` says what a run is, and how sync points cut its edits and its traces into blocks. Every number that is
 //! read here is the one that it defines.
 //!
-//! - A port's frames are those of its own trace, its blocks end where the definition has them end, and a block's edits
+//! - A port's frames are those of its own trace, its blocks end where the definition has them end, and a block's bundles
 //!   begin and end where the sync points stand.
 //! - A `Keyed` is a frame of the run: its type keeps that the frame is there, and that key, length, time and block are
 //!   that frame's.

@@ -1,6 +1,7 @@
 ghost use Rattle.std.specs.Prelude.{◌≡◌, ◌+◌, ◌-◌, ◌/◌, ◌^◌, ◌<◌, ◌≤◌, ◌==◌, Some, All, length, map, position, slice_get};
 ghost use Rattle.spec_pcap.specs.Pcap.{second, snap_length};
-ghost use Rattle.spec_case.specs.Run.{last_version, frame_at, frames_of, is_nanos};
+ghost use Rattle.spec_tables.specs.Bundles.{AreBundles};
+ghost use Rattle.spec_case.specs.Run.{edit_count, last_version, frame_at, frames_of, is_nanos};
 ghost use Rattle.spec_case.specs.Blocks.{AreInOrder, block_ends, last_block, last_place, lo, hi};
 ghost use Rattle.pcap_reader.specs.Records.{IsShort};
 ghost use Rattle.run_blocks.specs.Places.{HasPort, HasPlace, AreCounted, ends_of};
@@ -14,20 +15,23 @@ use spec_tables::SyncPoint;
 use std::alloc::{AllocError, Global};
 use std::marker::PhantomData;
 
-/// What one run is given, of its edits their number, and where the blocks of its traces end.
+/// What one run is given, of its edits and bundles their numbers, and where the blocks of its traces end.
 ///
 /// Ports stand in the order of the words, the trace of each at the same place. Places of a trace are counted from 1,
 /// blocks from 0, and times are in nanoseconds.
 #[derive(Debug, Drop)]
 pub struct RunData<C: Case> {
     ports: Ports,
-    edit_count: u32,
+    edits: u32,
+    bundles: u32,
     syncs: Vec<SyncPoint>,
     traces: Vec<Trace>,
     ends: Vec<BlockEnds>,
     of: PhantomData<C>,
     ghost ports_are: { ports ≡ C.run.ports },
-    ghost edits_are: { edit_count ≡ length C.run.edits },
+    ghost edits_are: { edits ≡ edit_count C.run },
+    ghost bundles_are: { bundles ≡ last_version C.run },
+    ghost bundled: { AreBundles C.run.bundles (edit_count C.run) },
     ghost syncs_are: { syncs.items ≡ C.run.syncs },
     ghost traces_are: { traces.items ≡ C.run.traces },
     ghost ends_are: { ends.items ≡ map (ends_of C.run.syncs) C.run.traces },
@@ -43,12 +47,15 @@ impl<C: Case> RunData<C> {
     pub fn new(
         alloc: Global,
         ports: Ports,
-        edit_count: u32,
+        edits: u32,
+        bundles: u32,
         syncs: Vec<SyncPoint>,
         traces: Vec<Trace>,
     ) -> Result<RunData<C>, AllocError>
         requires ports { ports ≡ C.run.ports }
-        requires edits { edit_count ≡ length C.run.edits }
+        requires edits { edits ≡ edit_count C.run }
+        requires bundles { bundles ≡ last_version C.run }
+        requires bundled { AreBundles C.run.bundles (edit_count C.run) }
         requires syncs { syncs.items ≡ C.run.syncs }
         requires traces { traces.items ≡ C.run.traces }
         requires one_each { length C.run.traces ≡ length C.run.ports }
@@ -59,7 +66,8 @@ impl<C: Case> RunData<C> {
         let ends = all_block_ends(alloc, &syncs, &traces)?;
         Ok(RunData {
             ports,
-            edit_count,
+            edits,
+            bundles,
             syncs,
             traces,
             ends,
@@ -89,7 +97,7 @@ impl<C: Case> RunData<C> {
         self.syncs.len() as u32
     }
 
-    /// How many edits stand before a block: the oldest version of its frames.
+    /// How many bundles stand before a block: the oldest version of its frames.
     pub fn lo(&self, block: u32) -> u32
         requires { block ≤ last_block C.run }
         ensures number { result ≡ lo C.run block }
@@ -98,7 +106,7 @@ impl<C: Case> RunData<C> {
         if block == 0 { 0 } else { self.hi(block - 1) }
     }
 
-    /// How many edits stand before the end of a block: the newest version of its frames.
+    /// How many bundles stand before the end of a block: the newest version of its frames.
     pub fn hi(&self, block: u32) -> u32
         requires { block ≤ last_block C.run }
         ensures number { result ≡ hi C.run block }
@@ -112,17 +120,19 @@ impl<C: Case> RunData<C> {
         }
     }
 
-    /// The last version of the tables.
+    /// The last version of the tables: how many bundles there are.
     pub fn last_version(&self) -> u32
         ensures { result ≡ last_version C.run }
     {
-        self.edit_count
+        self.bundles
     }
 
+    /// How many edits there are: no rule has a greater number.
     pub fn edit_count(&self) -> u32
-        ensures { result ≡ length C.run.edits }
+        ensures count { result ≡ edit_count C.run }
+        ensures bundled { AreBundles C.run.bundles (edit_count C.run) }
     {
-        self.edit_count
+        self.edits
     }
 
     // The place of a port among the ports, and of its trace among the traces.

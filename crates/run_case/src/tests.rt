@@ -1,5 +1,6 @@
 ghost use Rattle.std.specs.Prelude.{◌≡◌, ◌+◌, ◌^◌, ◌<◌, [], ◌∷◌, IfOk, length, map};
-ghost use Rattle.spec_case.specs.Run.{last_version};
+ghost use Rattle.spec_tables.specs.Bundles.{AreBundles};
+ghost use Rattle.spec_case.specs.Run.{edit_count, last_version};
 ghost use Rattle.spec_case.specs.Blocks.{AreInOrder};
 ghost use Rattle.run_blocks.specs.Places.{HasPort, HasPlace, IsCounted, AreCounted};
 
@@ -76,6 +77,8 @@ fn in_run<C: Case>(
 ) -> Result<(), Fail>
     requires ports { ports ≡ C.run.ports }
     requires edits { C.run.edits ≡ [] }
+    requires bundles { C.run.bundles ≡ [] }
+    requires bundled { AreBundles C.run.bundles (edit_count C.run) }
     requires syncs { syncs.items ≡ C.run.syncs }
     requires traces { traces.items ≡ C.run.traces }
     requires full { HasPort C.run.ports FULL_PORT }
@@ -85,7 +88,7 @@ fn in_run<C: Case>(
     requires few { length C.run.syncs < 100 }
     requires counted { AreCounted C.run.traces }
 {
-    let run = RunData::<C>::new(alloc, ports, 0, syncs, traces)?;
+    let run = RunData::<C>::new(alloc, ports, 0, 0, syncs, traces)?;
     assert_eq!(rt; run.frames(EMPTY_PORT), 0);
     assert_eq!(rt; run.frames(FULL_PORT), 3);
     for index in 0..3u32 {

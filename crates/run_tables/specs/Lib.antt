@@ -1,1 +1,2 @@
+pub mod NextBundle
 pub mod OfRun

@@ -1,8 +1,9 @@
-ghost use Rattle.std.specs.Prelude.{◌≡◌, ◌+◌, ◌<◌, ◌≤◌, ◌^◌, IsTrue, IfOk, OnOk, OnErr, Some, slice_get};
+ghost use Rattle.std.specs.Prelude.{◌≡◌, ◌+◌, ◌<◌, ◌≤◌, IsTrue, IfOk, OnOk, OnErr};
 ghost use Rattle.std.specs.List.{list_all};
 ghost use Rattle.spec_case.specs.Run.{last_version};
 ghost use Rattle.ovs_fields.specs.Packed.{numbers};
 ghost use Rattle.spec_tables.specs.Edits.{has_sound_actions};
+ghost use Rattle.run_tables.specs.NextBundle.{IsBundleOf};
 
 use ovs_fields::Key;
 use pipe_model::SpareLists;
@@ -14,7 +15,7 @@ use std::alloc::{AllocError, Global};
 use std::marker::{Model, PhantomData};
 use xlate_pipeline::translate;
 
-/// The tables of one version of a run: the rules that so many edits of it make.
+/// The tables of one version of a run: the rules that so many bundles of it make.
 ///
 /// Its type keeps that the rules are those, and that the edits' actions can be run.
 #[derive(Drop)]
@@ -35,7 +36,7 @@ impl<C: Case> Model for Tables<C> {
 }
 
 impl<C: Case> Tables<C> {
-    /// Version 0, before the first edit: no rules. It takes no memory; what the tables take later is of `alloc`.
+    /// Version 0, before the first bundle: no rules. It takes no memory; what the tables take later is of `alloc`.
     pub fn new(alloc: Global) -> Tables<C>
         requires sound { IsTrue (list_all has_sound_actions C.run.edits) }
         ensures { result ≡ 0 }
@@ -46,7 +47,7 @@ impl<C: Case> Tables<C> {
         }
     }
 
-    /// The version, which is how many edits of the run were applied.
+    /// The version, which is how many bundles of the run were applied.
     pub fn version(&self) -> u32
         ensures number { result ≡ self.now }
         ensures made { result ≤ last_version C.run }
@@ -54,7 +55,7 @@ impl<C: Case> Tables<C> {
         self.rules.version()
     }
 
-    /// Applies the next edit of the run, and answers the version that it makes.
+    /// Applies the next bundle of the run, and answers the version that it makes.
     ///
     /// The only error is out of memory, and then the version stays.
     pub fn publish_next(&mut self, edits: &RunEdits<C>) -> Result<u32, AllocError>
@@ -63,24 +64,23 @@ impl<C: Case> Tables<C> {
         ensures version { IfOk result (λ v. v ≡ self.new) }
         ensures err { OnErr result (self.new ≡ self.old) }
     {
-        let next = edits.edit(self.version() + 1);
+        let next = edits.bundle(self.version() + 1);
         self.apply(next)
     }
 
-    /// Applies an edit, which is the next one of the run, and answers the version that it makes.
+    /// Applies the edits of a bundle, which is the next one of the run, and answers the version that it makes.
     ///
     /// The only error is out of memory, and then the version stays.
-    pub fn apply(&mut self, edit: &Edit) -> Result<u32, AllocError>
-        requires next { slice_get C.run.edits self.old ≡ Some edit.now }
-        requires room { self.old + 1 < 2 ^ 32 }
+    pub fn apply(&mut self, bundle: &[Edit]) -> Result<u32, AllocError>
+        requires { IsBundleOf C.run (self.old + 1) bundle.now }
         ensures next { OnOk result (self.new ≡ self.old + 1) }
         ensures version { IfOk result (λ v. v ≡ self.new) }
         ensures err { OnErr result (self.new ≡ self.old) }
     {
-        self.rules.apply(edit)
+        self.rules.apply(bundle)
     }
 
-    /// Applies the edits of the run up to a version, that of the tables or a later one.
+    /// Applies the bundles of the run up to a version, that of the tables or a later one.
     ///
     /// The only error is out of memory, and then the tables are left at an earlier version than that, which is the one
     /// that they had or a later one.
@@ -99,7 +99,8 @@ impl<C: Case> Tables<C> {
 
     /// What the tables make of a packet of this key, with the bits of the key that decide it.
     ///
-    /// It is made in `lists`: no memory is taken where what is made fits in what they have room for. A translation that passes a limit may need more.
+    /// It is made in `lists`: no memory is taken where what is made fits in what they have room for. A translation that
+    /// passes a limit may need more.
     ///
     /// The only error is out of memory, and then nothing is left behind.
     pub fn translate(

@@ -6,7 +6,7 @@ ghost use Rattle.spec_case.specs.Run.{last_version};
 ghost use Rattle.table_publish.specs.Views.{IsNextOrNone};
 ghost use Rattle.table_publish.specs.declared.editor.PublishFault.TheVariants.{NoneLeft, OutOfMemory};
 
-use crate::next_edit::NextEdit;
+use crate::next_bundle::NextBundle;
 use crate::rule::{Grows, Learns, Sees, Tells};
 use crate::seer::{News, Seer};
 use left_right::Absorb;
@@ -23,18 +23,18 @@ use std::thread::yield_now;
 /// Why no version was published.
 #[derive(Clone, Copy, PartialEq, Eq, Debug)]
 pub enum PublishFault {
-    /// All edits of the run are published, and make this version.
+    /// All bundles of the run are published, and make this version.
     NoneLeft { version: u32 },
     /// Nothing changed, and the call may be made again.
     OutOfMemory,
 }
 
-/// Publishes the edits of a run. Contracts see the version that it published last. End it by `end`.
+/// Publishes the bundles of a run. Contracts see the version that it published last. End it by `end`.
 pub struct Editor<C: Case>
 where
-    Tables<C>: Absorb<NextEdit<C>, State = u64>,
+    Tables<C>: Absorb<NextBundle<C>, State = u64>,
 {
-    writer: Writer<Tables<C>, NextEdit<C>, u64, Grows<C>>,
+    writer: Writer<Tables<C>, NextBundle<C>, u64, Grows<C>>,
     /// Tells of which publication it is.
     home: Factory<Tables<C>, u64, Grows<C>>,
     alloc: Global,
@@ -43,7 +43,7 @@ where
 
 impl<C: Case> Model for Editor<C>
 where
-    Tables<C>: Absorb<NextEdit<C>, State = u64>,
+    Tables<C>: Absorb<NextBundle<C>, State = u64>,
 {
     ghost use Rattle.std.specs.Prelude.{◌≡◌, ◌≤◌, drop};
     ghost use Rattle.std.specs.Arc.{arc_value};
@@ -56,16 +56,16 @@ where
 
     ghost view = { λ e. record { publication = (arc_value e.home.board).shared.table_id; version = e.version } };
 
-    // Its view and the shown tables are of its version, and nothing but the next edit is pending.
+    // Its view and the shown tables are of its version, and nothing but the next bundle is pending.
     ghost invariant = { λ e. (sides.view e.writer.desk.place ≡ e.version)
         × (e.writer.desk.shown.value ≡ e.version)
         × (e.version ≤ last_version C.run)
         × IsNextOrNone e.version (drop e.writer.behind e.writer.log.items) };
 }
 
-// Sees to it that exactly the edit after a version is pending. The only error is out of memory.
+// Sees to it that exactly the bundle after a version is pending. The only error is out of memory.
 fn prepare<C: Case>(
-    writer: &mut Writer<Tables<C>, NextEdit<C>, u64, Grows<C>>,
+    writer: &mut Writer<Tables<C>, NextBundle<C>, u64, Grows<C>>,
     alloc: Global,
     edits: &RunEdits<C>,
     version: u32,
@@ -80,8 +80,8 @@ fn prepare<C: Case>(
     if writer.has_pending_operations() {
         return Ok(());
     }
-    let edit = NextEdit::after(alloc, edits, version)?;
-    match writer.append(edit) {
+    let bundle = NextBundle::after(alloc, edits, version)?;
+    match writer.append(bundle) {
         Ok(()) => Ok(()),
         Err(_) => Err(AllocError),
     }
@@ -103,7 +103,7 @@ impl<C: Case> Editor<C> {
         self.writer.published()
     }
 
-    /// Publishes the next edit of the run, and answers the version that it makes.
+    /// Publishes the next bundle of the run, and answers the version that it makes.
     ///
     /// It waits for those that still read the version before the last. After an error the editor is as it was.
     pub fn publish_next<R: Wait>(
@@ -119,7 +119,7 @@ impl<C: Case> Editor<C> {
         ensures causes { IfErr result.1 (λ fault. (fault ≡ NoneLeft self.version) ⊎ (fault ≡ OutOfMemory)) }
     {
         let version = self.version;
-        if version == edits.count() {
+        if version == edits.versions() {
             return (self, Err(PublishFault::NoneLeft { version }));
         }
         let Editor {

@@ -2,8 +2,8 @@
 //!
 //! # What?
 //!
-//! While one thread applies edits to the tables, others translate packets through them. None of them may see half an
-//! edit, and a packet in translation shouldn't wait for an edit. So the tables are *published*: one `Editor` makes the
+//! While one thread applies edits to the tables, others translate packets through them. None of them may see half a
+//! bundle of edits, and a packet in translation shouldn't wait for one. So the tables are *published*: one `Editor` makes the
 //! next version beside the one that is read, and then shows it all at once. Each `Seer` reads through a `Guard`, under
 //! which the version that it entered stays as it is.
 //!
@@ -15,8 +15,8 @@
 //! hands back one of the same publication.
 //!
 //! - `publish` gives an editor and exactly so many seers, all of one publication and at version 0.
-//! - `publish_next` publishes the next edit of the run. It answers the version that the edit makes, one more than the
-//!   one before; `NoneLeft` exactly where all edits are published, with their version; or out of memory, and then nothing
+//! - `publish_next` publishes the next bundle of the run. It answers the version that the bundle makes, one more than the
+//!   one before; `NoneLeft` exactly where all bundles are published, with their version; or out of memory, and then nothing
 //!   changed and the call may be made again.
 //! - `enter` gives a guard of the version that is published at one moment of the call, which is at least every version
 //!   that this seer saw or learnt. `Guard::tables` lends the tables of this version (`run_tables`), and `leave` hands the
@@ -29,9 +29,9 @@
 //!
 //! # How
 //!
-//! There are two copies of the tables (`left_right`). Readers read one, the editor applies the edit to the other, and then
-//! one atomic step turns the readers to it. The copy that was read before lacks an edit then; it gets it at the next turn,
-//! once the last reader of it has left. Reading takes two atomic steps and no lock.
+//! There are two copies of the tables (`left_right`). Readers read one, the editor applies the bundle to the other, and
+//! then one atomic step turns the readers to it. The copy that was read before lacks a bundle then; it gets it at the next
+//! turn, once the last reader of it has left. Reading takes two atomic steps and no lock.
 //!
 //! What a thread knows of versions is its *view*, which exists in proofs alone. The rule over the views is that none is
 //! above the published version (`rule`). There are five kinds of step, and each keeps it (`proofs/Views`): making the copies and
@@ -47,13 +47,13 @@
 //!
 //! # What is left to others
 //!
-//! Which edit is published when, who is told of it, and how news go from thread to thread. Where news lie behind a lock,
+//! Which bundle is published when, who is told of it, and how news go from thread to thread. Where news lie behind a lock,
 //! its type has to say of which publication they are, since a contract knows nothing else of what a lock holds. That
 //! `publish_next` ever returns isn't promised: it waits for readers to leave.
 #![tactic(auto)]
 
 mod editor;
-mod next_edit;
+mod next_bundle;
 mod publication;
 mod rule;
 mod seer;

@@ -3,22 +3,22 @@ use Rattle.std.specs.List.{IsDistinct}
 use Rattle.std.proofs.lemmas.List.{length-map}
 use Rattle.spec_pcap.specs.Pcap.{Capture}
 use Rattle.spec_tables.specs.declared.sync_point.SyncPoint.{SyncPoint}
-use Rattle.spec_case.specs.Blocks.{edits_through, AreInOrder}
+use Rattle.spec_case.specs.Blocks.{bundles_through, AreInOrder}
 use Rattle.run_blocks.specs.Places.{IsCounted, AreCounted}
 use Rattle.run_case.proofs.tests.blocks_are.Goals as goal
 
--- sync points at these times, before which no edits stand
+-- sync points at these times, before which no bundles stand
 abbrev syncs_at : List ℕ → List SyncPoint
 syncs_at times = map (λ (time : ℕ). let s : SyncPoint = record { time = time; after = 0 } in s) times
 
-edits_through-syncs_at : (times : List ℕ) (block : ℕ) → edits_through (syncs_at times) 0 block ≡ 0
-edits_through-syncs_at [] block = refl
-edits_through-syncs_at (t ∷ ts) zero = refl
-edits_through-syncs_at (t ∷ ts) (suc block) = edits_through-syncs_at ts block
+bundles_through-syncs_at : (times : List ℕ) (block : ℕ) → bundles_through (syncs_at times) 0 block ≡ 0
+bundles_through-syncs_at [] block = refl
+bundles_through-syncs_at (t ∷ ts) zero = refl
+bundles_through-syncs_at (t ∷ ts) (suc block) = bundles_through-syncs_at ts block
 
 in_order-syncs_at : (times : List ℕ) → AreInOrder (syncs_at times) 0
 in_order-syncs_at times block =
-    rw (edits_through-syncs_at times block, edits_through-syncs_at times (block + 1)) (omega arith, omega arith)
+    rw (bundles_through-syncs_at times block, bundles_through-syncs_at times (block + 1)) (omega arith, omega arith)
 
 both_counted : (a b : Capture) → IsCounted a → IsCounted b → AreCounted (a ∷ b ∷ [])
 both_counted a b is_a is_b zero d within = is_a
@@ -39,6 +39,8 @@ in_run-requires g c =
     record {
       ports = refl;
       edits = refl;
+      bundles = refl;
+      bundled = record { rising = λ v lt. absurd (omega (arith, lt)); whole = refl };
       syncs = refl;
       traces = refl;
       full = rw ports refl;

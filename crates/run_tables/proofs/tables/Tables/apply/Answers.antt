@@ -1,8 +1,19 @@
-use Rattle.std.proofs.Common.{◌≡◌, Some, slice_get, sym, subst}
-use Rattle.run_tables.proofs.OfRun.{of_run-applied}
+use Rattle.std.proofs.Common.{◌+◌, sym, subst}
+use Rattle.run_tables.specs.NextBundle.{IsBundleOf}
+use Rattle.run_tables.proofs.OfRun.{bundle_some, bundle_room, of_run-applied}
 use Rattle.run_tables.proofs.tables.Tables.apply.Goals as goal
+
+pub apply-requires-clause-some : goal.apply-requires-clause-some
+apply-requires-clause-some g c =
+    let is = subst (λ v. IsBundleOf g.C.Case.run (v + 1) c.args.bundle.now) (sym c.self.view_is) c.requires in
+    bundle_some g.C.Case.run c.self.inside.rules c.args.bundle.now c.self.invariant is
+
+pub apply-requires-clause-room : goal.apply-requires-clause-room
+apply-requires-clause-room g c =
+    let is = subst (λ v. IsBundleOf g.C.Case.run (v + 1) c.args.bundle.now) (sym c.self.view_is) c.requires in
+    bundle_room g.C.Case.run c.self.inside.rules c.args.bundle.now c.self.invariant is
 
 pub invariant_of-self : goal.invariant_of-self
 invariant_of-self g c =
-    let edit : slice_get g.C.Case.run.edits c.self.inside.rules.number ≡ Some c.args.edit.now = subst (λ v. slice_get g.C.Case.run.edits v ≡ Some c.args.edit.now) (sym c.self.view_is) c.requires.next in
-    of_run-applied c.apply.result g.C.Case.run c.self.inside.rules c.apply.new.self c.args.edit.now c.self.invariant edit c.apply.ensures.edited c.apply.ensures.err
+    let is = subst (λ v. IsBundleOf g.C.Case.run (v + 1) c.args.bundle.now) (sym c.self.view_is) c.requires in
+    of_run-applied g.C.Case.run c.self.inside.rules c.args.bundle.now c.self.invariant is c.apply.result c.apply.new.self c.apply.ensures.edited c.apply.ensures.err
