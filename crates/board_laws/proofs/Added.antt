@@ -1,9 +1,11 @@
--- Rules are numbered by the edits that added them: those of a version, and those that a translation under it visits.
+-- Rules are numbered by the edits that added them: those after some edits, and those that a translation under a version
+-- visits.
 use Rattle.std.proofs.Common.{◌≡◌, ℕ, zero, suc, ◌≤◌, Bool, true, false, ◌==◌, not, if◌then◌else◌, List, [], ◌∷◌, slice_get, Option, Some, None, All, ◌⊎◌, inl, inr, refl, sym, ap, ◌∙◌, subst, arith}
 use Rattle.spec_tables.specs.declared.edit_word.EditWord.{EditWord}
 use Rattle.spec_tables.specs.declared.edit_word.EditWord.TheVariants.{Add, Modify, ModifyStrict, Delete, DeleteStrict}
 use Rattle.spec_tables.specs.Rules.{Rule, rules_in, winner}
-use Rattle.spec_tables.specs.Edits.{Edit, is_named_by, is_reached_by, rule_of, with_actions, modified, without, edited, after_edit, version}
+use Rattle.spec_tables.specs.Edits.{Edit, is_named_by, is_reached_by, rule_of, with_actions, modified, without, edited, after_edit, after_edits}
+use Rattle.spec_tables.specs.Bundles.{edits_through}
 use Rattle.spec_case.specs.Run.{Run}
 use Rattle.spec_board.specs.Results.{switch_at, translated}
 use Rattle.translation_laws.proofs.MemberLaws.{Among, Among-append, Among-filter}
@@ -18,7 +20,7 @@ IsOfEdit v number = (1 ≤ number) × (number ≤ v)
 later : (v number : ℕ) → IsOfEdit v number → IsOfEdit (suc v) number
 later v number h = let l = h.1 in (h.0, omega arith)
 
--- ---- rules of a version
+-- ---- rules after some edits
 
 module _ (v : ℕ) (e : Edit) (rules : List Rule) (old : (r : Rule) → Among r rules → IsOfEdit v r.number) where
   left_added : (picked : Rule → Bool) (r : Rule) → Among r (without picked rules) → IsOfEdit (suc v) r.number
@@ -50,20 +52,22 @@ after_edit_added : (v : ℕ) (e : Option Edit) (rules : List Rule) → ((r : Rul
 after_edit_added v None rules old r m = later v r.number (old r m)
 after_edit_added v (Some e) rules old r m = edited_added v e rules old e.word r m
 
-pub version_added : (edits : List Edit) (v : ℕ) (r : Rule) → Among r (version edits v) → IsOfEdit v r.number
-unfolding version
-version_added edits zero r m = absurd m
-version_added edits (suc v) r m = after_edit_added v (slice_get edits v) (version edits v) (version_added edits v) r m
+pub rules_added : (edits : List Edit) (n : ℕ) (r : Rule) → Among r (after_edits edits n) → IsOfEdit n r.number
+unfolding after_edits
+rules_added edits zero r m = absurd m
+rules_added edits (suc n) r m = after_edit_added n (slice_get edits n) (after_edits edits n) (rules_added edits n) r m
 
 -- ---- visits
 
-winner_added : (edits : List Edit) (v table : ℕ) (key : List ℕ) (r : Rule) → winner (rules_in table (version edits v)) key ≡ Some r
-    → IsOfEdit v r.number
+winner_added : (edits : List Edit) (n table : ℕ) (key : List ℕ) (r : Rule) → winner (rules_in table (after_edits edits n)) key ≡ Some r
+    → IsOfEdit n r.number
 unfolding IsWinner
-winner_added edits v table key r e =
-    let rules = rules_in table (version edits v) in
+winner_added edits n table key r e =
+    let rules = rules_in table (after_edits edits n) in
     let best : IsBestOf rules key r = subst (IsWinner rules key) e (winner-IsWinner rules key) in
-    version_added edits v r (Among-filter (λ (s : Rule). s.table == table) r (version edits v) best.is_rule).0
+    rules_added edits n r (Among-filter (λ (s : Rule). s.table == table) r (after_edits edits n) best.is_rule).0
 
-pub visits_added : (run : Run) (v : ℕ) (key : List ℕ) → All (λ r. (1 ≤ r) × (r ≤ v)) (translated run v key).visits
-visits_added run v key = each_visit (switch_at run v) (IsOfEdit v) (winner_added run.edits v) key
+pub visits_added : (run : Run) (v : ℕ) (key : List ℕ) → All (λ r. (1 ≤ r) × (r ≤ edits_through run.bundles v)) (translated run v key).visits
+visits_added run v key =
+    let n = edits_through run.bundles v in
+    each_visit (switch_at run v) (IsOfEdit n) (winner_added run.edits n) key

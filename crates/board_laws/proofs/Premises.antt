@@ -19,6 +19,7 @@ abbrev wide : Run
 wide = record {
   ports = 65537 ∷ 1 ∷ [];
   edits = add 0 [] (Output 1 ∷ []) ∷ [];
+  bundles = 1 ∷ [];
   syncs = [];
   traces = record { nanos = true; frames = record { time = 0; bytes = [] } ∷ [] } ∷ record { nanos = true; frames = [] } ∷ [];
   flow_limit = 1;
@@ -54,9 +55,9 @@ ports_of_16_bits_are_needed h =
     let e = r.actions (key_of 1 []) (key_of-IsKey [] (λ k d l. absurd (omega (arith, l))) 1 (omega arith)) (key_of-IsClean 1 []) refl in
     absurd (cc e)
 
--- The sync point says that five edits stand before it, and there is none.
+-- The sync point says that five bundles stand before it, and there is none.
 abbrev disordered : Run
-disordered = record { ports = []; edits = []; syncs = sync 0 5 ∷ []; traces = []; flow_limit = 0; steps = [] }
+disordered = record { ports = []; edits = []; bundles = []; syncs = sync 0 5 ∷ []; traces = []; flow_limit = 0; steps = [] }
 
 abbrev disordered_steps : List Step
 disordered_steps = Begin 5 ∷ End ∷ Open 1 ∷ []

@@ -58,7 +58,7 @@ may_open run port s block h =
       swept = ltb-false s.done (lo run block) d.0;
     }
 
--- the edits before the next block are those through this one
+-- the bundles before the next block are those through this one
 pub lo_next : (run : Run) (block next : ℕ) → next ≡ block + 1 → lo run next ≡ hi run block
 lo_next run block next is = let e : next ≡ suc block = omega (arith, is) in rw e refl
 

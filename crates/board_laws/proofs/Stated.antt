@@ -4,6 +4,7 @@ use Rattle.std.specs.List.{AllPairs, list_all}
 use Rattle.std.proofs.lemmas.Bool.{and_parts}
 use Rattle.spec_keys.specs.Keys.{agree, overlap}
 use Rattle.spec_pcap.specs.Pcap.{Frame}
+use Rattle.spec_tables.specs.Bundles.{edits_through}
 use Rattle.spec_case.specs.Run.{Run, last_version, frames_of}
 use Rattle.spec_case.specs.Blocks.{AreInOrder}
 use Rattle.spec_board.specs.Steps.{Step}
@@ -95,13 +96,14 @@ made_after run port limit steps keys legal =
     All_from-Among (IsMade run) (after run port steps).entries ((kept_after run port limit steps legal).made keys)
 
 pub entries_visit : (run : Run) (port limit : ℕ) (steps : List Step) → HasKeys run port (after run port steps).next → IsLegal run port limit steps
-    → All (λ (e : Entry). All (λ r. (1 ≤ r) × (r ≤ e.version)) e.visits) (after run port steps).entries
-entries_visit run port limit steps keys legal = All_from-Among (λ (e : Entry). All (IsOfEdit e.version) e.visits) (after run port steps).entries visits
+    → All (λ (e : Entry). All (λ r. (1 ≤ r) × (r ≤ edits_through run.bundles e.version)) e.visits) (after run port steps).entries
+entries_visit run port limit steps keys legal =
+    All_from-Among (λ (e : Entry). All (IsOfEdit (edits_through run.bundles e.version)) e.visits) (after run port steps).entries visits
   where
-    visits : (e : Entry) → Among e (after run port steps).entries → All (IsOfEdit e.version) e.visits
+    visits : (e : Entry) → Among e (after run port steps).entries → All (IsOfEdit (edits_through run.bundles e.version)) e.visits
     visits e m =
         let made = (kept_after run port limit steps legal).made keys e m in
-        subst (λ (vs : List ℕ). All (IsOfEdit e.version) vs) (sym made.visits) (visits_added run e.version e.key)
+        subst (λ (vs : List ℕ). All (IsOfEdit (edits_through run.bundles e.version)) vs) (sym made.visits) (visits_added run e.version e.key)
 
 pub slots_after : (run : Run) (port limit : ℕ) (steps : List Step) → IsLegal run port limit steps
     → All (NamesCovering (after run port steps).entries) (after run port steps).slots

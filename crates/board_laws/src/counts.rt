@@ -1,5 +1,6 @@
 ghost use Rattle.std.specs.Prelude.{◌≡◌, ℕ, ◌+◌, ◌*◌, ◌≤◌, List, [], ◌∷◌, ◌++◌, length, All};
 ghost use Rattle.spec_pcap.specs.Pcap.{Frame};
+ghost use Rattle.spec_tables.specs.Bundles.{edits_through};
 ghost use Rattle.spec_xlate.specs.Translation.{Switch, action_limit, lookup_limit, pipe};
 ghost use Rattle.spec_case.specs.Run.{Run, last_version, frames_of};
 ghost use Rattle.spec_case.specs.Blocks.{AreInOrder};
@@ -25,10 +26,11 @@ pub fn translations_are_short()
     ensures visits { (sw : Switch) (key : List ℕ) → length (pipe sw key).visits ≤ lookup_limit }
 {}
 
-/// A translation visits only rules that the edits up to its version added, so their numbers are from 1 to the version.
+/// A translation visits only rules that the edits through its version added, so their numbers are from 1 to how many these
+/// are.
 pub fn translations_visit_added_rules()
     ensures { (run : Run) (v : ℕ) (key : List ℕ)
-        → All (λ r. (1 ≤ r) × (r ≤ v)) (translated run v key).visits }
+        → All (λ r. (1 ≤ r) × (r ≤ edits_through run.bundles v)) (translated run v key).visits }
 {}
 
 /// What a rule is due is no more than all frames can make it, each visiting it at every lookup.

@@ -161,7 +161,7 @@ stepped_least run v step port most (b ∷ bs) =
 abbrev pub schedule_of : ℕ → ℕ → List Board → Schedule
 schedule_of newest unmet boards = record { newest = newest; boards = boards; unmet = unmet }
 
--- an edit is published, or not
+-- a bundle is published, or not
 pub edit_is : (run : Run) (v unmet w : ℕ) (met : Bool) (boards : List Board) → met ≡ nat_lt v (hi run (least_block (last_block run) boards)) → w ≡ (if met then v + 1 else v)
     → all_by_number (schedule_of w (counted met unmet) boards) ≡ all_by_number (with_edit_step run (schedule_of v unmet boards))
 edit_is run v unmet w met boards is at =

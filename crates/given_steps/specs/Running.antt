@@ -12,7 +12,7 @@ use Rattle.given_steps.specs.ScheduledViews.{ScheduledView, scheduled}
 abbrev pub AreOfPorts : Run → List ScheduledView → Type 0
 AreOfPorts run boards = map (λ (b : ScheduledView). b.board.port) boards ≡ run.ports
 
--- as the definition of schedules sees them, where so many edits are published and so many steps were not met
+-- as the definition of schedules sees them, where so many bundles are published and so many steps were not met
 abbrev pub schedule_in : Run → ℕ → ℕ → List ScheduledView → Schedule
 schedule_in run newest unmet boards = record { newest = newest; boards = map (scheduled run) boards; unmet = unmet }
 

@@ -18,7 +18,7 @@
 //! - A step translates one key at most. Out of memory is the only error, and then the board is left on the way.
 //! - `run_steps` carries out a list of given steps on the boards of a run, one after the other, as `spec_board` defines it
 //!   (`with_given_steps`), and answers the boards and how many steps were unmet. A step of a port that isn't the run's is
-//!   unmet, and an edit where none of the least block of the boards is left. Kept translations are given up at the end.
+//!   unmet, and an edit where no bundle of the least block of the boards is left. Kept translations are given up at the end.
 //! - `run_schedule` carries out the whole schedule of a run: its given steps, on new boards, and then the end of every run.
 //!   The journals are those of the schedule (`AreJournals`). Where no steps are given, each frame is decided under the last
 //!   version of its block.

@@ -101,7 +101,7 @@ fn least_block<C: Case>(run: &RunData<C>, boards: &[ScheduledBoard<C>]) -> u32
     least
 }
 
-// Publishes the next edit, if one of the least block of the boards is left, and answers whether it did.
+// Publishes the next bundle, if one of the least block of the boards is left, and answers whether it did.
 fn publish<C: Case>(
     run: &RunData<C>,
     edits: &RunEdits<C>,

@@ -4,8 +4,10 @@ use Rattle.std.specs.Option.{option_and_then}
 use Rattle.spec_pcap.specs.Pcap.{Frame, snap_length}
 use Rattle.spec_keys.specs.Keys.{agree}
 use Rattle.spec_xlate.specs.Translation.{Translation}
+use Rattle.spec_tables.specs.Bundles.{edits_through}
 use Rattle.spec_case.specs.Run.{Run, last_version, frame_at, frames_of}
 use Rattle.spec_case.specs.Blocks.{AreInOrder}
+use Rattle.spec_tables.specs.Bundles.{edits_through}
 use Rattle.spec_board.specs.declared.looked.Looked.{Looked}
 use Rattle.spec_board.specs.declared.looked.Looked.TheVariants.{Exact, Mega, Miss}
 use Rattle.spec_board.specs.declared.put_done.PutDone.{PutDone}
@@ -114,7 +116,7 @@ can_hit run port limit steps c number length_ place legal short are few size liv
 
 -- ---- rules
 
-pub are_rules : (run : Run) (v rules : ℕ) (key : List ℕ) → v ≤ rules → AreRules rules (translated run v key).visits
+pub are_rules : (run : Run) (v rules : ℕ) (key : List ℕ) → edits_through run.bundles v ≤ rules → AreRules rules (translated run v key).visits
 are_rules run v rules key le = λ k d within. (let a = visits_added run v key k d within in (a.0, let b = a.1 in omega (arith, b, le)))
 
 -- ---- slots

@@ -4,7 +4,8 @@ use Rattle.std.proofs.lemmas.List.{map-append}
 use Rattle.std.proofs.lemmas.Bool.{cases_lt}
 use Rattle.spec_keys.specs.Keys.{IsKey}
 use Rattle.spec_actions.specs.declared.action.DpAction.{DpAction}
-use Rattle.spec_case.specs.Run.{Run, last_version}
+use Rattle.spec_tables.specs.Bundles.{AreBundles}
+use Rattle.spec_case.specs.Run.{Run, edit_count, last_version}
 use Rattle.spec_case.specs.Blocks.{AreInOrder}
 use Rattle.spec_board.specs.Steps.{Step}
 use Rattle.spec_board.specs.State.{State, Decided, place_at, is_decided}
@@ -103,6 +104,7 @@ pushed run b c step k p blocks legal keys versions places caches room =
     let keys_now : HasKeys run c.port (state_of run (view_of c)).next = rw (state, p.port) keys in
     record {
       has_port = rw p.port k.has_port;
+      bundled = k.bundled;
       in_order = k.in_order;
       legal = legal_now;
       has_keys = keys_now;
@@ -122,16 +124,17 @@ pushed_as run b c step t led k p blocks legal keys versions places caches room =
     pushed run b c step k p blocks legal (rw led keys) (rw led versions) (rw led places) (rw led caches) room
 
 -- A new board keeps what it has to.
-pub opened_keeps : {X : Type 0} (run : Run) (b : Inside X) → HasPort run.ports b.port → AreInOrder run.syncs (last_version run)
+pub opened_keeps : {X : Type 0} (run : Run) (b : Inside X) → HasPort run.ports b.port → AreBundles run.bundles (edit_count run) → AreInOrder run.syncs (last_version run)
     → b.journal.items ≡ [] → AreVersionsOf b (opened run b.port) → ArePlacesOf b (opened run b.port) → HasCachesOf run b (opened run b.port)
     → AreBounds run b.port b.blocks.items → HasRoom run b → IsKept run b
-opened_keeps run b has_port in_order none versions places caches bounds room =
+opened_keeps run b has_port bundled in_order none versions places caches bounds room =
     let empty = ap steps_view none in
     let state : state_of run (view_of b) ≡ opened run b.port = ap (after run b.port) empty in
     let legal : IsLegal run b.port b.caches.limit (steps_view b.journal.items) = subst (IsLegal run b.port b.caches.limit) (sym empty) tt in
     let keys : HasKeys run b.port (state_of run (view_of b)).next = rw state (λ place first last. absurd (omega (arith, first, last))) in
     record {
       has_port = has_port;
+      bundled = bundled;
       in_order = in_order;
       legal = legal;
       has_keys = keys;

@@ -35,6 +35,7 @@ kept_roomier run b journal d k more same =
     let state = ap (state_of run) view in
     record {
       has_port = k.has_port;
+      bundled = k.bundled;
       in_order = k.in_order;
       legal = rw (limit, more.items) k.legal;
       has_keys = subst (λ (s : State). HasKeys run b.port s.next) (sym state) k.has_keys;

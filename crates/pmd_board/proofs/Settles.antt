@@ -4,7 +4,8 @@ use Rattle.std.specs.Option.{option_map}
 use Rattle.std.specs.Prelude.{not}
 use Rattle.spec_pcap.specs.Pcap.{Frame}
 use Rattle.spec_xlate.specs.Translation.{Translation}
-use Rattle.spec_case.specs.Run.{Run, last_version, frame_at, frames_of}
+use Rattle.spec_tables.specs.Bundles.{AreBundles, edits_through}
+use Rattle.spec_case.specs.Run.{Run, edit_count, last_version, frame_at, frames_of}
 use Rattle.spec_case.specs.Blocks.{AreInOrder, hi}
 use Rattle.spec_board.specs.declared.put_done.PutDone.{PutDone}
 use Rattle.spec_board.specs.Steps.{Step, Settle, Put, Settled, Present, Full, Installed}
@@ -13,6 +14,7 @@ use Rattle.spec_board.specs.Results.{covering, entry_of, key_at, mask_for, numbe
 use Rattle.spec_board.specs.Effects.{effect, key_of_entry, put_by, with_put}
 use Rattle.spec_board.specs.Refusals.{put_fault, settle_fault}
 use Rattle.spec_board.specs.Journals.{IsLegal, after}
+use Rattle.bundle_laws.proofs.Bundles.{within}
 use Rattle.board_laws.specs.Entries.{HasKeys}
 use Rattle.board_laws.proofs.Kept.{kept_after}
 use Rattle.board_laws.proofs.NumberLaws.{among_number, entry_of-among, entry_of-some, is_among-Among}
@@ -33,10 +35,13 @@ pub record IsMadeOf (run : Run) (own : List ℕ) (v : ℕ) (key mask : List ℕ)
   pub translation_is : t ≡ translated run v own
 
 pub visits_rules : (run : Run) (own : List ℕ) (v rules : ℕ) (key mask : List ℕ) (t : Translation) → IsMadeOf run own v key mask t
-    → rules ≡ last_version run → AreInOrder run.syncs (last_version run) → (block : ℕ) → v ≤ hi run block → AreRules rules t.visits
-visits_rules run own v rules key mask t made all in_order block le =
+    → rules ≡ edit_count run → AreBundles run.bundles (edit_count run) → AreInOrder run.syncs (last_version run)
+    → (block : ℕ) → v ≤ hi run block → AreRules rules t.visits
+visits_rules run own v rules key mask t made all bundled in_order block le =
+    let h = (in_order block).1 in
+    let through : edits_through run.bundles v ≤ edit_count run = within run.bundles (edit_count run) bundled v (omega (arith, h, le)) in
     subst (λ (x : Translation). AreRules rules x.visits) (sym made.translation_is)
-    (are_rules run v rules own (let h = (in_order block).1 in omega (arith, h, le, all)))
+    (are_rules run v rules own (omega (arith, through, all)))
 
 -- ---- settles
 

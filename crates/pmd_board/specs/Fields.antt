@@ -1,7 +1,8 @@
 -- What a board's type keeps: its journal is legal, and its fields are those of the state that the journal leads to.
 use Rattle.std.specs.Prelude.{◌≡◌, ℕ, ◌+◌, ◌-◌, ◌^◌, ◌<◌, ◌≤◌, Bool, if◌then◌else◌, List, All, length, map, slice_get, Some}
 use Rattle.std.specs.Vec.{vec_len, vec_capacity}
-use Rattle.spec_case.specs.Run.{Run, last_version, frames_of}
+use Rattle.spec_tables.specs.Bundles.{AreBundles}
+use Rattle.spec_case.specs.Run.{Run, edit_count, last_version, frames_of}
 use Rattle.spec_case.specs.Blocks.{AreInOrder, hi, last_block, last_place}
 use Rattle.spec_board.specs.State as states
 use Rattle.spec_board.specs.Journals.{IsLegal}
@@ -54,7 +55,7 @@ pub record ArePlacesOf {X : Type 0} (b : Inside X) (s : states.State) : Type 0 w
 pub record HasCachesOf {X : Type 0} (run : Run) (b : Inside X) (s : states.State) : Type 0 where
   pub caches : AreCachesOf b.caches s
   pub listed : s.listed ≡ b.listed
-  pub rules : b.caches.rules ≡ last_version run
+  pub rules : b.caches.rules ≡ edit_count run
   pub made : b.caches.made + b.pending + 1 ≤ b.next
 
 -- ---- what the fields keep besides
@@ -87,6 +88,7 @@ pub record HasRoom {X : Type 0} (run : Run) (b : Inside X) : Type 0 where
 -- of the fields; its fields are those of the state that the journal leads to, part by part.
 pub record IsKept {X : Type 0} (run : Run) (b : Inside X) : Type 0 where
   pub has_port : HasPort run.ports b.port
+  pub bundled : AreBundles run.bundles (edit_count run)
   pub in_order : AreInOrder run.syncs (last_version run)
   pub legal : IsLegal run b.port b.caches.limit (steps_view b.journal.items)
   pub has_keys : HasKeys run b.port (state_of run (view_of b)).next

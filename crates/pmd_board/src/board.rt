@@ -2,7 +2,7 @@ ghost use Rattle.std.specs.Prelude.{ℕ, ◌≡◌, ◌<◌, ◌≤◌, ◌+◌,
 ghost use Rattle.std.specs.List.{find};
 ghost use Rattle.std.specs.Option.{option_map};
 ghost use Rattle.ovs_fields.specs.Packed.{numbers};
-ghost use Rattle.spec_case.specs.Run.{frames_of, last_version};
+ghost use Rattle.spec_case.specs.Run.{edit_count, frames_of, last_version};
 ghost use Rattle.spec_case.specs.Blocks.{AreInOrder, hi, last_block, last_place};
 ghost use Rattle.spec_board.specs.State as states;
 ghost use Rattle.spec_board.specs.Results.{entry_of};
@@ -133,7 +133,7 @@ impl<C: Case> Board<C> {
             clock: 0,
             pending: 0,
             places: vec![in alloc; Place::Waiting; frames]?,
-            caches: PortCaches::new(alloc, flow_limit, run.last_version())?,
+            caches: PortCaches::new(alloc, flow_limit, run.edit_count())?,
             journal,
             of: PhantomData,
         })
@@ -280,7 +280,7 @@ impl<C: Case> Board<C> {
 
     /// What each rule was credited with. What entries owe it comes on top.
     pub fn totals(&self) -> &Totals
-        ensures rules { length result.now ≡ last_version C.run }
+        ensures rules { length result.now ≡ edit_count C.run }
         ensures totals { (rule : ℕ)
             → total_of result.now rule ≡ (state_of C.run self.now).totals rule }
         ensures lawful { IsLawful C.run self.now }

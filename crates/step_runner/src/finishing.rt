@@ -118,7 +118,7 @@ fn least_block<C: Case>(run: &RunData<C>, boards: &[Board<C>]) -> u32
     least
 }
 
-/// Finishes the least block that a board is in: all of its edits are published, and each board in it is carried to its
+/// Finishes the least block that a board is in: all of its bundles are published, and each board in it is carried to its
 /// end, whatever was done of it before. A sweep that runs is ended, frames that are pending are settled, a sweep of the
 /// block's last version is made where none was completed, the frames that are left are decided, and the next block is
 /// opened.

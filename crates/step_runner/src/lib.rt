@@ -24,7 +24,7 @@
 //! # How
 //!
 //! All boards go through a block before one goes through the next: the least block of all boards is finished in turn.
-//! The tables follow the edits of the run up to the last version of the block, once for all boards (`run_tables`). In
+//! The tables follow the bundles of the run up to the last version of the block, once for all boards (`run_tables`). In
 //! each block a board ends the sweep that runs, settles the frames that are pending, and makes a sweep of that version,
 //! where none was completed: it puts each megaflow that is listed, in rising order, by the translation of its key
 //! (`sweeping`). Each translation is made in the memory of lists that the put before it gave back. Then the board looks

@@ -1,6 +1,7 @@
 -- That what the workers of a phase share may be shared among threads, and that what each has may go to one, part by part: one
 -- search through all of their fields would not come to an end.
 use denote.Param.Send.{IsSend, IsSync, sendable}
+use denote.Plain.{Nothing}
 use denote.RattleType.{RattleType}
 use Rattle.std.proofs.Crossing.{crosses}
 use Rattle.atomic_table.proofs.send_lease.SendLease.TheSendSync as lease
@@ -35,7 +36,9 @@ use denote.Ref.{NamedLft}
 use denote.Struct.Tuple.{TupleAt}
 use mir.Syntax.{Sym}
 use Rattle.std.specs.Prelude.{[], ◌∷◌}
+use Rattle.std.specs.contracts.alloc.AllocError as alloc_error
 use Rattle.std.specs.contracts.option.Option as option
+use Rattle.std.specs.contracts.result.Result as result
 
 edit_sync : IsSync edit.the_row
 edit_sync = search (sendable, crosses, actions_sync, matching_sync) depth 100 fits 20000
@@ -108,3 +111,7 @@ tuple5_send n A B D E F a b d e f = search sendable depth 20
 
 pub some_send : (A : RattleType) → IsSend A → IsSend (option.the_row A)
 some_send A a = search sendable depth 20
+
+-- whether there was memory for all that was to be done
+pub done_send : IsSend (result.the_row Nothing alloc_error.the_row)
+done_send = search (sendable, crosses) depth 20

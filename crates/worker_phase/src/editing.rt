@@ -16,7 +16,7 @@ pub struct PhaseEditor<C: Case, P: Phase> {
     pub ghost publication_is: { editor.publication ≡ P.publication },
 }
 
-// Publishes the edits of the block, in order, and tells each version. It stops where memory is wanting.
+// Publishes the bundles of the block, in order, and tells each version. It stops where memory is wanting.
 fn publish_block<C: Case, P: Phase, R: Wait>(
     rt: &R,
     shared: &Shared<'_, C, P>,
@@ -26,7 +26,7 @@ fn publish_block<C: Case, P: Phase, R: Wait>(
     ensures { result.publication ≡ P.publication }
 {
     let mut editor = editor;
-    'edits: for _ in rt.forever() {
+    'bundles: for _ in rt.forever() {
         if editor.version() >= shared.last {
             break;
         }
@@ -52,7 +52,7 @@ fn put_back<C: Case, P: Phase, R: Wait>(
     }
 }
 
-/// Publishes the edits of the block with the editor that lies in a slot, puts it back, and says that it has ended.
+/// Publishes the bundles of the block with the editor that lies in a slot, puts it back, and says that it has ended.
 pub fn edit<C: Case, P: Phase, R: Wait>(
     rt: &R,
     shared: &Shared<'_, C, P>,

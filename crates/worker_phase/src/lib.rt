@@ -5,7 +5,7 @@
 //! A switch doesn't look frames up, translate them and keep its caches right in one thread. In Open vSwitch PMD threads
 //! poll the ports, handlers translate what no cache knows, revalidators go over the megaflows when flows change, and the
 //! flows change while all of that goes on. Here each block of a run is a *phase* of such threads. With N workers it has N
-//! *receive workers*, N *handlers*, a *revalidator*, and an *editor*, which publishes the edits of the block. They meet in a
+//! *receive workers*, N *handlers*, a *revalidator*, and an *editor*, which publishes the bundles of the block. They meet in a
 //! lock round each port's board, in a queue of upcalls, and in published tables.
 //!
 //! # What is promised
@@ -32,13 +32,13 @@
 //! - A **handler** (`handling`) takes its share of the upcalls that wait, and those of one port have one lock for their
 //!   settles. No lock is held from a translation to its use: what has grown old meanwhile the board refuses. A handler ends
 //!   where the queue is empty after all receive workers have ended.
-//! - The **editor** (`editing`) publishes the block's edits in order, and puts news of each version into the mailbox of
+//! - The **editor** (`editing`) publishes the block's bundles in order, and puts news of each version into the mailbox of
 //!   each seer (`mailbox`).
 //! - The **revalidator** (`revalidating`) makes a sweep of each board, and another where a newer version was told meanwhile.
 //! - **Threads** (`scoped`) are started in this order: receive workers, editor, handlers, revalidator. Where none can be
 //!   made, the calling thread does the work at once.
 //! - At the **end** of a phase (`assembling`, `deciding`) the calling thread takes in the passes and pops what is left in the
-//!   queue. It carries tables of its own on by the block's edits, and with these `close_phase` completes the block.
+//!   queue. It carries tables of its own on by the block's bundles, and with these `close_phase` completes the block.
 //!
 //! A look takes a fraction of the time of a translation. Receive workers that know no brake would look the whole block up in
 //! a moment: each frame of a new flow would miss, the queue would be full, and what it refuses is left to the end of the

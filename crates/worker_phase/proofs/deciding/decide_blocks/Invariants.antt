@@ -1,4 +1,4 @@
-use Rattle.std.proofs.Common.{◌≡◌, ◌≤◌, ◌<◌}
+use Rattle.std.proofs.Common.{◌≤◌, ◌<◌}
 use Rattle.spec_case.specs.Blocks.{hi, last_block}
 use Rattle.step_runner.specs.Finished.{AreFinished}
 use Rattle.worker_phase.proofs.deciding.decide_blocks.Given as goal

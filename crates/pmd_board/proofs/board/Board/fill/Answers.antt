@@ -48,7 +48,7 @@ settle-requires-clause-rules g c =
     rw version (subst (λ (x : BoardView). settle_fault run (state_of run x) at.place c.args.made.version ≡ None) (sym c.self.view_is) c.requires.may) in
     let made : IsMadeOf run own v own (mask_for run v own) (translation_in c.into_parts-made.result.0) =
     record { key_is = refl; mask_is = refl; translation_is = c.into_parts-made.ensures.translation ∙ ap (λ x. translated run x own) (sym version) } in
-    visits_rules run own v b.caches.rules own (mask_for run v own) (translation_in c.into_parts-made.result.0) made k.caches.rules k.in_order s.block (may_settle run s at.place v may).not_ahead
+    visits_rules run own v b.caches.rules own (mask_for run v own) (translation_in c.into_parts-made.result.0) made k.caches.rules k.bundled k.in_order s.block (may_settle run s at.place v may).not_ahead
 
 pub settle-requires-clause-fits : goal.settle-requires-clause-fits
 settle-requires-clause-fits g c =

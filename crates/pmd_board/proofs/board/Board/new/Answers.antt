@@ -20,7 +20,7 @@ invariant_of-result g c =
     let caches = c.in_ok-new.ensures in
     let empty = caches.empty n in
     let none : c.new.result ≡ [] = c.new.ensures in
-    opened_keeps run _ c.requires c.args.run.now.in_order no_steps
+    opened_keeps run _ c.requires c.args.run.now.bundled c.args.run.now.in_order no_steps
     (record { block = refl; newest = refl; floor = refl; done = refl; is_sweeping = refl })
     (record {
       next = refl;
@@ -32,7 +32,7 @@ invariant_of-result g c =
     (record {
       caches = empty;
       listed = sym none;
-      rules = caches.rules ∙ c.last_version.ensures;
+      rules = caches.rules ∙ c.edit_count.ensures.count;
       made = (let made = empty.made in omega (arith, made));
     })
     bounds

@@ -37,7 +37,7 @@ put-revalidated-requires-clause-rules g c =
     rw version (subst (λ (x : BoardView). put_fault run (state_of run x) c.args.number c.args.made.version ≡ None) (sym c.self.view_is) c.requires.may) in
     let made : IsMadeOf run own v own (mask_for run v own) (translation_in c.into_parts-made.result.0) =
     record { key_is = refl; mask_is = refl; translation_is = c.into_parts-made.ensures.translation ∙ ap (λ x. translated run x own) (sym version) } in
-    visits_rules run own v b.caches.rules own (mask_for run v own) (translation_in c.into_parts-made.result.0) made k.caches.rules k.in_order s.block (may_put run s c.args.number v may).not_ahead
+    visits_rules run own v b.caches.rules own (mask_for run v own) (translation_in c.into_parts-made.result.0) made k.caches.rules k.bundled k.in_order s.block (may_put run s c.args.number v may).not_ahead
 
 pub put-revalidated-requires-clause-fits : goal.put-revalidated-requires-clause-fits
 put-revalidated-requires-clause-fits g c s e these clock found =

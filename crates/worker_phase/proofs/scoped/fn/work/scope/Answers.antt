@@ -1,15 +1,13 @@
 -- A worker's thread takes what it has, and what all share.
 use denote.Exit as exit
 use denote.Param.{param}
-use denote.Param.Send.{IsSend, IsSync, sendable, param_send, param_sync, arg_send, shr_send, mut_send}
+use denote.Param.Send.{IsSend, IsSync, param_send, param_sync, arg_send, shr_send, mut_send}
 use denote.Ref.{MutRef, NamedLft, ShrRef}
 use mir.Syntax.{named}
 use Rattle.std.proofs.Crossing as std
-use Rattle.std.proofs.Crossing.{crosses}
 use Rattle.std.specs.contracts.option.Option as option
-use Rattle.worker_phase.proofs.Crossing.{handler_send, phase_editor_send, receiver_send, revalidator_send, shared_sync, some_send, tuple2_send, tuple3_send, tuple4_send, tuple5_send}
+use Rattle.worker_phase.proofs.Crossing.{done_send, handler_send, phase_editor_send, receiver_send, revalidator_send, shared_sync, some_send, tuple2_send, tuple3_send, tuple4_send, tuple5_send}
 use Rattle.worker_phase.proofs.scoped.fn.work.scope.Goals as goal
-use Rattle.worker_phase.proofs.scoped.fn.work.scope.Lts as lts
 use Rattle.worker_phase.specs.contracts.editing.PhaseEditor as phase_editor
 use Rattle.worker_phase.specs.contracts.shared.Shared as shared_state
 
@@ -61,9 +59,8 @@ spawn-requires-in-handlers-send-T g c κs within =
     let c_sync : IsSync (param 0 g.row.C) = param_sync 0 _ bounds.2 in
     let of_send : IsSend (param 1 g.row.P) = param_send 1 _ bounds.1 in
     let of_sync : IsSync (param 1 g.row.P) = param_sync 1 _ bounds.3 in
-    let done : IsSend (lts.of-12 g.row.C g.row.P g.row.R g.row.G g.C.laws g.P.laws g.R.laws g.G.laws g.C.Case g.C.Case-dict g.P.Phase g.P.Phase-dict g.R.Threads g.R.Threads-dict g.R.Wait g.R.Wait-dict g.G.Gate g.G.Gate-dict) = search (sendable, crosses) depth 20 in
     let handler = handler_send (param 0 g.row.C) (param 1 g.row.P) g.C.Case g.P.Phase c_send c_sync of_send of_sync in
-    param_send 2 _ (arg_send _ exit.no _ (tuple2_send _ _ _ handler done))
+    param_send 2 _ (arg_send _ exit.no _ (tuple2_send _ _ _ handler done_send))
 
 pub spawn-requires-3-send-F : goal.spawn-requires-3-send-F
 spawn-requires-3-send-F g c κs within =
@@ -86,6 +83,5 @@ spawn-requires-3-send-T g c κs within =
     let c_sync : IsSync (param 0 g.row.C) = param_sync 0 _ bounds.2 in
     let of_send : IsSend (param 1 g.row.P) = param_send 1 _ bounds.1 in
     let of_sync : IsSync (param 1 g.row.P) = param_sync 1 _ bounds.3 in
-    let done : IsSend (lts.of-12 g.row.C g.row.P g.row.R g.row.G g.C.laws g.P.laws g.R.laws g.G.laws g.C.Case g.C.Case-dict g.P.Phase g.P.Phase-dict g.R.Threads g.R.Threads-dict g.R.Wait g.R.Wait-dict g.G.Gate g.G.Gate-dict) = search (sendable, crosses) depth 20 in
     let revalidator = revalidator_send (param 0 g.row.C) (param 1 g.row.P) g.C.Case g.P.Phase c_send c_sync of_send of_sync in
-    param_send 2 _ (arg_send _ exit.no _ (tuple2_send _ _ _ revalidator done))
+    param_send 2 _ (arg_send _ exit.no _ (tuple2_send _ _ _ revalidator done_send))
