@@ -1,3 +1,4 @@
+pub mod Begun
 pub mod LineFaults
 pub mod ScriptViews
 pub mod WellFormed

@@ -1,10 +1,11 @@
-//! Scripts: the file of edits, with its sync lines, read whole.
+//! Scripts: the file of edits, with its bundles and its sync lines, read whole.
 //!
 //! # What?
 //!
-//! A *script* is what a file of edits says: the edits of the tables, in the order of its lines, and the sync points
-//! between them. A line is an edit as ovs-ofctl(8) writes flows, with the word of the edit before it, or `sync` and a time
-//! in seconds, or blank. From `#` on it is comment. `read_script` makes a script of the bytes of a file.
+//! A *script* is what a file of edits says: the edits of the tables, in the order of its lines, the bundles that they make,
+//! and the sync points between these. A line is an edit as ovs-ofctl(8) writes flows, with the word of the edit before it,
+//! or `sync` and a time in seconds, or blank. The edits between the lines `begin` and `commit` are one bundle, and each
+//! other edit is one by itself. From `#` on a line is comment. `read_script` makes a script of the bytes of a file.
 //!
 //! # What is promised
 //!
@@ -15,8 +16,10 @@
 //! - Where a fault is answered, it is the first of the file, with the number of its line, and its column where it is one of
 //!   text. Memory that runs out is the one other answer.
 //! - The actions of each edit are sound: their tables, slices, values and masks are within their ranges.
+//! - Each bundle has an edit, and together they have all edits. A file that ends in a bundle is refused where that was
+//!   begun, if no line has a fault.
 //! - A script has at most 32,768 edits and 63 sync points. Times of sync points never fall, and neither do the counts of
-//!   the edits before them.
+//!   the bundles before them, which are no more than there are.
 //!
 //! # How
 //!
@@ -24,7 +27,9 @@
 //! they spell. An edit takes memory for its actions, and for what its match states, which is given back with the line. A
 //! line is looked at a few times: for its end, for its comment, for white space, and by the readers of matches and actions.
 //!
-//! What is read so far stands in one `Script`, to which each line adds. A sync point counts the edits that stand there.
+//! What is read so far stands in one `Script`, to which each line adds, and beside it where the bundle was begun that the
+//! lines are in. A bundle is told by how many edits stand through it; an edit outside of one closes its own at once. A sync
+//! point counts the bundles that stand there.
 //!
 //! Each function reads what one definition says, and has its name.
 //!
@@ -38,8 +43,8 @@
 mod edit_line;
 mod line_words;
 mod script;
-mod sync_line;
 mod told;
+mod word_lines;
 
 pub use rule_tables::{Edit, SyncPoint};
 pub use script::{MOST_BYTES, MOST_EDITS, Script, read_script};

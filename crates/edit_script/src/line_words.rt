@@ -1,5 +1,5 @@
 ghost use Rattle.std.specs.Prelude.{◌≡◌, ◌≤◌, length};
-ghost use Rattle.spec_script.specs.Script.{is_blank, is_sync};
+ghost use Rattle.spec_script.specs.Script.{is_blank, begins_with};
 
 use field_text::{first_word, is_white, uncommented};
 
@@ -10,10 +10,10 @@ pub fn is_blank(line: &[u8]) -> bool
     uncommented(line).iter().all(|byte| is_white(*byte))
 }
 
-/// Whether a line's first word is `sync`.
-pub fn is_sync(line: &[u8]) -> bool
+/// Whether this is a line's first word.
+pub fn begins_with(word: &str, line: &[u8]) -> bool
     requires { length line.now ≤ 4_294_967_294 }
-    ensures { result ≡ is_sync line.now }
+    ensures { result ≡ begins_with word.now line.now }
 {
-    "sync".as_bytes() == first_word(uncommented(line)).text
+    word.as_bytes() == first_word(uncommented(line)).text
 }

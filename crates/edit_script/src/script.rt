@@ -1,17 +1,22 @@
-ghost use Rattle.std.specs.Prelude.{◌≡◌, ◌≤◌, length, IsTrue, IfOk};
+ghost use Rattle.std.specs.Prelude.{◌≡◌, ◌<◌, ◌≤◌, length, IsTrue, IfOk, Ok};
 ghost use Rattle.std.specs.List.{list_all};
 ghost use Rattle.spec_case.specs.Blocks.{AreInOrder};
 ghost use Rattle.spec_flow_text.specs.Lines.{edit_in};
+ghost use Rattle.spec_flow_text.specs.declared.fault.TextFault.TheVariants.{Syntax};
+ghost use Rattle.spec_script.specs.declared.fault.ScriptFault.TheVariants.{Line};
 ghost use Rattle.spec_script.specs.Given.{Gives};
-ghost use Rattle.spec_script.specs.Script.{most_line_bytes, most_edits, most_syncs, in_line, last_time, sync_time, with_edit, with_sync, with_line, script_of};
+ghost use Rattle.spec_script.specs.Script.{most_line_bytes, most_edits, most_syncs, nothing_read, in_line, last_time, sync_time, word_alone, with_bundle, with_edit_in, with_edit, with_sync, with_begin, with_commit, with_line, with_lines, lines_of, script_of};
+ghost use Rattle.spec_tables.specs.Bundles.{edits_through, AreBundles};
 ghost use Rattle.spec_tables.specs.Edits.{has_sound_actions};
-ghost use Rattle.edit_script.specs.ScriptViews.{script_view};
+ghost use Rattle.edit_script.specs.Begun.{begun_view};
+ghost use Rattle.edit_script.specs.ScriptViews.{script_view, reading_view};
 ghost use Rattle.edit_script.specs.WellFormed.{IsWellFormed};
 
 use crate::edit_line::read_edit;
-use crate::line_words::{is_blank, is_sync};
-use crate::sync_line::read_sync_time;
+use crate::line_words::{begins_with, is_blank};
 use crate::told::in_line;
+use crate::word_lines::{Begun, read_sync_time, read_word_alone};
+use field_text::TextFault;
 use rule_tables::{Edit, SyncPoint};
 use spec_script::ScriptFault;
 use std::alloc::Global;
@@ -33,8 +38,18 @@ const MOST_LINE_BYTES: usize = 4096;
 pub struct Script {
     /// The edits, in the order of their lines.
     pub edits: Vec<Edit>,
+    /// How many edits stand through each bundle.
+    pub bundles: Vec<u32>,
     /// The sync points, in the order of their lines.
     pub syncs: Vec<SyncPoint>,
+}
+
+/// What the lines so far say.
+#[derive(Debug, Drop)]
+struct Reading {
+    said: Script,
+    /// Where the bundle that the lines are in was begun, if they are in one.
+    begun: Option<Begun>,
 }
 
 fn edit_in_line(alloc: Global, number: u32, line: &[u8]) -> Result<Edit, ScriptFault>
@@ -45,11 +60,53 @@ fn edit_in_line(alloc: Global, number: u32, line: &[u8]) -> Result<Edit, ScriptF
     in_line(number, read_edit(alloc, line))
 }
 
-fn time_in_line(number: u32, line: &[u8]) -> Result<u64, ScriptFault>
+fn time_in_line(number: u32, begun: Option<Begun>, line: &[u8]) -> Result<u64, ScriptFault>
     requires { length line.now ≤ most_line_bytes }
-    ensures { Gives (λ time. time) result (in_line number (sync_time line.now)) }
+    ensures { Gives (λ time. time) result (in_line number (sync_time (begun_view begun) line.now)) }
 {
-    in_line(number, read_sync_time(line))
+    in_line(number, read_sync_time(begun, line))
+}
+
+fn word_in_line(number: u32, may_stand: bool, line: &[u8]) -> Result<u32, ScriptFault>
+    requires { length line.now ≤ most_line_bytes }
+    ensures { Gives (λ column. column) result (in_line number (word_alone may_stand line.now)) }
+{
+    in_line(number, read_word_alone(may_stand, line))
+}
+
+// How many edits stand in bundles.
+fn last_through(bundles: &[u32]) -> u32
+    ensures { result ≡ edits_through bundles.now (length bundles.now) }
+{
+    match bundles.last() {
+        None => 0,
+        Some(through) => *through,
+    }
+}
+
+// The script with a bundle of the edits since the last one, if there are any.
+fn with_bundle(mut script: Script) -> Result<Script, ScriptFault>
+    requires { length script.edits.items ≤ most_edits }
+    ensures { Gives script_view result (Ok (with_bundle (script_view script))) }
+{
+    let through = script.edits.len() as u32;
+    if last_through(&script.bundles) >= through {
+        return Ok(script);
+    }
+    script.bundles.push(through)?;
+    Ok(script)
+}
+
+// The script with one more edit, which is a bundle by itself where none was begun.
+fn with_edit_in(begun: Option<Begun>, edit: Edit, mut script: Script) -> Result<Script, ScriptFault>
+    requires { length script.edits.items < most_edits }
+    ensures { Gives script_view result (Ok (with_edit_in (begun_view begun) edit (script_view script))) }
+{
+    script.edits.push(edit)?;
+    match begun {
+        None => with_bundle(script),
+        Some(_) => Ok(script),
+    }
 }
 
 // The script with the edit of one more line.
@@ -58,19 +115,20 @@ fn with_edit(
     alloc: Global,
     number: u32,
     line: &[u8],
-    mut script: Script,
-) -> Result<Script, ScriptFault>
+    reading: Reading,
+) -> Result<Reading, ScriptFault>
     requires short { length line.now ≤ most_line_bytes }
-    requires formed { IsWellFormed (script_view script) }
-    ensures value { Gives script_view result (with_edit number line.now (script_view script)) }
-    ensures formed { IfOk result (λ s. IsWellFormed (script_view s)) }
+    requires formed { IsWellFormed (reading_view reading) }
+    ensures value { Gives reading_view result (with_edit number line.now (reading_view reading)) }
+    ensures formed { IfOk result (λ r. IsWellFormed (reading_view r)) }
 {
-    if script.edits.len() >= MOST_EDITS {
+    let Reading { said, begun } = reading;
+    if said.edits.len() >= MOST_EDITS {
         return Err(ScriptFault::TooManyEdits);
     }
     let edit = edit_in_line(alloc, number, line)?;
-    script.edits.push(edit)?;
-    Ok(script)
+    let said = with_edit_in(begun, edit, said)?;
+    Ok(Reading { said, begun })
 }
 
 fn last_time(syncs: &[SyncPoint]) -> u64
@@ -84,74 +142,132 @@ fn last_time(syncs: &[SyncPoint]) -> u64
 
 // The script with the sync point of one more line.
 #[tactic(auto, unfolding(spec_script::specs::Script::with_sync))]
-fn with_sync(number: u32, line: &[u8], mut script: Script) -> Result<Script, ScriptFault>
+fn with_sync(number: u32, line: &[u8], mut reading: Reading) -> Result<Reading, ScriptFault>
     requires short { length line.now ≤ most_line_bytes }
-    requires formed { IsWellFormed (script_view script) }
-    ensures value { Gives script_view result (with_sync number line.now (script_view script)) }
-    ensures formed { IfOk result (λ s. IsWellFormed (script_view s)) }
+    requires formed { IsWellFormed (reading_view reading) }
+    ensures value { Gives reading_view result (with_sync number line.now (reading_view reading)) }
+    ensures formed { IfOk result (λ r. IsWellFormed (reading_view r)) }
 {
-    if script.syncs.len() >= MOST_SYNCS {
+    if reading.said.syncs.len() >= MOST_SYNCS {
         return Err(ScriptFault::TooManySyncs);
     }
-    let time = time_in_line(number, line)?;
-    if time < last_time(&script.syncs) {
+    let time = time_in_line(number, reading.begun, line)?;
+    if time < last_time(&reading.said.syncs) {
         return Err(ScriptFault::SyncOrder { line: number });
     }
-    let after = script.edits.len() as u32;
-    script.syncs.push(SyncPoint { time, after })?;
-    Ok(script)
+    let after = reading.said.bundles.len() as u32;
+    reading.said.syncs.push(SyncPoint { time, after })?;
+    Ok(reading)
+}
+
+// A bundle is begun.
+#[tactic(auto, unfolding(spec_script::specs::Script::with_begin))]
+fn with_begin(number: u32, line: &[u8], mut reading: Reading) -> Result<Reading, ScriptFault>
+    requires short { length line.now ≤ most_line_bytes }
+    requires formed { IsWellFormed (reading_view reading) }
+    ensures value { Gives reading_view result (with_begin number line.now (reading_view reading)) }
+    ensures formed { IfOk result (λ r. IsWellFormed (reading_view r)) }
+{
+    let column = word_in_line(number, reading.begun.is_none(), line)?;
+    reading.begun = Some(Begun {
+        line: number,
+        column,
+    });
+    Ok(reading)
+}
+
+// The bundle that was begun ends.
+#[tactic(auto, unfolding(spec_script::specs::Script::with_commit))]
+fn with_commit(number: u32, line: &[u8], reading: Reading) -> Result<Reading, ScriptFault>
+    requires short { length line.now ≤ most_line_bytes }
+    requires formed { IsWellFormed (reading_view reading) }
+    ensures value { Gives reading_view result (with_commit number line.now (reading_view reading)) }
+    ensures formed { IfOk result (λ r. IsWellFormed (reading_view r)) }
+{
+    word_in_line(number, reading.begun.is_some(), line)?;
+    let said = with_bundle(reading.said)?;
+    Ok(Reading { said, begun: None })
 }
 
 // The script with what one more line says.
 #[tactic(auto, unfolding(spec_script::specs::Script::with_line))]
-fn with_line(alloc: Global, number: u32, line: &[u8], script: Script) -> Result<Script, ScriptFault>
-    requires { IsWellFormed (script_view script) }
-    ensures value { Gives script_view result (with_line number line.now (script_view script)) }
-    ensures formed { IfOk result (λ s. IsWellFormed (script_view s)) }
+fn with_line(
+    alloc: Global,
+    number: u32,
+    line: &[u8],
+    reading: Reading,
+) -> Result<Reading, ScriptFault>
+    requires { IsWellFormed (reading_view reading) }
+    ensures value { Gives reading_view result (with_line number line.now (reading_view reading)) }
+    ensures formed { IfOk result (λ r. IsWellFormed (reading_view r)) }
 {
     if line.len() > MOST_LINE_BYTES {
         return Err(ScriptFault::LineTooLong);
     }
     if is_blank(line) {
-        return Ok(script);
+        return Ok(reading);
     }
-    if is_sync(line) {
-        with_sync(number, line, script)
+    if begins_with("sync", line) {
+        with_sync(number, line, reading)
+    } else if begins_with("begin", line) {
+        with_begin(number, line, reading)
+    } else if begins_with("commit", line) {
+        with_commit(number, line, reading)
     } else {
-        with_edit(alloc, number, line, script)
+        with_edit(alloc, number, line, reading)
     }
 }
 
-#[tactic(auto, unfolding(spec_script::specs::Script::script_of))]
-fn read_lines(alloc: Global, bytes: &[u8]) -> Result<Script, ScriptFault>
+// What all lines of a file say.
+fn read_lines(alloc: Global, bytes: &[u8]) -> Result<Reading, ScriptFault>
     requires { length bytes.now ≤ 33_554_432 }
-    ensures value { Gives script_view result (script_of bytes.now) }
-    ensures formed { IfOk result (λ s. IsWellFormed (script_view s)) }
+    ensures value { Gives reading_view result (with_lines 1 (lines_of bytes.now) nothing_read) }
+    ensures formed { IfOk result (λ r. IsWellFormed (reading_view r)) }
 {
-    let mut script = Script {
-        edits: Vec::new(alloc),
-        syncs: Vec::new(alloc),
+    let mut reading = Reading {
+        said: Script {
+            edits: Vec::new(alloc),
+            bundles: Vec::new(alloc),
+            syncs: Vec::new(alloc),
+        },
+        begun: None,
     };
     let mut number: u32 = 1;
     let mut rest = bytes;
     'lines: while let Some((line, more)) = cut_at(rest, b'\n') {
-        script = with_line(alloc, number, line, script)?;
+        reading = with_line(alloc, number, line, reading)?;
         number += 1;
         rest = more;
     }
-    with_line(alloc, number, rest, script)
+    with_line(alloc, number, rest, reading)
+}
+
+// What is wrong with a file that ends in a bundle.
+fn left_open(begun: Begun) -> ScriptFault
+    ensures { result ≡ Line begun.line (Syntax begun.column) }
+{
+    ScriptFault::Line {
+        line: begun.line,
+        why: TextFault::Syntax { col: begun.column },
+    }
 }
 
 /// The script of the bytes of a file, of which there are at most `MOST_BYTES`.
 ///
 /// A fault is the first of the file. Lines of it are counted from 1, and so are columns.
+#[tactic(auto, unfolding(spec_script::specs::Script::script_of))]
 pub fn read_script(alloc: Global, bytes: &[u8]) -> Result<Script, ScriptFault>
     requires { length bytes.now ≤ 33_554_432 }
     ensures script { Gives script_view result (script_of bytes.now) }
     ensures sound { IfOk result (λ s. IsTrue (list_all has_sound_actions s.edits.items)) }
     ensures edit_count { IfOk result (λ s. length s.edits.items ≤ most_edits) }
     ensures sync_count { IfOk result (λ s. length s.syncs.items ≤ most_syncs) }
-    ensures in_order { IfOk result (λ s. AreInOrder s.syncs.items (length s.edits.items)) }
+    ensures in_order { IfOk result (λ s. AreInOrder s.syncs.items (length s.bundles.items)) }
+    ensures bundles { IfOk result (λ s. AreBundles s.bundles.items (length s.edits.items)) }
 {
-    read_lines(alloc, bytes)
+    let reading = read_lines(alloc, bytes)?;
+    match reading.begun {
+        None => Ok(reading.said),
+        Some(begun) => Err(left_open(begun)),
+    }
 }

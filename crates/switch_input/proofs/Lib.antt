@@ -1,3 +1,4 @@
+pub mod BundleSlices
 pub mod Changes
 pub mod Lists
 pub mod Stages

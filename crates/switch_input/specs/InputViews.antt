@@ -9,6 +9,7 @@ use Rattle.spec_steps.specs.Steps.{most_steps}
 use Rattle.spec_mirrors.specs.Mirrors.{most_mirrors}
 use Rattle.spec_run.specs.Limits.{most_frames}
 use Rattle.spec_run.specs.Verdict as verdicts
+use Rattle.spec_tables.specs.Bundles.{AreBundles}
 use Rattle.spec_tables.specs.Edits.{has_sound_actions}
 use Rattle.rule_tables.specs.History.{history_of}
 use Rattle.edit_script.specs.ScriptViews.{script_view}
@@ -45,7 +46,8 @@ pub record IsWithinLimits (i : Inputs) : Type 0 where
   pub sound : IsTrue (list_all has_sound_actions i.script.edits.items)
   pub few_edits : length i.script.edits.items ≤ most_edits
   pub few_syncs : length i.script.syncs.items ≤ most_syncs
-  pub in_order : AreInOrder i.script.syncs.items (length i.script.edits.items)
+  pub in_order : AreInOrder i.script.syncs.items (length i.script.bundles.items)
+  pub bundles : AreBundles i.script.bundles.items (length i.script.edits.items)
   pub few_steps : length i.steps.items ≤ most_steps
   pub few_mirrors : length i.mirrors.items ≤ most_mirrors
-  pub rules : i.rules ≡ history_of i.script.edits.items
+  pub rules : i.rules ≡ history_of i.script.edits.items i.script.bundles.items

@@ -10,6 +10,7 @@ ghost use Rattle.spec_script.specs.Script.{most_edits, most_syncs};
 ghost use Rattle.spec_script.specs.declared.fault.ScriptFault.TheVariants as script;
 ghost use Rattle.spec_run.specs.Limits.{most_edits_bytes};
 ghost use Rattle.spec_run.specs.Verdict.{refused_script, script_within, with_few_changes, script_in};
+ghost use Rattle.spec_tables.specs.Bundles.{AreBundles};
 ghost use Rattle.spec_tables.specs.Edits.{has_sound_actions};
 ghost use Rattle.rule_tables.specs.History.{history_of};
 ghost use Rattle.edit_script.specs.ScriptViews.{script_view};
@@ -60,7 +61,8 @@ fn script_of<'a>(alloc: Global, name: &'a str, bytes: &[u8]) -> Result<Script, I
     ensures sound { IfOk result (λ s. IsTrue (list_all has_sound_actions s.edits.items)) }
     ensures few_edits { IfOk result (λ s. length s.edits.items ≤ most_edits) }
     ensures few_syncs { IfOk result (λ s. length s.syncs.items ≤ most_syncs) }
-    ensures in_order { IfOk result (λ s. AreInOrder s.syncs.items (length s.edits.items)) }
+    ensures in_order { IfOk result (λ s. AreInOrder s.syncs.items (length s.bundles.items)) }
+    ensures bundles { IfOk result (λ s. AreBundles s.bundles.items (length s.edits.items)) }
     ensures err { IfErr result (Explains (script_within name.now bytes.now)) }
     ensures no_fault { IfErr result (λ r. IfReadFault r (λ _. ⊥)) }
 {
@@ -71,15 +73,16 @@ fn script_of<'a>(alloc: Global, name: &'a str, bytes: &[u8]) -> Result<Script, I
 }
 
 // The rules of all versions that the edits make, where they change no more than they may.
-#[tactic(auto, unfolding(rule_tables::specs::History::history_of))]
+#[tactic(auto, unfolding(rule_tables::specs::History::edit_history))]
 fn few_rules_of<'a>(alloc: Global, script: &Script) -> Result<VersionedRules, InputRefusal<'a>>
-    requires { length script.now.edits.items < 2 ^ 32 }
+    requires few { length script.now.edits.items < 2 ^ 32 }
+    requires bundles { AreBundles script.now.bundles.items (length script.now.edits.items) }
     ensures ok { OnOk result (with_few_changes (script_view script.now) ≡ Ok (script_view script.now)) }
-    ensures rules { IfOk result (λ rules. rules ≡ history_of script.now.edits.items) }
+    ensures rules { IfOk result (λ rules. rules ≡ history_of script.now.edits.items script.now.bundles.items) }
     ensures err { IfErr result (Explains (with_few_changes (script_view script.now))) }
     ensures no_fault { IfErr result (λ r. IfReadFault r (λ _. ⊥)) }
 {
-    match rules_of(alloc, &script.edits)? {
+    match rules_of(alloc, &script.edits, &script.bundles)? {
         Some(rules) => Ok(rules),
         None => Err(InputRefusal::Input(InputFault::Limit(Quantity::Changes))),
     }
@@ -89,12 +92,14 @@ fn few_rules_of<'a>(alloc: Global, script: &Script) -> Result<VersionedRules, In
 fn edits_in<'a>(alloc: Global, name: &'a str, bytes: &[u8]) -> Result<EditsFile, InputRefusal<'a>>
     requires { length bytes.now ≤ most_edits_bytes }
     ensures ok { IfOk result (λ e. script_in_bytes name.now bytes.now ≡ Ok (script_view e.script)) }
-    ensures rules { IfOk result (λ e. e.rules ≡ history_of e.script.edits.items) }
+    ensures rules { IfOk result (λ e. e.rules ≡ history_of e.script.edits.items e.script.bundles.items) }
     ensures sound { IfOk result (λ e. IsTrue (list_all has_sound_actions e.script.edits.items)) }
     ensures few_edits { IfOk result (λ e. length e.script.edits.items ≤ most_edits) }
     ensures few_syncs { IfOk result (λ e. length e.script.syncs.items ≤ most_syncs) }
     ensures in_order { IfOk result
-        (λ e. AreInOrder e.script.syncs.items (length e.script.edits.items)) }
+        (λ e. AreInOrder e.script.syncs.items (length e.script.bundles.items)) }
+    ensures bundles { IfOk result
+        (λ e. AreBundles e.script.bundles.items (length e.script.edits.items)) }
     ensures err { IfErr result (Explains (script_in_bytes name.now bytes.now)) }
     ensures no_fault { IfErr result (λ r. IfReadFault r (λ _. ⊥)) }
 {
@@ -103,7 +108,7 @@ fn edits_in<'a>(alloc: Global, name: &'a str, bytes: &[u8]) -> Result<EditsFile,
     Ok(EditsFile { script, rules })
 }
 
-/// Reads the file of edits, and applies the edits.
+/// Reads the file of edits, and applies the edits, bundle by bundle.
 pub fn read_edits<'a, S: Shelf>(
     alloc: Global,
     shelf: &mut S,
@@ -113,12 +118,14 @@ pub fn read_edits<'a, S: Shelf>(
     ensures in_use { OnOk result (S.in_use shelf.new ≡ Nothing) }
     ensures ok { IsTrue S.tells
         → IfOk result (λ e. script_in (S.told shelf.old).holds name.now ≡ Ok (script_view e.script)) }
-    ensures rules { IfOk result (λ e. e.rules ≡ history_of e.script.edits.items) }
+    ensures rules { IfOk result (λ e. e.rules ≡ history_of e.script.edits.items e.script.bundles.items) }
     ensures sound { IfOk result (λ e. IsTrue (list_all has_sound_actions e.script.edits.items)) }
     ensures few_edits { IfOk result (λ e. length e.script.edits.items ≤ most_edits) }
     ensures few_syncs { IfOk result (λ e. length e.script.syncs.items ≤ most_syncs) }
     ensures in_order { IfOk result
-        (λ e. AreInOrder e.script.syncs.items (length e.script.edits.items)) }
+        (λ e. AreInOrder e.script.syncs.items (length e.script.bundles.items)) }
+    ensures bundles { IfOk result
+        (λ e. AreBundles e.script.bundles.items (length e.script.edits.items)) }
     ensures err { IsTrue S.tells → IfErr result (Explains (script_in (S.told shelf.old).holds name.now)) }
     ensures fault { IfErr result (λ r. IfReadFault r (λ n. n ≡ name.now)) }
     ensures named { IsTrue S.tells → IfErr result (λ r. IfReadFault r (λ n. (S.told shelf.new).last ≡ n)) }

@@ -34,8 +34,8 @@
 //! What a number makes is put on a shelf in memory that never fails (`edge_memory`), and read from it by the same function
 //! as files. So whatever limits files limits that too, and it takes the memory for its bytes twice while it is read.
 //!
-//! How many rules the edits change is limited, so they are applied here, one after the other, before anything else is read,
-//! up to the first by which they change too many: what is changed takes memory. The store that they make is
+//! How many rules the edits change is limited, so they are applied here, bundle by bundle, before anything else is read,
+//! up to the first bundle by which they change too many: changes take memory and time. The store that they make is
 //! kept for whoever prints rules; whoever decides frames makes the tables of each version anew as it comes to it.
 //!
 //! # What is left to others

@@ -28,8 +28,15 @@ fn counts_in_rounds<C: Case>(
         traces,
         ..
     } = inputs;
-    let edits = RunEdits::<C>::new(script.edits);
-    let run = RunData::<C>::new(alloc, ports, edits.count(), script.syncs, traces)?;
+    let edits = RunEdits::<C>::new(script.edits, script.bundles);
+    let run = RunData::<C>::new(
+        alloc,
+        ports,
+        edits.edits(),
+        edits.versions(),
+        script.syncs,
+        traces,
+    )?;
     let mut counts = Counts::new();
     'rounds: for _ in 0..rounds {
         let (finished, _) = run_schedule(alloc, &run, &edits, flow_limit, &steps)?;

@@ -1,6 +1,7 @@
 //! Files read whole.
 ghost use Rattle.std.specs.Prelude.{◌^◌, ◌≤◌, length, IfOk, IsTrue};
 ghost use Rattle.std.specs.List.{list_all};
+ghost use Rattle.spec_tables.specs.Bundles.{AreBundles};
 ghost use Rattle.spec_tables.specs.Edits.{has_sound_actions};
 ghost use Rattle.spec_script.specs.Script.{most_edits};
 
@@ -27,6 +28,8 @@ fn bytes_of(rt: &HostRuntime, name: &str, most: usize) -> Result<Vec<u8>>
 pub fn read_edits(rt: &HostRuntime, name: &str) -> Result<Script>
     ensures sound { IfOk result (λ script. IsTrue (list_all has_sound_actions script.edits.items)) }
     ensures few { IfOk result (λ script. length script.edits.items ≤ most_edits) }
+    ensures bundles { IfOk result
+        (λ script. AreBundles script.bundles.items (length script.edits.items)) }
 {
     let bytes = bytes_of(rt, name, MOST_BYTES)?;
     read_script(rt.alloc(), &bytes).map_err(|fault| anyhow!(

@@ -12,16 +12,17 @@ use pcap_reader::Trace;
 use std::alloc::{AllocError, Global};
 use tuple_classifier::Tables;
 
-/// The tables after all edits.
+/// The tables after all edits, which are applied as one bundle: what bundles they are in makes no difference at the end.
 pub fn tables_of(alloc: Global, edits: &[Edit]) -> Result<Tables, AllocError>
     requires sound { IsTrue (list_all has_sound_actions edits.now) }
     requires few { length edits.now ≤ most_edits }
     ensures { IfOk result (λ tables. AreRunnable tables.rules) }
 {
     let mut tables = Tables::new(alloc);
-    'edits: for edit in edits {
-        tables.apply(edit)?;
+    if edits.is_empty() {
+        return Ok(tables);
     }
+    tables.apply(edits)?;
     Ok(tables)
 }
 

@@ -132,6 +132,7 @@ returns-clause-within g c =
       few_edits = script.few_edits;
       few_syncs = script.few_syncs;
       in_order = script.in_order;
+      bundles = script.bundles;
       few_steps = c.in_ok-steps.ensures.few_steps;
       few_mirrors = c.in_ok-mirrors.ensures.few_mirrors;
       rules = script.rules;

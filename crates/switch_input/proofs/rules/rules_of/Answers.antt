@@ -1,46 +1,64 @@
-use Rattle.std.proofs.Common.{◌≡◌, ◌+◌, ◌≤◌, ◌<◌, length, take, [], ◌∷◌, ◌++◌, suc, sym, ap, ◌∙◌, arith}
-use Rattle.std.proofs.lemmas.List.{length-take-le}
-use Rattle.std.proofs.Math.Seq.{take-suc}
-use Rattle.rule_tables.specs.History.{History, newest, edited_by, history_of}
-use Rattle.rule_tables.proofs.Histories.{newest-history, history-push, history-none}
+use Rattle.std.proofs.Common.{◌≡◌, ◌+◌, ◌≤◌, ◌<◌, length, get_or, take, refl, ap, ◌∙◌, arith}
+use Rattle.std.specs.List.{slice_range}
+use Rattle.spec_tables.specs.Bundles.{edits_through}
+use Rattle.rule_tables.specs.History.{History, edit_history}
+use Rattle.rule_tables.proofs.Histories.{history-none}
 use Rattle.switch_input.proofs.Changes.{changes_of_first}
+use Rattle.switch_input.proofs.BundleSlices.{ends, part, has_edits, were_applied, one_more}
 use Rattle.switch_input.proofs.rules.rules_of.Goals as goal
 
-pub edits-init : goal.edits-init
-edits-init c = record {
+pub bundles-init : goal.bundles-init
+bundles-init c = record {
   rules = c.new-rules.ensures ∙ history-none;
-  few = let none : c.new-rules.result.changes ≡ 0 = ap (λ (h : History). h.changes) c.new-rules.ensures in omega arith;
+  before = refl;
+  few = let none : c.new-rules.result.edits.changes ≡ 0 = ap (λ (h : History). h.edits.changes) c.new-rules.ensures in omega arith;
 }
 
-pub apply-requires : goal.apply-requires
-apply-requires c =
-    let so_far = take c.edits.edit-index c.args.edits.now in
-    let last : newest c.edits.rules ≡ length so_far = ap newest c.edits.invariant.rules ∙ newest-history so_far in
-    let count : length so_far ≡ c.edits.edit-index = length-take-le c.edits.edit-index c.args.edits.now (omega (arith, c.edits-test.true)) in
-    omega (arith, c.edits-test.true, c.requires)
+pub slice_bounds-apply-end : goal.slice_bounds-apply-end
+slice_bounds-apply-end c =
+    let edits = c.args.edits.now in
+    let bundles = c.args.bundles.now in
+    let within : get_or bundles c.bundles.end-index 0 ≤ length edits =
+    (part edits bundles c.requires.whole c.bundles.end-index c.bundles.before (get_or bundles c.bundles.end-index 0) c.bundles-test.true c.bundles.invariant.before refl).1 in
+    within
 
-pub edits-preserved : goal.edits-preserved
-edits-preserved c =
-    let so_far = take c.edits.edit-index c.args.edits.now in
-    let next : c.edits.edit-index + 1 ≡ suc c.edits.edit-index = omega arith in
-    let more : take (c.edits.edit-index + 1) c.args.edits.now ≡ so_far ++ c.edit-item.result ∷ [] =
-    ap (λ n. take n c.args.edits.now) next ∙ take-suc c.args.edits.now c.edits.edit-index c.edit-item.result c.edits-test.true
-    ∙ ap (λ e. so_far ++ e ∷ []) (sym c.edit-item.is) in
+pub apply-requires-clause-few : goal.apply-requires-clause-few
+apply-requires-clause-few c =
+    let edits = c.args.edits.now in
+    let bundles = c.args.bundles.now in
+    let v = c.bundles.end-index in
+    let through = get_or bundles v 0 in
+    let its = part edits bundles c.requires.whole v c.bundles.before through c.bundles-test.true c.bundles.invariant.before refl in
+    let list = slice_range edits c.bundles.before through in
+    let count = has_edits edits bundles c.requires.whole v c.bundles.before through c.bundles-test.true c.bundles.invariant.before refl list refl in
+    let so_far = were_applied edits bundles c.requires.whole v c.bundles.before through c.bundles-test.true c.bundles.invariant.before refl list refl c.bundles.rules c.bundles.invariant.rules in
+    omega (arith, so_far, count, its.1, c.requires.few)
+
+pub bundles-preserved : goal.bundles-preserved
+bundles-preserved c =
+    let edits = c.args.edits.now in
+    let bundles = c.args.bundles.now in
+    let v = c.bundles.end-index in
+    let through = get_or bundles v 0 in
+    let list = slice_range edits c.bundles.before through in
     record {
-      rules = c.in_ok-apply.ensures.edited ∙ ap (edited_by c.edit-item.result) c.edits.invariant.rules ∙ sym (history-push so_far c.edit-item.result) ∙ sym (ap history_of more);
-      few = let same : c.changes.result ≡ c.apply.new.self.changes = c.changes.ensures in omega arith;
+      rules = one_more edits bundles c.requires.whole v c.bundles.before through c.bundles-test.true c.bundles.invariant.before refl list refl c.bundles.rules
+          c.bundles.invariant.rules c.apply.new.self c.in_ok-apply.ensures.bundled;
+      few = let same : c.changes.result ≡ c.apply.new.self.edits.changes = c.changes.ensures in omega arith;
+      before = ends edits bundles c.requires.whole v c.bundles.before through c.bundles-test.true c.bundles.invariant.before refl;
     }
 
 pub returns-then-changes-gt-MOST_CHANGES-clause-few : goal.returns-then-changes-gt-MOST_CHANGES-clause-few
 returns-then-changes-gt-MOST_CHANGES-clause-few c =
-    let so_far = take c.edits.edit-index c.args.edits.now in
-    let next : c.edits.edit-index + 1 ≡ suc c.edits.edit-index = omega arith in
-    let more : take (c.edits.edit-index + 1) c.args.edits.now ≡ so_far ++ c.edit-item.result ∷ [] =
-    ap (λ n. take n c.args.edits.now) next ∙ take-suc c.args.edits.now c.edits.edit-index c.edit-item.result c.edits-test.true
-    ∙ ap (λ e. so_far ++ e ∷ []) (sym c.edit-item.is) in
-    let made : c.apply.new.self ≡ history_of (take (c.edits.edit-index + 1) c.args.edits.now) =
-    c.in_ok-apply.ensures.edited ∙ ap (edited_by c.edit-item.result) c.edits.invariant.rules ∙ sym (history-push so_far c.edit-item.result) ∙ sym (ap history_of more) in
-    let changes : c.changes.result ≡ (history_of (take (c.edits.edit-index + 1) c.args.edits.now)).changes = c.changes.ensures ∙ ap (λ (h : History). h.changes) made in
-    let few : (history_of (take (c.edits.edit-index + 1) c.args.edits.now)).changes ≤ (history_of c.args.edits.now).changes = changes_of_first (c.edits.edit-index + 1) c.args.edits.now in
+    let edits = c.args.edits.now in
+    let bundles = c.args.bundles.now in
+    let v = c.bundles.end-index in
+    let through = get_or bundles v 0 in
+    let list = slice_range edits c.bundles.before through in
+    let n = edits_through bundles (v + 1) in
+    let made = one_more edits bundles c.requires.whole v c.bundles.before through c.bundles-test.true c.bundles.invariant.before refl list refl c.bundles.rules
+    c.bundles.invariant.rules c.apply.new.self c.in_ok-apply.ensures.bundled in
+    let changes : c.changes.result ≡ (edit_history (take n edits)).changes = c.changes.ensures ∙ ap (λ (h : History). h.edits.changes) made in
+    let few : (edit_history (take n edits)).changes ≤ (edit_history edits).changes = changes_of_first n edits in
     let many : 1048576 < c.changes.result = c.if-changes-gt-MOST_CHANGES.true in
     omega arith

@@ -1,10 +1,12 @@
 use Rattle.std.proofs.Common.{◌≡◌, ◌≤◌, take}
+use Rattle.spec_tables.specs.Bundles.{edits_through}
 use Rattle.spec_run.specs.Limits.{most_changes}
 use Rattle.rule_tables.specs.History.{history_of}
 use Rattle.switch_input.proofs.rules.rules_of.Given as goal
 
-abbrev pub invariant-edits : goal.invariant-edits
-invariant-edits l = record {
-  rules : l.rules ≡ history_of (take l.edit-index l.edits);
-  few : l.rules.changes ≤ most_changes;
+abbrev pub invariant-bundles : goal.invariant-bundles
+invariant-bundles l = record {
+  rules : l.rules ≡ history_of (take (edits_through l.bundles l.end-index) l.edits) (take l.end-index l.bundles);
+  before : l.before ≡ edits_through l.bundles l.end-index;
+  few : l.rules.edits.changes ≤ most_changes;
 }

@@ -1,8 +1,10 @@
+//! The lines of words: `sync` with a time, and `begin` and `commit`, which stand alone.
 ghost use Rattle.std.specs.Prelude.{◌≡◌, ◌-◌, ◌*◌, ◌^◌, ◌≤◌, true, length, IfSome};
 ghost use Rattle.std.specs.Option.{ok_or};
 ghost use Rattle.spec_flow_text.specs.declared.fault.TextFault.TheVariants.{BadValue};
 ghost use Rattle.spec_flow_text.specs.Items.{column, is_white, words};
-ghost use Rattle.spec_script.specs.Script.{most_seconds, seconds_of, fraction_of, seconds_with_fraction, time_of, time_in_words, sync_time};
+ghost use Rattle.spec_script.specs.Script.{most_seconds, seconds_of, fraction_of, seconds_with_fraction, time_of, time_in_words, sync_time, column_in_words, word_alone};
+ghost use Rattle.edit_script.specs.Begun.{begun_view};
 ghost use Rattle.field_text.specs.WordViews.{word_view};
 
 use field_text::{TextFault, WhiteSpace, Word, next_word, text_from};
@@ -14,6 +16,13 @@ const NANOSECOND_DIGITS: usize = 9;
 const NANOSECONDS_OF_A_SECOND: u64 = 1_000_000_000;
 
 const MOST_NANOSECONDS: u128 = 999_999_999;
+
+/// Where a bundle was begun.
+#[derive(Clone, Copy, Debug)]
+pub struct Begun {
+    pub line: u32,
+    pub column: u32,
+}
 
 // Whole seconds below 2^32, in nanoseconds.
 #[tactic(auto, unfolding(spec_script::specs::Script::seconds_of))]
@@ -77,14 +86,19 @@ fn time_of_word(time: Word<'_>) -> Result<u64, TextFault>
     }
 }
 
-// The time of a sync line without its comment: one word after `sync`.
-fn time_in_words(text: Word<'_>) -> Result<u64, TextFault>
-    ensures { result ≡ time_in_words (words is_white true text.entry.at text.entry.text.now) }
+// The time of a sync line without its comment: one word after `sync`. In a bundle none stands.
+fn time_in_words(begun: Option<Begun>, text: Word<'_>) -> Result<u64, TextFault>
+    ensures { result
+        ≡ time_in_words (begun_view begun) (words is_white true text.entry.at text.entry.text.now) }
 {
     let Some((sync, behind)) = next_word::<WhiteSpace>(text) else {
         return Err(TextFault::Syntax { col: 1 });
     };
     let col = sync.column();
+    match begun {
+        None => {}
+        Some(_) => return Err(TextFault::Syntax { col }),
+    }
     let Some((time, behind)) = next_word::<WhiteSpace>(behind) else {
         return Err(TextFault::Syntax { col });
     };
@@ -94,13 +108,41 @@ fn time_in_words(text: Word<'_>) -> Result<u64, TextFault>
     }
 }
 
+// The column of the word of a line without its comment, where it stands alone and may stand there.
+fn column_in_words(may_stand: bool, text: Word<'_>) -> Result<u32, TextFault>
+    ensures { result
+        ≡ column_in_words may_stand (words is_white true text.entry.at text.entry.text.now) }
+{
+    let Some((word, behind)) = next_word::<WhiteSpace>(text) else {
+        return Err(TextFault::Syntax { col: 1 });
+    };
+    let col = word.column();
+    if !may_stand {
+        return Err(TextFault::Syntax { col });
+    }
+    match next_word::<WhiteSpace>(behind) {
+        Some((next, _)) => Err(TextFault::Syntax { col: next.column() }),
+        None => Ok(col),
+    }
+}
+
 /// The time of a sync line, in nanoseconds: after `sync` one word, of seconds from 0 to 4,294,967,295 and perhaps a dot
-/// and one to nine digits.
+/// and one to nine digits. There is none in a bundle.
 #[tactic(auto, unfolding(spec_script::specs::Script::sync_time))]
-pub fn read_sync_time(line: &[u8]) -> Result<u64, TextFault>
+pub fn read_sync_time(begun: Option<Begun>, line: &[u8]) -> Result<u64, TextFault>
     requires { length line.now ≤ 4_294_967_294 }
-    ensures { result ≡ sync_time line.now }
+    ensures { result ≡ sync_time (begun_view begun) line.now }
 {
     let text = text_from(line, 0)?;
-    time_in_words(text)
+    time_in_words(begun, text)
+}
+
+/// The column of the word of a line, where it stands alone and may stand there.
+#[tactic(auto, unfolding(spec_script::specs::Script::word_alone))]
+pub fn read_word_alone(may_stand: bool, line: &[u8]) -> Result<u32, TextFault>
+    requires { length line.now ≤ 4_294_967_294 }
+    ensures { result ≡ word_alone may_stand line.now }
+{
+    let text = text_from(line, 0)?;
+    column_in_words(may_stand, text)
 }
