@@ -16,6 +16,7 @@ abbrev run_with : Edit → List ℕ → List SyncPoint → Run
 run_with edit bytes syncs = record {
   ports = 1 ∷ [];
   edits = edit ∷ [];
+  bundles = 1 ∷ [];
   syncs = syncs;
   traces = record { nanos = true; frames = frame_at_7 bytes ∷ [] } ∷ [];
   flow_limit = 1;

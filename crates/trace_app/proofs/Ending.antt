@@ -1,7 +1,6 @@
 -- How a call ends, from what a refused trace leaves and what is printed of it; and what follows from how it ends.
-use Rattle.std.proofs.Common.{◌≡◌, ℕ, List, refl, sym, ap, subst, inl, inr, arith}
+use Rattle.std.proofs.Common.{◌≡◌, ℕ, List, refl, sym, subst, inl, inr, arith}
 use Rattle.std.specs.Prelude.{◌⊎◌, IsTrue, IsOk, IfErr, Result, Ok, Err}
-use Rattle.std.proofs.lemmas.List.{append-nil}
 use Rattle.spec_base.specs.Counts.{Rose}
 use Rattle.spec_run.specs.Statuses.{done_status, read_fault_status, out_of_memory_status, read_fault_text, status_of as run_status, Prints}
 use Rattle.edge_io.specs.declared.outside.Failed.TheVariants as failed

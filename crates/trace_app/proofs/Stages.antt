@@ -1,16 +1,17 @@
 -- The stages of the verdict, from what was read.
-use Rattle.std.proofs.Common.{◌≡◌, ℕ, ◌≤◌, Bool, true, false, ◌==◌, List, [], ◌∷◌, ◌++◌, length, refl, sym, ap, ◌∙◌, subst, arith}
-use Rattle.std.specs.Prelude.{IfOk, IfErr, OnOk, Option, Some, None, IsTrue, Result, Ok, Err}
+use Rattle.std.proofs.Common.{◌≡◌, ℕ, true, false, ◌==◌, List, [], length, refl, sym, ap, ◌∙◌, subst, arith}
+use Rattle.std.specs.Prelude.{IfErr, Some, None, IsTrue, Result, Ok, Err}
 use Rattle.std.specs.List.{list_any, list_all}
 use Rattle.std.proofs.lemmas.List.{append-nil}
 use Rattle.spec_tables.specs.Rules.{Rule, Match}
-use Rattle.spec_tables.specs.Edits.{Edit, version, has_sound_actions}
+use Rattle.spec_tables.specs.Edits.{Edit, has_sound_actions}
+use Rattle.spec_tables.specs.Bundles.{edits_through, version, AreBundles}
 use Rattle.spec_xlate.specs.Translation.{in_port_of}
 use Rattle.spec_script.specs.Script.{Script}
 use Rattle.spec_run.specs.Verdict as run
 use Rattle.spec_run.specs.Verdict.{Files, script_in}
-use Rattle.rule_tables.specs.History.{History, newest, rules_of, history_of}
-use Rattle.rule_tables.proofs.Histories.{newest-history, rules_of-history}
+use Rattle.rule_tables.specs.History.{History, history_of}
+use Rattle.rule_tables.proofs.Histories.{rules_of-history}
 use Rattle.pipe_model.specs.Runnable.{AreRunnable}
 use Rattle.pipe_model.proofs.Versions.{runnable-version}
 use Rattle.rule_lines.specs.Live.{IsOfEdits, live_in}
@@ -22,7 +23,7 @@ use Rattle.switch_refusals.specs.declared.refusal.InputRefusal.TheVariants as in
 use Rattle.switch_refusals.specs.Refused as reading
 use Rattle.switch_refusals.specs.Refused.{fault_view}
 use Rattle.spec_trace.specs.Words.{Command, command_of}
-use Rattle.spec_trace.specs.Verdict.{Refusal as Refused, Input, NoPort as NoPortOf, Accepted, as_input, match_in, key_of, at_port, accepted, case_of, verdict_of, verdict, command_in, opened_for, files_opened, Usage as UsageOf}
+use Rattle.spec_trace.specs.Verdict.{Input, NoPort as NoPortOf, match_in, key_of, accepted, case_of, verdict_of, verdict, command_in, opened_for, files_opened, Usage as UsageOf}
 use Rattle.trace_app.specs.declared.refusal.Refusal.{Refusal}
 use Rattle.trace_app.specs.declared.refusal.Refusal.TheVariants.{Usage, Reading, NoPort, Printing}
 use Rattle.trace_app.specs.Refused.{Explains, IfReadFault, HasReadCause, HasOpenedUntil, OpensInTurn}
@@ -104,16 +105,17 @@ opens before now names (Err e) none opened = opened_until before now names e non
 
 -- ---- the tables
 
-module _ (edits : List Edit) (sound : IsTrue (list_all has_sound_actions edits)) (h : History) (is : h ≡ history_of edits) where
+module _ (edits : List Edit) (bundles : List ℕ) (whole : AreBundles bundles (length edits)) (sound : IsTrue (list_all has_sound_actions edits)) (h : History) (is : h ≡ history_of edits bundles) where
   pub of_edits : IsOfEdits h
-  of_edits = record { edits = edits; history = is; sound = sound }
+  of_edits = record { edits = edits; bundles = bundles; history = is; whole = whole; sound = sound }
 
-  pub live-version : version edits (length edits) ≡ live_in h
+  pub live-version : version edits bundles (length bundles) ≡ live_in h
   live-version =
-      sym (ap (λ (g : History). live_in g) is ∙ ap (rules_of (history_of edits)) (newest-history edits) ∙ rules_of-history edits (length edits) (omega arith))
+      let all : edits_through bundles (length bundles) ≡ length edits = whole.whole in
+      sym (ap (λ (g : History). live_in g) is ∙ rules_of-history edits bundles (length bundles) (omega arith))
 
-  pub runnable_by : (rules : List Rule) → rules ≡ version edits (length edits) → AreRunnable rules
-  runnable_by rules same = subst AreRunnable (sym same) (runnable-version edits (length edits) sound)
+  pub runnable_by : (rules : List Rule) → rules ≡ version edits bundles (length bundles) → AreRunnable rules
+  runnable_by rules same = subst AreRunnable (sym same) (runnable-version edits bundles (length bundles) sound)
 
 -- ---- the words
 

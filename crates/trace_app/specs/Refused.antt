@@ -6,7 +6,6 @@ use Rattle.edge_io.specs.Counts.{Counts}
 use Rattle.edge_io.specs.Shelf.{Told}
 use Rattle.edge_io.specs.Opened.{HasOpened}
 use Rattle.switch_refusals.specs.declared.refusal.InputRefusal.{InputRefusal}
-use Rattle.switch_refusals.specs.declared.refusal.InputRefusal.TheVariants as input
 use Rattle.switch_refusals.specs.Refused as reading
 use Rattle.switch_refusals.specs.Refused.{fault_view}
 use Rattle.switch_refusals.specs.Texts.{input_status, input_text}

@@ -3,6 +3,7 @@ ghost use Rattle.std.specs.Prelude.{◌≡◌, ◌≤◌, length, Ok, IsTrue, On
 ghost use Rattle.std.specs.List.{list_all};
 ghost use Rattle.edge_io.specs.declared.outside.InUse.TheVariants.{Nothing};
 ghost use Rattle.edge_io.specs.ReadAll.{OnlyRead};
+ghost use Rattle.spec_tables.specs.Bundles.{AreBundles};
 ghost use Rattle.spec_tables.specs.Edits.{has_sound_actions};
 ghost use Rattle.spec_script.specs.Script.{most_edits};
 ghost use Rattle.spec_xlate.specs.Translation.{in_port_of};
@@ -39,14 +40,18 @@ pub struct Inputs {
     pub key: Key,
 }
 
-// The tables after all edits.
-fn tables_of(alloc: Global, edits: &[Edit]) -> Result<Tables, AllocError>
-    requires { length edits.now ≤ most_edits }
-    ensures { IfOk result (λ tables. tables ≡ version_of edits.now (length edits.now)) }
+// The tables after all edits, of which so many stand through each bundle.
+fn tables_of(alloc: Global, edits: &[Edit], bundles: &[u32]) -> Result<Tables, AllocError>
+    requires few { length edits.now ≤ most_edits }
+    requires whole { AreBundles bundles.now (length edits.now) }
+    ensures { IfOk result (λ tables. tables ≡ version_of edits.now bundles.now (length bundles.now)) }
 {
     let mut tables = Tables::new(alloc);
-    'edits: for edit in edits {
-        tables.apply(edit)?;
+    let mut before = 0;
+    'bundles: for end in bundles {
+        let through = *end as usize;
+        tables.apply(&edits[before..through])?;
+        before = through;
     }
     Ok(tables)
 }
@@ -65,7 +70,8 @@ fn inputs_of<'a>(
     flow: &'a str,
     ports: Vec<u16>,
 ) -> Result<Inputs, Refusal<'a>>
-    requires rules { edits.rules ≡ history_of edits.script.edits.items }
+    requires rules { edits.rules ≡ history_of edits.script.edits.items edits.script.bundles.items }
+    requires bundles { AreBundles edits.script.bundles.items (length edits.script.edits.items) }
     requires sound { IsTrue (list_all has_sound_actions edits.script.edits.items) }
     requires few { length edits.script.edits.items ≤ most_edits }
     ensures ok { IfOk result (λ inputs.
@@ -81,7 +87,7 @@ fn inputs_of<'a>(
     if !names_port(&ports, port) {
         return Err(Refusal::NoPort { port });
     }
-    let tables = tables_of(alloc, &edits.script.edits)?;
+    let tables = tables_of(alloc, &edits.script.edits, &edits.script.bundles)?;
     Ok(Inputs {
         rules: edits.rules,
         tables,

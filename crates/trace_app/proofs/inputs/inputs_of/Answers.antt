@@ -1,11 +1,11 @@
-use Rattle.std.proofs.Common.{◌≡◌, ℕ, ◌==◌, Bool, false, true, List, length, refl, sym, ap, ap₂, ◌∙◌}
+use Rattle.std.proofs.Common.{◌≡◌, ℕ, ◌==◌, false, true, List, length, sym, ap, ap₂, ◌∙◌}
 use Rattle.std.specs.Prelude.{Ok, Err, Result}
 use Rattle.std.specs.List.{list_any}
 use Rattle.std.proofs.lemmas.Result.{err_from_is_err_and}
 use Rattle.spec_tables.specs.Rules.{Rule}
-use Rattle.spec_tables.specs.Edits.{Edit, version}
+use Rattle.spec_tables.specs.Edits.{Edit}
+use Rattle.spec_tables.specs.Bundles.{version}
 use Rattle.spec_xlate.specs.Translation.{in_port_of}
-use Rattle.ovs_fields.specs.Packed.{numbers}
 use Rattle.rule_tables.specs.Views.{match_view}
 use Rattle.edit_script.specs.ScriptViews.{script_view}
 use Rattle.tuple_classifier.specs.Versions.{Version, version_of}
@@ -32,11 +32,13 @@ pub returns-clause-ok : goal.returns-clause-ok
 returns-clause-ok c =
     let m = match_view c.in_ok-matching.matching in
     let edits = c.args.edits.script.edits.items in
+    let bundles = c.args.edits.script.bundles.items in
     let same : c.in_port-port.result ≡ in_port_of (key_of m) = c.in_port-port.ensures ∙ ap in_port_of c.key_of-key.ensures in
     let there : list_any (λ p. p == in_port_of (key_of m)) c.args.ports.items ≡ true =
     ap₂ (λ (q : ℕ) (ps : List ℕ). list_any (λ p. p == q) ps) (sym same) (sym c.deref.ensures.value) ∙ sym c.if-not-names_port.ensures in
-    let rules : c.in_ok-tables.tables.rules ≡ version edits (length edits) =
-    ap (λ (v : Version). v.rules) (c.in_ok-tables.ensures ∙ ap (λ (es : List Edit). version_of es (length es)) c.deref-2.ensures.value) in
+    let rules : c.in_ok-tables.tables.rules ≡ version edits bundles (length bundles) =
+    ap (λ (v : Version). v.rules)
+    (c.in_ok-tables.ensures ∙ ap₂ (λ (es : List Edit) (bs : List ℕ). version_of es bs (length bs)) c.deref-2.ensures.value c.deref-3.ensures.value) in
     let taken : List Rule → List ℕ → Result Accepted Refusal = λ rs key. Ok (record { rules = rs; ports = c.args.ports.items; key = key }) in
     case-accepted c.args.flow.now c.args.ports.items (script_view c.args.edits.script) m c.in_ok-matching.ensures.ok there
     ∙ ap₂ taken (sym rules) (sym c.key_of-key.ensures)
@@ -44,9 +46,11 @@ returns-clause-ok c =
 pub returns-clause-within : goal.returns-clause-within
 returns-clause-within c =
     let edits = c.args.edits.script.edits.items in
-    let rules : c.in_ok-tables.tables.rules ≡ version edits (length edits) =
-    ap (λ (v : Version). v.rules) (c.in_ok-tables.ensures ∙ ap (λ (es : List Edit). version_of es (length es)) c.deref-2.ensures.value) in record {
-      of_edits = of_edits edits c.requires.sound c.args.edits.rules c.requires.rules;
-      tables = rules ∙ live-version edits c.requires.sound c.args.edits.rules c.requires.rules;
-      runnable = runnable_by edits c.requires.sound c.args.edits.rules c.requires.rules c.in_ok-tables.tables.rules rules;
+    let bundles = c.args.edits.script.bundles.items in
+    let rules : c.in_ok-tables.tables.rules ≡ version edits bundles (length bundles) =
+    ap (λ (v : Version). v.rules)
+    (c.in_ok-tables.ensures ∙ ap₂ (λ (es : List Edit) (bs : List ℕ). version_of es bs (length bs)) c.deref-2.ensures.value c.deref-3.ensures.value) in record {
+      of_edits = of_edits edits bundles c.requires.bundles c.requires.sound c.args.edits.rules c.requires.rules;
+      tables = rules ∙ live-version edits bundles c.requires.bundles c.requires.sound c.args.edits.rules c.requires.rules;
+      runnable = runnable_by edits bundles c.requires.bundles c.requires.sound c.args.edits.rules c.requires.rules c.in_ok-tables.tables.rules rules;
     }

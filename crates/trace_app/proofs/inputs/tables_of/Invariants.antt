@@ -1,9 +1,10 @@
-use Rattle.std.proofs.Common.{◌≡◌, ◌≤◌, length}
+use Rattle.std.proofs.Common.{◌≡◌}
+use Rattle.spec_tables.specs.Bundles.{edits_through}
 use Rattle.tuple_classifier.specs.Versions.{version_of}
 use Rattle.trace_app.proofs.inputs.tables_of.Given as goal
 
-abbrev pub invariant-edits : goal.invariant-edits
-invariant-edits l = record {
-  tables : l.tables ≡ version_of l.edits l.edit-index;
-  within : l.edit-index ≤ length l.edits;
+abbrev pub invariant-bundles : goal.invariant-bundles
+invariant-bundles l = record {
+  tables : l.tables ≡ version_of l.edits l.bundles l.end-index;
+  before : l.before ≡ edits_through l.bundles l.end-index;
 }
