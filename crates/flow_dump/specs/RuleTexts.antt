@@ -1,7 +1,7 @@
 -- The lines of rules, by their numbers.
 use Rattle.std.specs.Prelude.{ℕ, ◌-◌, if◌then◌else◌, List, [], ◌++◌, slice_index_or}
 use Rattle.std.specs.List.{flat_map, range_with_len}
-use Rattle.rule_tables.specs.History.{History, newest}
+use Rattle.rule_tables.specs.History.{History, applied}
 use Rattle.spec_dumps.specs.declared.rule_counts.RuleCounts.{RuleCounts}
 use Rattle.spec_dumps.specs.Rules.{gone_line_with}
 use Rattle.rule_lines.specs.declared.places.RulePlace.{RulePlace}
@@ -22,4 +22,4 @@ gone_text h counts number = if is_gone_in h number then gone_line_with (counts_i
 -- the lines of the live rules in some order, and then those of the rules that are gone
 abbrev pub lines_of : History → List RuleCounts → List RulePlace → List ℕ
 lines_of h counts order =
-    flat_map (λ (p : RulePlace). live_text h counts p.number) order ++ flat_map (gone_text h counts) (range_with_len 1 (newest h))
+    flat_map (λ (p : RulePlace). live_text h counts p.number) order ++ flat_map (gone_text h counts) (range_with_len 1 (applied h.edits))

@@ -4,7 +4,7 @@ ghost use Rattle.spec_tables.specs.Edits.{has_sound_actions};
 ghost use Rattle.spec_dumps.specs.Rules.{rules_text};
 ghost use Rattle.edge_io.specs.declared.outside.InUse.TheVariants.{Nothing, Created};
 ghost use Rattle.edge_io.specs.Written.{WritesAll, WritesFile};
-ghost use Rattle.rule_tables.specs.History.{newest, history_of};
+ghost use Rattle.rule_tables.specs.History.{applied, history_of};
 ghost use Rattle.rule_lines.specs.Live.{IsOfEdits, IsLiveIn, live_line};
 ghost use Rattle.flow_dump.specs.RuleTexts.{live_text, gone_text, lines_of};
 
@@ -28,7 +28,7 @@ fn write_live<S: Shelf>(
     requires created { S.in_use shelf.old ≡ Created }
     requires of_edits { IsOfEdits rules.now }
     requires live { IsLiveIn rules.now number }
-    requires counted { length counts.now ≡ newest rules.now }
+    requires counted { length counts.now ≡ applied rules.now.edits }
     ensures { WritesAll S.Shelf shelf.old shelf.new (live_text rules.now counts.now number) result }
 {
     line.clear();
@@ -68,7 +68,7 @@ fn write_live_rules<S: Shelf>(
     requires created { S.in_use shelf.old ≡ Created }
     requires of_edits { IsOfEdits rules.now }
     requires live { All (λ p. IsLiveIn rules.now p.number) order.now }
-    requires counted { length counts.now ≡ newest rules.now }
+    requires counted { length counts.now ≡ applied rules.now.edits }
     ensures { WritesAll S.Shelf shelf.old shelf.new
         (flat_map (λ p. live_text rules.now counts.now p.number) order.now) result }
 {
@@ -87,11 +87,11 @@ fn write_gone_rules<S: Shelf>(
 ) -> Result<(), Failed>
     requires created { S.in_use shelf.old ≡ Created }
     requires of_edits { IsOfEdits rules.now }
-    requires counted { length counts.now ≡ newest rules.now }
+    requires counted { length counts.now ≡ applied rules.now.edits }
     ensures { WritesAll S.Shelf shelf.old shelf.new
-        (flat_map (gone_text rules.now counts.now) (range_with_len 1 (newest rules.now))) result }
+        (flat_map (gone_text rules.now counts.now) (range_with_len 1 (applied rules.now.edits))) result }
 {
-    'numbers: for before in 0..rules.version() {
+    'numbers: for before in 0..rules.edits() {
         write_if_gone(shelf, line, rules, counts, before + 1)?;
     }
     Ok(())
@@ -108,7 +108,7 @@ fn write_lines<S: Shelf>(
     requires created { S.in_use shelf.old ≡ Created }
     requires of_edits { IsOfEdits rules.now }
     requires live { All (λ p. IsLiveIn rules.now p.number) order.now }
-    requires counted { length counts.now ≡ newest rules.now }
+    requires counted { length counts.now ≡ applied rules.now.edits }
     ensures { WritesAll S.Shelf shelf.old shelf.new
         (lines_of rules.now counts.now order.now) result }
 {
@@ -136,11 +136,12 @@ pub fn write_rules<C: Case, S: Shelf>(
     finished: &Finished<C>,
 ) -> Result<(), Failed>
     requires in_use { S.in_use shelf.old ≡ Nothing }
-    requires edits { rules.now ≡ history_of C.run.edits }
+    requires edits { rules.now ≡ history_of C.run.edits C.run.bundles }
     requires sound { IsTrue (list_all has_sound_actions C.run.edits) }
     ensures file { let text = rules_text C.run finished.now in
         WritesFile S.Shelf shelf.old shelf.new (name.now, text) result }
 {
+    let _ = run.edit_count();
     let counts = count_rules(alloc, run, finished.boards())?;
     let order = live_in_order(alloc, rules)?;
     let counts = counts.as_slice();
@@ -153,7 +154,7 @@ pub fn write_rules<C: Case, S: Shelf>(
             requires created { S.in_use shelf.old ≡ Created }
             requires of_edits { IsOfEdits rules.now }
             requires live { All (λ p. IsLiveIn rules.now p.number) order.now }
-            requires counted { length counts.now ≡ newest rules.now }
+            requires counted { length counts.now ≡ applied rules.now.edits }
             ensures { WritesAll S.Shelf shelf.old shelf.new
                 (lines_of rules.entry.now counts.entry.now order.entry.now) result }
         { write_lines(shelf, &mut line, rules, counts, order) },

@@ -43,7 +43,7 @@ fn push_run<C: Case>(text: &mut String, run: &RunData<C>) -> Result<(), AllocErr
 {
     let ports = run.ports().len();
     let frames = frame_count(run);
-    let edits = run.last_version();
+    let edits = run.edit_count();
     let blocks = run.blocks();
     writeln!(
         text,

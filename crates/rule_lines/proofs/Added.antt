@@ -1,21 +1,22 @@
 -- A live rule is the one that an edit added, but for its cookie and its actions.
-use Rattle.std.proofs.Common.{◌≡◌, ◌⊎◌, inl, inr, ℕ, zero, suc, ◌≤◌, ◌==◌, Bool, true, false, not, if◌then◌else◌, List, [], ◌∷◌, ◌++◌, length, filter, map, slice_get, Option, Some, None, IsTrue, refl, sym, ap, subst, ◌∙◌, eqb-true, eq-eqb, arith}
+use Rattle.std.proofs.Common.{◌≡◌, ◌⊎◌, inl, inr, ℕ, zero, suc, ◌≤◌, ◌==◌, Bool, true, false, not, if◌then◌else◌, List, [], ◌∷◌, ◌++◌, length, filter, slice_get, Option, Some, None, IsTrue, refl, sym, ap, subst, ◌∙◌, eqb-true, eq-eqb, arith}
 use Rattle.std.specs.Prelude.{is_some}
 use Rattle.std.specs.List.{list_all}
 use Rattle.std.specs.Option.{option_and_then, option_map}
-use Rattle.std.proofs.lemmas.Bool.{and_parts, cases_Bool}
+use Rattle.std.proofs.lemmas.Bool.{and_parts}
 use Rattle.std.proofs.lemmas.Option.{slice_get_within}
 use Rattle.spec_actions.specs.Sound.{AreSound}
 use Rattle.spec_tables.specs.declared.edit_word.EditWord.{EditWord}
 use Rattle.spec_tables.specs.declared.edit_word.EditWord.TheVariants.{Add, Modify, ModifyStrict, Delete, DeleteStrict}
 use Rattle.spec_tables.specs.Rules as tables
 use Rattle.spec_tables.specs.Rules.{Rule}
-use Rattle.spec_tables.specs.Edits.{Edit, rule_of, with_actions, modified, without, is_named_by, is_reached_by, edited, after_edit, version, has_sound_actions}
+use Rattle.spec_tables.specs.Edits.{Edit, rule_of, with_actions, modified, without, is_named_by, is_reached_by, edited, after_edit, after_edits, has_sound_actions}
+use Rattle.spec_tables.specs.Bundles.{AreBundles}
 use Rattle.spec_tables.specs.Live.{rule_added, rule_by, rule_numbered, is_live}
-use Rattle.rule_tables.specs.History.{History, newest, rules_of, added_as, history_of}
-use Rattle.rule_tables.proofs.Histories.{newest-history, rules_of-history}
+use Rattle.rule_tables.specs.History.{History, newest, rules_of, rules_after, added_as, edit_history, history_of}
+use Rattle.rule_tables.proofs.Histories.{rules_after-edit_history}
 use Rattle.pipe_model.specs.Runnable.{IsAmong, is_sound_rule}
-use Rattle.pipe_model.proofs.Versions.{runnable-version}
+use Rattle.pipe_model.proofs.Versions.{runnable-after_edits}
 use Rattle.pipe_model.proofs.Winners.{in_filter}
 use Rattle.rule_tables.specs.declared.rule.Rule as stored
 use Rattle.rule_tables.specs.Added.{IsAdded}
@@ -84,20 +85,20 @@ in_push r x [] (inr i) = absurd i
 in_push r x (y ∷ rules) (inl same) = inl (inl same)
 in_push r x (y ∷ rules) (inr i) = elim (in_push r x rules i) [ inl there ↦ inl (inr there) | inr last ↦ inr last ]
 
--- ---- along versions
+-- ---- edit by edit
 
-module _ (edits : List Edit) (v : ℕ) (so_far : (r : Rule) → IsAmong r (version edits v) → WasAdded edits r) where
-  kept : (p : Rule → Bool) (r : Rule) → IsAmong r (filter p (version edits v)) → WasAdded edits r
-  kept p r i = so_far r (in_filter p r (version edits v) i)
+module _ (edits : List Edit) (v : ℕ) (so_far : (r : Rule) → IsAmong r (after_edits edits v) → WasAdded edits r) where
+  kept : (p : Rule → Bool) (r : Rule) → IsAmong r (filter p (after_edits edits v)) → WasAdded edits r
+  kept p r i = so_far r (in_filter p r (after_edits edits v) i)
 
-  changed : (picked : Rule → Bool) (e : Edit) (r : Rule) → IsAmong r (modified picked e (version edits v)) → WasAdded edits r
+  changed : (picked : Rule → Bool) (e : Edit) (r : Rule) → IsAmong r (modified picked e (after_edits edits v)) → WasAdded edits r
   changed picked e r i =
-      let b = in_modified picked e r (version edits v) i in
+      let b = in_modified picked e r (after_edits edits v) i in
       was_added edits b.before r b.same (so_far b.before b.among)
 
   in_edited : (word : EditWord) (e : Edit) → rule_added edits (suc v) ≡ rule_by word (suc v) e → (r : Rule)
-      → IsAmong r (edited word (suc v) e (version edits v)) → WasAdded edits r
-  in_edited Add e is r i = elim (in_push r (rule_of (suc v) e) (without (is_named_by e) (version edits v)) i) [
+      → IsAmong r (edited word (suc v) e (after_edits edits v)) → WasAdded edits r
+  in_edited Add e is r i = elim (in_push r (rule_of (suc v) e) (without (is_named_by e) (after_edits edits v)) i) [
     | inl before ↦ kept (λ x. not (is_named_by e x)) r before
     | inr new ↦ subst (WasAdded edits) new (record { rule = rule_of (suc v) e; is = is; same = itself (rule_of (suc v) e) })
   ]
@@ -106,12 +107,12 @@ module _ (edits : List Edit) (v : ℕ) (so_far : (r : Rule) → IsAmong r (versi
   in_edited Delete e is r i = kept (λ x. not (is_reached_by e x)) r i
   in_edited DeleteStrict e is r i = kept (λ x. not (is_named_by e x)) r i
 
-  in_next : (o : Option Edit) → slice_get edits v ≡ o → (r : Rule) → IsAmong r (after_edit (suc v) o (version edits v)) → WasAdded edits r
+  in_next : (o : Option Edit) → slice_get edits v ≡ o → (r : Rule) → IsAmong r (after_edit (suc v) o (after_edits edits v)) → WasAdded edits r
   in_next None is r i = so_far r i
   in_next (Some e) is r i = in_edited e.word e (rw is refl) r i
 
-among_added : (edits : List Edit) (v : ℕ) (r : Rule) → IsAmong r (version edits v) → WasAdded edits r
-unfolding version
+among_added : (edits : List Edit) (v : ℕ) (r : Rule) → IsAmong r (after_edits edits v) → WasAdded edits r
+unfolding after_edits
 among_added edits zero r i = absurd i
 among_added edits (suc v) r i = in_next edits v (among_added edits v) (slice_get edits v) refl r i
 
@@ -139,21 +140,21 @@ some_is : {A : Type 0} (o : Option A) → is_some o ≡ true → (x : A) × (o �
 some_is None h = absurd (cc h)
 some_is (Some x) h = (x, refl)
 
--- the edit that added a rule makes the version in which it first stands
-added_numbered : (edits : List Edit) (n : ℕ) (r : Rule) → rule_added edits n ≡ Some r → is_some (rule_numbered n (version edits n)) ≡ true
-unfolding version
+-- a rule stands among the rules after the edit that added it
+added_numbered : (edits : List Edit) (n : ℕ) (r : Rule) → rule_added edits n ≡ Some r → is_some (rule_numbered n (after_edits edits n)) ≡ true
+unfolding after_edits
 added_numbered edits zero r h = absurd (cc h)
 added_numbered edits (suc m) r h = by_edit (slice_get edits m) h
   where
-    by_word : (word : EditWord) (e : Edit) → rule_by word (suc m) e ≡ Some r → is_some (rule_numbered (suc m) (edited word (suc m) e (version edits m))) ≡ true
-    by_word Add e is = pushed_numbered (suc m) (rule_of (suc m) e) (without (is_named_by e) (version edits m)) refl
+    by_word : (word : EditWord) (e : Edit) → rule_by word (suc m) e ≡ Some r → is_some (rule_numbered (suc m) (edited word (suc m) e (after_edits edits m))) ≡ true
+    by_word Add e is = pushed_numbered (suc m) (rule_of (suc m) e) (without (is_named_by e) (after_edits edits m)) refl
     by_word Modify e is = absurd (cc is)
     by_word ModifyStrict e is = absurd (cc is)
     by_word Delete e is = absurd (cc is)
     by_word DeleteStrict e is = absurd (cc is)
 
     by_edit : (o : Option Edit) → option_and_then (λ (e : Edit). rule_by e.word (suc m) e) o ≡ Some r
-        → is_some (rule_numbered (suc m) (after_edit (suc m) o (version edits m))) ≡ true
+        → is_some (rule_numbered (suc m) (after_edit (suc m) o (after_edits edits m))) ≡ true
     by_edit None is = absurd (cc is)
     by_edit (Some e) is = by_word e.word e is
 
@@ -164,9 +165,13 @@ pub record IsLiveAs (h : History) (n : ℕ) : Type 0 where
   pub rule : Rule
   pub added : Rule
   pub found : rule_numbered n (live_in h) ≡ Some rule
-  pub was : added_as h n ≡ Some added
+  pub was : added_as h.edits n ≡ Some added
   pub same : IsSame added rule
   pub sound : AreSound rule.actions
+
+-- all edits made the rules of the last version
+pub live_in-history : (edits : List Edit) (bundles : List ℕ) → AreBundles bundles (length edits) → live_in (history_of edits bundles) ≡ after_edits edits (length edits)
+live_in-history edits bundles are = ap (rules_after (edit_history edits)) are.whole ∙ rules_after-edit_history edits (length edits) (omega arith)
 
 module _ (edits : List Edit) (sound : IsTrue (list_all has_sound_actions edits)) where
   sound_among : (rules : List Rule) (r : Rule) → list_all is_sound_rule rules ≡ true → IsAmong r rules → AreSound r.actions
@@ -182,33 +187,33 @@ module _ (edits : List Edit) (sound : IsTrue (list_all has_sound_actions edits))
       within None at none = absurd (cc none)
       within (Some e) at some = let lt = slice_get_within edits m e at in omega (arith, lt)
 
-  -- the rule of a number in the version of that number is the one that was added
-  pub added_as-rule_added : (n : ℕ) → n ≤ length edits → is_some (added_as (history_of edits) n) ≡ is_some (rule_added edits n)
-  added_as-rule_added n le = rw (rules_of-history edits n le) (by_added (rule_added edits n) refl)
+  -- the rule of a number after the edit of that number is the one that was added
+  pub added_as-rule_added : (n : ℕ) → n ≤ length edits → is_some (added_as (edit_history edits) n) ≡ is_some (rule_added edits n)
+  added_as-rule_added n le = rw (rules_after-edit_history edits n le) (by_added (rule_added edits n) refl)
     where
-      by_added : (o : Option Rule) → rule_added edits n ≡ o → is_some (rule_numbered n (version edits n)) ≡ is_some o
+      by_added : (o : Option Rule) → rule_added edits n ≡ o → is_some (rule_numbered n (after_edits edits n)) ≡ is_some o
       by_added (Some r) is = added_numbered edits n r is
-      by_added None is = none (rule_numbered n (version edits n)) refl
+      by_added None is = none (rule_numbered n (after_edits edits n)) refl
         where
-          none : (o : Option Rule) → rule_numbered n (version edits n) ≡ o → is_some o ≡ false
+          none : (o : Option Rule) → rule_numbered n (after_edits edits n) ≡ o → is_some o ≡ false
           none None found = refl
           none (Some r) found =
-              let there = numbered_among n (version edits n) r found in
+              let there = numbered_among n (after_edits edits n) r found in
               let added = among_added edits n r there.0 in
               let clash : None ≡ Some added.rule = sym is ∙ ap (rule_added edits) (sym there.1) ∙ added.is in
               absurd (cc clash)
 
-  live_of : (n : ℕ) → is_live n (version edits (length edits)) ≡ true → IsLiveAs (history_of edits) n
-  live_of n live =
-      let rules = version edits (length edits) in
-      let all : live_in (history_of edits) ≡ rules = ap (rules_of (history_of edits)) (newest-history edits) ∙ rules_of-history edits (length edits) (omega arith) in
+  live_of : (bundles : List ℕ) → AreBundles bundles (length edits) → (n : ℕ) → is_live n (after_edits edits (length edits)) ≡ true → IsLiveAs (history_of edits bundles) n
+  live_of bundles whole n live =
+      let rules = after_edits edits (length edits) in
+      let all : live_in (history_of edits bundles) ≡ rules = live_in-history edits bundles whole in
       let rule = some_is (rule_numbered n rules) (sym (is_live-rule_numbered n rules) ∙ live) in
       let there = numbered_among n rules rule.0 rule.1 in
       let added = among_added edits (length edits) rule.0 there.0 in
       let by_number : rule_added edits n ≡ Some added.rule = ap (rule_added edits) (sym there.1) ∙ added.is in
       let within = added_within n added.rule by_number in
-      let first = some_is (rule_numbered n (version edits n)) (added_numbered edits n added.rule by_number) in
-      let first_there = numbered_among n (version edits n) first.0 first.1 in
+      let first = some_is (rule_numbered n (after_edits edits n)) (added_numbered edits n added.rule by_number) in
+      let first_there = numbered_among n (after_edits edits n) first.0 first.1 in
       let first_added = among_added edits n first.0 first_there.0 in
       let both : Some first_added.rule ≡ Some added.rule = sym (ap (rule_added edits) (sym first_there.1) ∙ first_added.is) ∙ by_number in
       let one : first_added.rule ≡ added.rule = cc in
@@ -216,27 +221,27 @@ module _ (edits : List Edit) (sound : IsTrue (list_all has_sound_actions edits))
         rule = rule.0;
         added = first.0;
         found = rw all rule.1;
-        was = rw (rules_of-history edits n within) first.1;
+        was = rw (rules_after-edit_history edits n within) first.1;
         same = along first.0 added.rule rule.0 (back (subst (λ (r : Rule). IsSame r first.0) one first_added.same)) added.same;
-        sound = sound_among rules rule.0 (runnable-version edits (length edits) sound).sound there.0;
+        sound = sound_among rules rule.0 (runnable-after_edits edits (length edits) sound).sound there.0;
       }
 
 pub live_as : (h : History) → IsOfEdits h → (n : ℕ) → is_live n (live_in h) ≡ true → IsLiveAs h n
 live_as h of n live =
     let P : History → Type 0 = λ g. is_live n (live_in g) ≡ true → IsLiveAs g n in
-    let all : live_in (history_of of.edits) ≡ version of.edits (length of.edits) = ap (rules_of (history_of of.edits)) (newest-history of.edits) ∙ rules_of-history of.edits (length of.edits) (omega arith) in
-    subst P (sym of.history) (λ there. live_of of.edits of.sound n (rw all at there)) live
+    let all : live_in (history_of of.edits of.bundles) ≡ after_edits of.edits (length of.edits) = live_in-history of.edits of.bundles of.whole in
+    subst P (sym of.history) (λ there. live_of of.edits of.sound of.bundles of.whole n (rw all at there)) live
 
 -- a rule that wasn't added isn't live, and so isn't gone
-pub not_added : (h : History) → IsOfEdits h → (n : ℕ) → added_as h n ≡ None → false ≡ is_gone_in h n
+pub not_added : (h : History) → IsOfEdits h → (n : ℕ) → added_as h.edits n ≡ None → false ≡ is_gone_in h n
 not_added h of n none = by_live (is_live n (live_in h)) refl
   where
-    by_live : (t : Bool) → is_live n (live_in h) ≡ t → false ≡ (if t then not (is_some (added_as h n)) else is_some (added_as h n))
+    by_live : (t : Bool) → is_live n (live_in h) ≡ t → false ≡ (if t then not (is_some (added_as h.edits n)) else is_some (added_as h.edits n))
     by_live true now = let clash = sym none ∙ (live_as h of n now).was in absurd (cc clash)
     by_live false now = sym (ap is_some none)
 
 -- what is known of a live rule, by the rule as it was added
-module _ (h : History) (of : IsOfEdits h) (n : ℕ) (live : is_live n (live_in h) ≡ true) (r : stored.Rule) (was : IsAdded h n r) where
+module _ (h : History) (of : IsOfEdits h) (n : ℕ) (live : is_live n (live_in h) ≡ true) (r : stored.Rule) (was : IsAdded h.edits n r) where
   one : rule_view r was.0 ≡ (live_as h of n live).added
   one =
       let both : Some (rule_view r was.0) ≡ Some (live_as h of n live).added = sym was.1 ∙ (live_as h of n live).was in

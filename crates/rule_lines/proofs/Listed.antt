@@ -1,5 +1,5 @@
 -- The live rules, found by their numbers one after the other, and listed in the order of the dump.
-use Rattle.std.proofs.Common.{◌≡◌, inl, inr, ℕ, ◌+◌, ◌≤◌, ◌<◌, ◌==◌, Bool, true, false, if◌then◌else◌, List, [], ◌∷◌, ◌++◌, length, map, Option, Some, None, IsTrue, All, refl, sym, ap, ◌∙◌, subst, append_assoc, arith}
+use Rattle.std.proofs.Common.{◌≡◌, inl, inr, ℕ, ◌+◌, ◌≤◌, ◌<◌, true, false, List, [], ◌∷◌, ◌++◌, length, map, Option, Some, None, IsTrue, All, refl, sym, ap, ◌∙◌, subst, append_assoc, arith}
 use Rattle.std.specs.Prelude.{is_some}
 use Rattle.std.specs.List.{list_all}
 use Rattle.std.specs.Option.{option_map}
@@ -7,17 +7,19 @@ use Rattle.std.proofs.lemmas.Bool.{cases_Bool, cases_eq, false≢true}
 use Rattle.std.proofs.lemmas.List.{append-nil}
 use Rattle.std.proofs.lemmas.List.Elements.{All-nil, All-cons, All-head, All-tail, All-weaker, All-map}
 use Rattle.spec_tables.specs.Rules.{Rule}
-use Rattle.spec_tables.specs.Edits.{Edit, version, has_sound_actions}
+use Rattle.spec_tables.specs.Edits.{Edit, after_edits, has_sound_actions}
+use Rattle.spec_tables.specs.Bundles.{AreBundles}
 use Rattle.spec_tables.specs.Live.{is_live, rule_numbered}
 use Rattle.spec_dumps.specs.Rules.{comes_before, put_in_order, in_order}
-use Rattle.rule_tables.specs.History.{History, newest, rules_of, history_of}
-use Rattle.rule_tables.proofs.Histories.{newest-history, rules_of-history}
+use Rattle.rule_tables.specs.History.{History, applied, history_of}
+use Rattle.rule_tables.proofs.Histories.{applied-edit_history}
 use Rattle.pipe_model.specs.Runnable.{IsAmong}
-use Rattle.pipe_model.proofs.Rising.{Rise, rise_version}
-use Rattle.pipe_model.proofs.Versions.{runnable-version}
+use Rattle.pipe_model.proofs.Rising.{Rise, rise_after_edits}
+use Rattle.pipe_model.proofs.Versions.{runnable-after_edits}
 use Rattle.rule_lines.specs.declared.places.RulePlace.{RulePlace}
 use Rattle.rule_lines.specs.Live.{IsOfEdits, IsLiveIn, live_in}
 use Rattle.rule_lines.specs.Places.{place_of}
+use Rattle.rule_lines.proofs.Added.{live_in-history}
 use Rattle.rule_lines.proofs.Rising.{none_numbered, first_numbered, later_numbered, is_live-rule_numbered}
 
 -- ---- number by number
@@ -119,28 +121,25 @@ pub record IsListed (h : History) (r : Rule) : Type 0 where
   pub found : rule_numbered r.number (live_in h) ≡ Some r
   pub live : IsLiveIn h r.number
 
-pub live_in-history : (edits : List Edit) → live_in (history_of edits) ≡ version edits (length edits)
-live_in-history edits = ap (rules_of (history_of edits)) (newest-history edits) ∙ rules_of-history edits (length edits) (omega arith)
-
-listed_of : (edits : List Edit) → IsTrue (list_all has_sound_actions edits) → All (IsListed (history_of edits)) (live_in (history_of edits))
-listed_of edits sound = all_among (IsListed (history_of edits)) (live_in (history_of edits)) (λ r i.
-    let rules = version edits (length edits) in
-    let there : IsAmong r rules = subst (IsAmong r) (live_in-history edits) i in
-    let found = ap (rule_numbered r.number) (live_in-history edits) ∙ (runnable-version edits (length edits) sound).numbered r there in
-    let within = bounds 0 (length edits) rules (rise_version edits (length edits)) r there in
+listed_of : (edits : List Edit) (bundles : List ℕ) → AreBundles bundles (length edits) → IsTrue (list_all has_sound_actions edits) → All (IsListed (history_of edits bundles)) (live_in (history_of edits bundles))
+listed_of edits bundles whole sound = all_among (IsListed (history_of edits bundles)) (live_in (history_of edits bundles)) (λ r i.
+    let rules = after_edits edits (length edits) in
+    let there : IsAmong r rules = subst (IsAmong r) (live_in-history edits bundles whole) i in
+    let found = ap (rule_numbered r.number) (live_in-history edits bundles whole) ∙ (runnable-after_edits edits (length edits) sound).numbered r there in
+    let within = bounds 0 (length edits) rules (rise_after_edits edits (length edits)) r there in
     record {
       found = found;
       live = record {
-        live = is_live-rule_numbered r.number (live_in (history_of edits)) ∙ ap is_some found;
+        live = is_live-rule_numbered r.number (live_in (history_of edits bundles)) ∙ ap is_some found;
         first = omega (arith, within.0);
-        last = omega (arith, within.1, newest-history edits);
+        last = omega (arith, within.1, applied-edit_history edits);
       };
     })
 
 pub listed : (h : History) → IsOfEdits h → All (IsListed h) (in_order (live_in h))
 listed h of =
     let P : History → Type 0 = λ g. All (IsListed g) (live_in g) in
-    All-in_order (IsListed h) (live_in h) (subst P (sym of.history) (listed_of of.edits of.sound))
+    All-in_order (IsListed h) (live_in h) (subst P (sym of.history) (listed_of of.edits of.bundles of.whole of.sound))
 
 -- the places of these name live rules
 pub places_live : (h : History) → IsOfEdits h → All (λ (p : RulePlace). IsLiveIn h p.number) (map place_of (in_order (live_in h)))
@@ -149,11 +148,11 @@ places_live h of =
     (All-weaker (IsListed h) (λ (r : Rule). IsLiveIn h r.number) (λ r l. l.live) (in_order (live_in h)) (listed h of))
 
 -- the numbers of the live rules rise
-pub rise_live : (h : History) → IsOfEdits h → Rise 0 (newest h) (live_in h)
+pub rise_live : (h : History) → IsOfEdits h → Rise 0 (applied h.edits) (live_in h)
 rise_live h of =
-    let P : History → Type 0 = λ g. Rise 0 (newest g) (live_in g) in
-    let h_of = history_of of.edits in
+    let P : History → Type 0 = λ g. Rise 0 (applied g.edits) (live_in g) in
+    let h_of = history_of of.edits of.bundles in
     let n = length of.edits in
-    let rise : Rise 0 n (live_in h_of) = subst (λ (rs : List Rule). Rise 0 n rs) (sym (live_in-history of.edits)) (rise_version of.edits n) in
-    let all : P h_of = subst (λ (k : ℕ). Rise 0 k (live_in h_of)) (sym (newest-history of.edits)) rise in
+    let rise : Rise 0 n (live_in h_of) = subst (λ (rs : List Rule). Rise 0 n rs) (sym (live_in-history of.edits of.bundles of.whole)) (rise_after_edits of.edits n) in
+    let all : P h_of = subst (λ (k : ℕ). Rise 0 k (live_in h_of)) (sym (applied-edit_history of.edits)) rise in
     subst P (sym of.history) all

@@ -1,8 +1,8 @@
 -- Pieces that are added to a text one after the other.
-use Rattle.std.proofs.Common.{◌≡◌, ℕ, List, ◌++◌, Result, sym, ap, ◌∙◌, append_assoc}
+use Rattle.std.proofs.Common.{◌≡◌, ℕ, List, ◌++◌, Result, ap, ◌∙◌, append_assoc}
 use Rattle.std.specs.Prelude.{String, string_bytes}
 use Rattle.std.proofs.lemmas.Result.{on_ok_weaker, on_err_weaker}
-use Rattle.text_numbers.specs.Added.{Adds, IsPrefix}
+use Rattle.text_numbers.specs.Added.{Adds}
 
 -- what is added after a first piece
 pub then_adds : {Z A E : Type 0} (old mid new : String Z) (x y : List ℕ) (r : Result A E) → string_bytes mid ≡ string_bytes old ++ x

@@ -2,7 +2,6 @@ ghost use Rattle.std.specs.Prelude.{◌≡◌, All, IsTrue, IfOk, OnOk, Some, ma
 ghost use Rattle.std.specs.Option.{option_map};
 ghost use Rattle.spec_tables.specs.Live.{is_live, rule_numbered};
 ghost use Rattle.spec_dumps.specs.Rules.{in_order};
-ghost use Rattle.rule_tables.specs.History.{newest};
 ghost use Rattle.text_numbers.specs.Added.{Adds};
 ghost use Rattle.rule_lines.specs.Live.{IsLiveIn, IsOfEdits, live_in, is_gone_in, live_line};
 ghost use Rattle.rule_lines.specs.Places.{place_of};
@@ -37,8 +36,9 @@ fn live_places(alloc: Global, rules: &VersionedRules) -> Result<Vec<RulePlace>, 
     ensures { IfOk result (λ v. v.items ≡ map place_of (live_in rules.now)) }
 {
     let version = rules.version();
+    let last = rules.edits();
     let mut places = Vec::new(alloc);
-    'numbers: for before in 0..version {
+    'numbers: for before in 0..last {
         let number = before + 1;
         if rules.live(version, number) {
             places.push(place(rules, number))?;

@@ -6,11 +6,13 @@ use Rattle.std.proofs.lemmas.List.{length-map, take_all, get_or_default}
 use Rattle.std.proofs.Math.ListN.{get_or-map}
 use Rattle.std.proofs.lemmas.List.Sums.{sum_by-cons, sum_by_more}
 use Rattle.spec_pcap.specs.Pcap.{snap_length}
-use Rattle.spec_case.specs.Run.{Run, last_version, frames_of}
+use Rattle.spec_tables.specs.Bundles.{edits_through, AreBundles}
+use Rattle.spec_case.specs.Run.{Run, edit_count, frames_of}
 use Rattle.spec_board.specs.State as states
 use Rattle.spec_board.specs.State.{State, Total}
 use Rattle.spec_board.specs.Counts as board
 use Rattle.spec_board.specs.Texts.{Journal}
+use Rattle.bundle_laws.proofs.Bundles.{within}
 use Rattle.board_laws.specs.Counts.{HasBoundedCounts}
 use Rattle.megaflow_table.specs.declared.entry.Entry.{Entry}
 use Rattle.port_caches.specs.declared.lists.HeldList.{HeldList}
@@ -43,18 +45,18 @@ module _ (lists : List HeldList) (es : List Entry) (s : State) (are : s.entries 
   owed_bytes-seen rule =
       ap (board.owed_bytes rule) are ∙ sum_by-of_map (λ (e : states.Entry). board.times_visited rule e.visits * e.owed_bytes) (entry_view lists) es
 
-  pub visits_are_rules : (totals : List Total) (last : ℕ) → length totals ≡ last
-      → All (λ (e : states.Entry). All (λ r. (1 ≤ r) × (r ≤ e.version)) e.visits) s.entries
-      → All (λ (e : states.Entry). e.version ≤ last) s.entries
+  pub visits_are_rules : (totals : List Total) (bundles : List ℕ) (edits : ℕ) → length totals ≡ edits → AreBundles bundles edits
+      → All (λ (e : states.Entry). All (λ r. (1 ≤ r) × (r ≤ edits_through bundles e.version)) e.visits) s.entries
+      → All (λ (e : states.Entry). e.version ≤ length bundles) s.entries
       → All (λ (e : Entry). All (IsRule totals) e.visits) es
-  visits_are_rules totals last long visits versions k d within j z lt =
+  visits_are_rules totals bundles edits long are_bundles visits versions k d here j z lt =
       let view = entry_view lists in
-      let inside : k < length (map view es) = omega (arith, within, length-map es view) in
-      let P : states.Entry → Type 0 = λ e. All (λ r. (1 ≤ r) × (r ≤ e.version)) e.visits in
-      let Q : states.Entry → Type 0 = λ e. e.version ≤ last in
-      let here = subst P (get_or-map view es k d) (subst (All P) are visits k (view d) inside) j z lt in
+      let inside : k < length (map view es) = omega (arith, here, length-map es view) in
+      let P : states.Entry → Type 0 = λ e. All (λ r. (1 ≤ r) × (r ≤ edits_through bundles e.version)) e.visits in
+      let Q : states.Entry → Type 0 = λ e. e.version ≤ length bundles in
+      let visit = subst P (get_or-map view es k d) (subst (All P) are visits k (view d) inside) j z lt in
       let version = subst Q (get_or-map view es k d) (subst (All Q) are versions k (view d) inside) in
-      record { first = here.0; last = omega (arith, here.1, version, long) }
+      record { first = visit.0; last = omega (arith, visit.1, within bundles edits are_bundles _ version, long) }
 
   -- both parts fit, where there is room for what the board counted
   module _ (run : Run) (b : BoardView) (state : s ≡ state_of run b) (rule : ℕ) (bounded : IsBoundedAt run (journal_view b) rule) (old : Total) (room : HasRoom old) where
@@ -94,7 +96,7 @@ counted_by run boards rule = record {
 
 -- The first so many boards are counted.
 pub record AreCounted (run : Run) (boards : List BoardView) (count : ℕ) (counts : List RuleCounts) : Type 0 where
-  pub long : length counts ≡ last_version run
+  pub long : length counts ≡ edit_count run
   pub each : (rule : ℕ) → total_of (sums_view counts) rule ≡ counted_by run (take count boards) rule
   pub packets : (rule : ℕ) → (total_of (sums_view counts) rule).packets ≤ count * 2 ^ 60
   pub bytes : (rule : ℕ) → (total_of (sums_view counts) rule).bytes ≤ count * 2 ^ 60

@@ -1,6 +1,6 @@
 -- What boards counted of a rule.
 use Rattle.std.specs.Prelude.{◌≡◌, ℕ, ◌+◌, ◌-◌, ◌<◌, ◌≤◌, ◌^◌, List, length, slice_index_or}
-use Rattle.spec_case.specs.Run.{Run, last_version}
+use Rattle.spec_case.specs.Run.{Run, edit_count}
 use Rattle.spec_board.specs.State.{Total}
 use Rattle.spec_board.specs.Counts.{owed_packets, owed_bytes}
 use Rattle.spec_board.specs.Texts.{Journal}
@@ -9,8 +9,8 @@ use Rattle.spec_dumps.specs.Rules.{counts_of, end_of}
 
 -- These are the counts of the rules of a run, in the order of their numbers, which count from 1.
 pub record AreCounts (run : Run) (journals : List Journal) (counts : List RuleCounts) : Type 0 where
-  pub long : length counts ≡ last_version run
-  pub each : (rule : ℕ) (d : RuleCounts) → 1 ≤ rule → rule ≤ last_version run → slice_index_or counts (rule - 1) d ≡ counts_of run journals rule
+  pub long : length counts ≡ edit_count run
+  pub each : (rule : ℕ) (d : RuleCounts) → 1 ≤ rule → rule ≤ edit_count run → slice_index_or counts (rule - 1) d ≡ counts_of run journals rule
 
 -- what the board of a journal counted of a rule
 abbrev pub counts_at : Run → Journal → ℕ → Total

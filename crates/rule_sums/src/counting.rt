@@ -1,5 +1,5 @@
 ghost use Rattle.std.specs.Prelude.{◌≡◌, ◌≤◌, ℕ, length, IfOk};
-ghost use Rattle.spec_case.specs.Run.{last_version};
+ghost use Rattle.spec_case.specs.Run.{edit_count};
 ghost use Rattle.pmd_board.specs.BoardView.{journal_view, journals_view};
 ghost use Rattle.rule_sums.specs.Sums.{sums_view, with_total};
 ghost use Rattle.rule_sums.specs.Counted.{AreCounts, IsBoundedAt, HasRoom, counts_at};
@@ -14,7 +14,7 @@ use std::alloc::{AllocError, Global};
 
 // Adds what a board counted of each rule.
 fn add_board<C: Case>(counts: &mut [RuleCounts], run: &RunData<C>, board: &Board<C>)
-    requires rules { length counts.old ≡ last_version C.run }
+    requires rules { length counts.old ≡ edit_count C.run }
     requires room { (rule : ℕ) → HasRoom (total_of (sums_view counts.old) rule) }
     ensures counted { (rule : ℕ) → total_of (sums_view counts.new) rule
         ≡ with_total (counts_at C.run (journal_view board.now) rule) (total_of (sums_view counts.old) rule) }
@@ -22,6 +22,7 @@ fn add_board<C: Case>(counts: &mut [RuleCounts], run: &RunData<C>, board: &Board
 {
     counts_are_bounded();
     visits_of_entries_are_rules();
+    let _ = run.edit_count();
     let _ = run.frames(board.port());
     let _ = board.journal();
     let totals = board.totals();
@@ -32,7 +33,7 @@ fn add_board<C: Case>(counts: &mut [RuleCounts], run: &RunData<C>, board: &Board
 
 // Adds what each board counted, where nothing was counted before.
 fn add_boards<C: Case>(counts: &mut [RuleCounts], run: &RunData<C>, boards: &[Board<C>])
-    requires rules { length counts.old ≡ last_version C.run }
+    requires rules { length counts.old ≡ edit_count C.run }
     requires none { (rule : ℕ) → total_of (sums_view counts.old) rule ≡ nothing }
     ensures { AreCounts C.run (journals_view boards.now) counts.new }
 {
@@ -58,7 +59,7 @@ pub fn count_rules<C: Case>(
         packets: 0,
         bytes: 0,
     };
-    let mut counts = vec![in alloc; none; run.last_version() as usize]?;
+    let mut counts = vec![in alloc; none; run.edit_count() as usize]?;
     add_boards(&mut counts, run, boards);
     Ok(counts)
 }

@@ -1,24 +1,20 @@
 -- The files of a run, one after the other, as they are written.
 use Rattle.std.proofs.Common.{◌≡◌, ℕ, zero, suc, ◌+◌, ◌<◌, ◌≤◌, List, [], ◌∷◌, ◌++◌, length, get_or, take, map, Some, refl, sym, ap, ◌∙◌, append_assoc, inl, arith}
-use Rattle.std.specs.Prelude.{Result, Ok, Err, String, string_bytes, slice_get}
+use Rattle.std.specs.Prelude.{Result, Ok, Err, slice_get}
 use Rattle.std.specs.List.{enumerate_from}
 use Rattle.std.proofs.lemmas.List.{length-map, take_all, append-nil}
 use Rattle.std.proofs.lemmas.List.FromFn.{length-enumerate_from, get_or-enumerate_from}
 use Rattle.std.proofs.lemmas.Option.{slice_get-get_or}
 use Rattle.std.proofs.Math.ListN.{get_or-map}
-use Rattle.std.specs.declared.alloc.Global.{Global}
 use Rattle.spec_base.specs.Files.{File, IsPrefixOf}
 use Rattle.spec_mirrors.specs.Mirrors.{Mirror}
 use Rattle.spec_run.specs.CutShort.{IsCutShort}
 use Rattle.edge_io.specs.Shelf.{Told}
 use Rattle.switch_output.specs.declared.refusal.WriteRefusal.{WriteRefusal}
 use Rattle.edge_io.specs.declared.outside.Shelf as shelf
-use Rattle.edge_io.specs.declared.outside.Failed.{Failed}
-use Rattle.edge_io.specs.declared.outside.Failed.TheVariants as failed
 use Rattle.edge_io.specs.declared.outside.InUse.TheVariants.{Nothing}
-use Rattle.edge_io.specs.Written.{WritesFile}
 use Rattle.switch_output.specs.declared.refusal.WriteRefusal.TheVariants.{OutOfMemory}
-use Rattle.switch_output.specs.Refused.{write_refusal, IfWriteFault, IsCutIn, WritesInTurn}
+use Rattle.switch_output.specs.Refused.{IfWriteFault, IsCutIn, WritesOne, WritesInTurn}
 
 -- one more of these files, after those before it
 pub one_more : (files : List File) (i : ℕ) (f : File) (done before now : List File) → slice_get files i ≡ Some f
@@ -166,7 +162,7 @@ module _ {S : Type 0} (g : shelf.Ghosts S) where
     cause = rw (← first.counts) w.cause;
   }
 
-  -- ---- one file, by what was done
+  -- ---- one file
 
   -- none of these is written where there is no memory for a name
   pub unwritten_in_turn : {T : Type 0} (now : S) (file : File) (more : List File) → g.in_use now ≡ Nothing → WritesInTurn g now now {T = T} (file ∷ more) (Err OutOfMemory)
@@ -187,26 +183,25 @@ module _ {S : Type 0} (g : shelf.Ghosts S) where
   unwritten_before now [] file more none = unwritten_in_turn now file more none
   unwritten_before now (f ∷ first) file more none = unwritten_in_turn now f (first ++ file ∷ more) none
 
-  -- one that is refused is cut short
-  pub refused_in_turn : {T U : Type 0} (old new : S) (name : String Global) (given out text : List ℕ) (f : Failed) → given ≡ string_bytes name → string_bytes name ≡ out
-      → WritesFile g old new {T = T} (given, text) (Err f) → WritesInTurn g old new {T = U} ((out, text) ∷ []) (Err (write_refusal name f))
-  refused_in_turn old new name given out text failed.Fault lent same w = let e : given ≡ out = lent ∙ same in rw (← e) (record {
-    in_use = tt;
-    ok = λ t. tt;
-    err = λ t. record { file = (given, text); cut = record { whole = 0; next = refl; prefix = rw (append-nil (g.told old).done) (w.err t) }; named = sym lent };
-    named = λ t. w.named t refl ∙ lent;
-    since = λ t. w.since t refl;
-    opened = w.opened;
-    counts = tt;
-    cause = w.cause.fault refl;
-  })
-  refused_in_turn old new name given out text failed.OutOfMemory lent same w = let e : given ≡ out = lent ∙ same in rw (← e) (record {
-    in_use = tt;
-    ok = λ t. tt;
-    err = λ t. record { file = (given, text); cut = record { whole = 0; next = refl; prefix = rw (append-nil (g.told old).done) (w.err t) }; named = tt };
+  -- a file is one in turn by itself
+  pub one_in_turn : {T : Type 0} (old new : S) (file : File) (result : Result T WriteRefusal) → WritesOne g old new file result → WritesInTurn g old new (file ∷ []) result
+  one_in_turn old new file (Ok a) w = record {
+    in_use = w.in_use;
+    ok = λ t. ap (λ (w : Told). w.done) (w.ok t);
+    err = λ t. tt;
     named = λ t. tt;
     since = λ t. tt;
     opened = w.opened;
+    counts = w.counts;
+    cause = tt;
+  }
+  one_in_turn old new file (Err r) w = record {
+    in_use = tt;
+    ok = λ t. tt;
+    err = λ t. record { file = file; cut = record { whole = 0; next = refl; prefix = rw (append-nil (g.told old).done) (w.err t) }; named = w.fault };
+    named = w.named;
+    since = w.since;
+    opened = w.opened;
     counts = tt;
-    cause = w.cause.no_memory refl;
-  })
+    cause = w.cause;
+  }

@@ -1,4 +1,5 @@
 pub mod Refused
 pub mod Put
-pub mod Dumps
+pub mod RunFiles
 pub mod OutletViews
+pub mod Sources

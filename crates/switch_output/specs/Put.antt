@@ -1,5 +1,5 @@
 -- What is told of a run: files that are written, and then a text that is printed.
-use Rattle.std.specs.Prelude.{◌≡◌, ℕ, List, ◌++◌, take, Result, IsTrue, OnOk, IfErr, IsErrOf, Ok, Err}
+use Rattle.std.specs.Prelude.{◌≡◌, ℕ, List, ◌++◌, take, Result, IsTrue, OnOk, IfErr, Err}
 use Rattle.spec_base.specs.Files.{File}
 use Rattle.edge_io.specs.declared.outside.Failed.{Failed}
 use Rattle.edge_io.specs.declared.outside.InUse.TheVariants.{Nothing}

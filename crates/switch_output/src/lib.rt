@@ -17,10 +17,10 @@
 //!
 //! # How
 //!
-//! Each file has a name and a call of `egress_capture`, `flow_dump`, `netflow_v5` or `port_mirror`; the three dumps and the
-//! flows go through one function (`Dump`). The filters that tell a port, or a mirror, which frames may be for it are made once,
-//! before the first file: 4 bytes for each frame. What was written before is a list of whole files, to which each call adds
-//! one, and the ways to be cut short go along (`proofs/Written`).
+//! Each file has a name and a call of `egress_capture`, `flow_dump`, `netflow_v5` or `port_mirror` (`RunFile`), and one
+//! function writes each of them. The filters that tell a port, or a mirror, which frames may be for it are made once, before
+//! the first file: 4 bytes for each frame. What was written before is a list of whole files, to which each call adds one, and
+//! the ways to be cut short go along (`proofs/Written`).
 //!
 //! # What is left to others
 //!
@@ -28,10 +28,10 @@
 //! summary, and what a refusal is told as.
 #![tactic(auto)]
 
-mod dump;
 mod outlets;
 mod output;
 mod refusal;
+mod run_file;
 mod writing;
 
 pub use outlets::Outlets;

@@ -34,7 +34,7 @@ pub fn put_out<C: Case, S: Shelf, K: Sink>(
     ran: Option<Ran>,
 ) -> Result<(), OutputRefusal>
     requires in_use { S.in_use shelf.old ≡ Nothing }
-    requires edits { rules.now ≡ history_of C.run.edits }
+    requires edits { rules.now ≡ history_of C.run.edits C.run.bundles }
     requires sound { IsTrue (list_all has_sound_actions C.run.edits) }
     ensures { let files = output_of (outlets_in outlets.entry) C.run finished.now in
         let text = summary C.run finished.now ran in

@@ -3,7 +3,7 @@ use Rattle.std.specs.List.{range_with_len}
 use Rattle.std.proofs.lemmas.List.{take_all}
 use Rattle.std.proofs.lemmas.List.FromFn.{length-range_with_len, get_or-range_with_len}
 use Rattle.std.proofs.lemmas.Result.{err_from_is_err_and}
-use Rattle.rule_tables.specs.History.{newest}
+use Rattle.rule_tables.specs.History.{applied}
 use Rattle.edge_io.proofs.InTurn.{none_yet, one_cut, one_more}
 use Rattle.flow_dump.specs.RuleTexts.{gone_text}
 use Rattle.flow_dump.proofs.rules.write_gone_rules.Goals as goal
@@ -20,8 +20,8 @@ numbers-init g c = none_yet g.S.Shelf _ c.requires.created
 
 pub returns-in_err-write_if_gone : goal.returns-in_err-write_if_gone
 returns-in_err-write_if_gone g c =
-    let n = newest c.args.rules.now in
-    let lt : c.numbers.before < n = omega (arith, c.numbers-test.true, c.version-before-end.ensures) in
+    let n = applied c.args.rules.now.edits in
+    let lt : c.numbers.before < n = omega arith in
     let text = gone_text c.args.rules.now c.args.counts.now in
     let p = err_from_is_err_and c.from_residual.result c.from_residual.ensures.1 in
     let cut = rw (number_at n c.numbers.before lt) at c.in_err-write_if_gone.ensures in
@@ -29,14 +29,14 @@ returns-in_err-write_if_gone g c =
 
 pub numbers-preserved : goal.numbers-preserved
 numbers-preserved g c =
-    let n = newest c.args.rules.now in
-    let lt : c.numbers.before < n = omega (arith, c.numbers-test.true, c.version-before-end.ensures) in
+    let n = applied c.args.rules.now.edits in
+    let lt : c.numbers.before < n = omega arith in
     let text = gone_text c.args.rules.now c.args.counts.now in
     let one = rw (number_at n c.numbers.before lt) at c.in_ok-write_if_gone.ensures in
     one_more g.S.Shelf text _ _ _ (range_with_len 1 n) c.numbers.before 0 (within_range n c.numbers.before lt) c.numbers.invariant _ one
 
 pub returns : goal.returns
 returns g c =
-    let n = newest c.args.rules.now in
-    let all = take_all c.numbers.before (range_with_len 1 n) (omega (arith, length-range_with_len 1 n, c.version-before-end.ensures)) in
+    let n = applied c.args.rules.now.edits in
+    let all = take_all c.numbers.before (range_with_len 1 n) (omega (arith, length-range_with_len 1 n)) in
     rw (← all) c.numbers.invariant

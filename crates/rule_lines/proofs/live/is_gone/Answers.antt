@@ -1,4 +1,4 @@
-use Rattle.std.proofs.Common.{◌≡◌, ◌∙◌, ℕ, List, [], refl, sym, ap, subst, rules}
+use Rattle.std.proofs.Common.{◌∙◌, rules}
 use Rattle.rule_lines.proofs.Added.{not_added}
 use Rattle.rule_lines.proofs.live.is_gone.Goals as goal
 

@@ -1,10 +1,8 @@
-use Rattle.std.proofs.Common.{◌≡◌, ◌∙◌, sym, ap, subst, map}
+use Rattle.std.proofs.Common.{◌∙◌, sym, ap, subst}
 use Rattle.std.specs.Prelude.{All}
-use Rattle.spec_dumps.specs.Rules.{in_order}
 use Rattle.rule_lines.specs.declared.places.RulePlace.{RulePlace}
 use Rattle.rule_lines.specs.Live.{IsLiveIn, live_in}
 use Rattle.rule_lines.specs.Order.{places_in_order}
-use Rattle.rule_lines.specs.Places.{place_of}
 use Rattle.rule_lines.proofs.InOrder.{places-in_order}
 use Rattle.rule_lines.proofs.Listed.{places_live}
 use Rattle.rule_lines.proofs.live.live_in_order.Goals as goal

@@ -1,6 +1,6 @@
-use Rattle.std.proofs.Common.{rules as found, List, [], ◌∷◌, ◌++◌, ◌+◌, ◌≡◌, ◌∙◌, refl, sym, ap, subst, arith}
+use Rattle.std.proofs.Common.{rules as found, List, [], ◌∷◌, ◌++◌, ◌+◌, ◌≡◌, ◌∙◌, sym, ap, subst, arith}
 use Rattle.spec_tables.specs.Live.{is_live}
-use Rattle.rule_tables.specs.History.{newest, rules_of}
+use Rattle.rule_tables.specs.History.{applied, rules_of}
 use Rattle.rule_lines.specs.declared.places.RulePlace.{RulePlace}
 use Rattle.rule_lines.specs.Live.{live_in}
 use Rattle.rule_lines.proofs.Listed.{AreListedTo, none_listed, one_listed, none_here, all_listed, rise_live}
@@ -9,13 +9,13 @@ use Rattle.rule_lines.proofs.live.live_places.Goals.{then-live+in_ok-push, else-
 
 pub numbers-init : goal.numbers-init
 numbers-init c =
-    let none = none_listed (live_in c.args.rules.now) (newest c.args.rules.now) (rise_live c.args.rules.now c.requires) in
-    subst (λ (places : List RulePlace). AreListedTo (live_in c.args.rules.now) 0 (newest c.args.rules.now) places) (search found) none
+    let none = none_listed (live_in c.args.rules.now) (applied c.args.rules.now.edits) (rise_live c.args.rules.now c.requires) in
+    subst (λ (places : List RulePlace). AreListedTo (live_in c.args.rules.now) 0 (applied c.args.rules.now.edits) places) (search found) none
 
 pub numbers-preserved : goal.numbers-preserved
 numbers-preserved c =
     let rules = live_in c.args.rules.now in
-    let last = newest c.args.rules.now in
+    let last = applied c.args.rules.now.edits in
     let live : c.live.result ≡ is_live (c.numbers.before + 1) rules =
     c.live.ensures ∙ ap (λ v. is_live (c.numbers.before + 1) (rules_of c.args.rules.now v)) c.version-version.ensures in
     let P : List RulePlace → Type 0 = λ places. AreListedTo rules (c.numbers.before + 1) last places in
@@ -29,4 +29,4 @@ numbers-preserved c =
     ]
 
 pub returns : goal.returns
-returns c = all_listed (live_in c.args.rules.now) c.numbers.before (newest c.args.rules.now) c.numbers.places.items c.numbers.invariant (omega (arith, c.version-version.ensures))
+returns c = all_listed (live_in c.args.rules.now) c.numbers.before (applied c.args.rules.now.edits) c.numbers.places.items c.numbers.invariant (omega arith)

@@ -1,4 +1,4 @@
-use Rattle.std.proofs.Common.{◌≡◌, ◌∙◌, ℕ, List, [], refl, sym, ap, subst, rules}
+use Rattle.std.proofs.Common.{◌∙◌, refl, sym}
 use Rattle.rule_lines.proofs.Added.{live_as, place_is}
 use Rattle.rule_lines.proofs.live.place.Goals as goal
 

@@ -1,4 +1,4 @@
-use Rattle.std.proofs.Common.{◌≡◌, ◌∙◌, ℕ, List, [], refl, sym, ap, subst, rules}
+use Rattle.std.proofs.Common.{◌∙◌, ℕ, List, [], refl, sym, ap, subst}
 use Rattle.std.specs.Option.{option_map_or}
 use Rattle.spec_dumps.specs.Rules.{rule_line_with}
 use Rattle.text_numbers.specs.Added.{Adds}

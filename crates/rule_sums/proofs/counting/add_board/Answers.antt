@@ -38,7 +38,7 @@ add_owed-requires-clause-rules g c =
     let b = c.args.board.now in
     let are = c.entries-flows.ensures.entries in
     let long = length-map c.add_totals.new.counts sum_view ∙ c.add_totals.auto.counts ∙ c.requires.rules in
-    visits_are_rules are.0 c.entries-flows.result.now.entries (state_of run b) are.1 (sums_view c.add_totals.new.counts) _ long
+    visits_are_rules are.0 c.entries-flows.result.now.entries (state_of run b) are.1 (sums_view c.add_totals.new.counts) run.bundles _ long c.edit_count.ensures.bundled
     (c.visits_of_entries_are_rules.ensures.visits run b.port b.flow_limit b.journal c.journal.ensures.keys c.journal.ensures.legal)
     (c.visits_of_entries_are_rules.ensures.versions run b.port b.flow_limit b.journal c.journal.ensures.in_order c.journal.ensures.legal)
 

@@ -8,6 +8,6 @@ use Rattle.rule_sums.proofs.counting.count_rules.Goals as goal
 pub add_boards-requires-clause-none : goal.add_boards-requires-clause-none
 add_boards-requires-clause-none g c rule =
     let none : RuleCounts = record { packets = 0; bytes = 0 } in
-    let new : c.in_ok-counts.counts.items ≡ replicate c.last_version.result none = search rules in
-    let counts : c.deref_mut.result.now ≡ replicate c.last_version.result none = c.deref_mut.ensures.value ∙ new in
-    ap (λ (cs : List RuleCounts). total_of (sums_view cs) rule) counts ∙ total_of-replicate c.last_version.result rule
+    let new : c.in_ok-counts.counts.items ≡ replicate c.edit_count.result none = search rules in
+    let counts : c.deref_mut.result.now ≡ replicate c.edit_count.result none = c.deref_mut.ensures.value ∙ new in
+    ap (λ (cs : List RuleCounts). total_of (sums_view cs) rule) counts ∙ total_of-replicate c.edit_count.result rule
