@@ -1,10 +1,11 @@
 //! Runs of literal edits and frames, each with calls of the board of its port.
 ghost use Rattle.std.specs.Prelude.{◌≡◌, ◌<◌, ◌≤◌, IsTrue, IfOk, length};
 ghost use Rattle.std.specs.List.{list_all};
+ghost use Rattle.spec_tables.specs.Bundles.{AreBundles};
 ghost use Rattle.spec_tables.specs.Edits.{has_sound_actions};
 ghost use Rattle.run_blocks.specs.Places.{HasPort, IsCounted, AreCounted};
 ghost use Rattle.spec_case.specs.Blocks.{AreInOrder};
-ghost use Rattle.spec_case.specs.Run.{last_version};
+ghost use Rattle.spec_case.specs.Run.{edit_count, last_version};
 
 use crate::calls::{Call, first_wrong};
 use crate::flows::{Flow, edits_of};
@@ -27,7 +28,7 @@ pub const PORT: u16 = 1;
 
 const SECOND: u64 = 1_000_000_000;
 
-/// More edits and more frames than a row has.
+/// More edits, bundles and frames than a row has.
 const MANY: usize = 100;
 
 /// The header of a capture file of Ethernet frames, with times in microseconds (pcap-savefile(5)).
@@ -71,11 +72,11 @@ pub const THREE_FRAMES: Counts = Counts {
     bytes: 180,
 };
 
-/// A run, and what the calls of its port's board answer, one after the other.
+/// A run, in which each flow is a bundle by itself, and what the calls of its port's board answer, one after the other.
 pub struct Row {
     pub shows: &'static str,
     pub flows: &'static [Flow],
-    /// The second of the one sync point, if there is one, and how many edits stand before it.
+    /// The second of the one sync point, if there is one, and how many flows stand before it.
     pub sync: Option<(u8, u32)>,
     /// The seconds at which frames come in, each with the last byte of the frame's destination.
     pub frames: &'static [(u8, u8)],
@@ -103,19 +104,32 @@ fn trace_of(alloc: Global, frames: &[(u8, u8)]) -> Result<Trace, Fail>
     Ok(read_trace(alloc, file, MANY)?)
 }
 
+/// How many edits stand through each bundle, where each edit is one by itself.
+fn each_alone(alloc: Global, edits: u32) -> Result<Vec<u32>, AllocError>
+    requires { edits < MANY }
+    ensures whole { IfOk result (λ bundles. AreBundles bundles.items edits) }
+    ensures count { IfOk result (λ bundles. length bundles.items ≡ edits) }
+{
+    let mut bundles = Vec::new(alloc);
+    'edits: for before in 0..edits {
+        bundles.push(before + 1)?;
+    }
+    Ok(bundles)
+}
+
 fn syncs_of(
     alloc: Global,
     sync: Option<(u8, u32)>,
-    edits: u32,
+    bundles: u32,
 ) -> Result<Vec<SyncPoint>, AllocError>
-    ensures order { IfOk result (λ syncs. AreInOrder syncs.items edits) }
+    ensures order { IfOk result (λ syncs. AreInOrder syncs.items bundles) }
     ensures few { IfOk result (λ syncs. length syncs.items ≤ 1) }
 {
     let mut syncs = Vec::new(alloc);
     if let Some((second, after)) = sync {
         syncs.push(SyncPoint {
             time: u64::from(second) * SECOND,
-            after: after.min(edits),
+            after: after.min(bundles),
         })?;
     }
     Ok(syncs)
@@ -138,22 +152,26 @@ fn first_wrong_of(alloc: Global, row: &Row) -> Result<Option<usize>, Fail>
     list.push(PORT)?;
     let ports = Ports::new(list);
     let edits = edits_of(alloc, row.flows)?;
-    let syncs = syncs_of(alloc, row.sync, edits.len() as u32)?;
+    let bundles = each_alone(alloc, edits.len() as u32)?;
+    let syncs = syncs_of(alloc, row.sync, bundles.len() as u32)?;
     let mut traces = Vec::new(alloc);
     traces.push(trace_of(alloc, row.frames)?)?;
-    Ok(in_run::<Brand>(alloc, ports, edits, syncs, traces, row)?)
+    Ok(in_run::<Brand>(alloc, ports, edits, bundles, syncs, traces, row)?)
 }
 
 fn in_run<C: Case>(
     alloc: Global,
     ports: Ports,
     edits: Vec<Edit>,
+    bundles: Vec<u32>,
     syncs: Vec<SyncPoint>,
     traces: Vec<Trace>,
     row: &Row,
 ) -> Result<Option<usize>, AllocError>
     requires ports { ports ≡ C.run.ports }
     requires edits { edits.items ≡ C.run.edits }
+    requires bundles { bundles.items ≡ C.run.bundles }
+    requires whole { AreBundles C.run.bundles (edit_count C.run) }
     requires syncs { syncs.items ≡ C.run.syncs }
     requires traces { traces.items ≡ C.run.traces }
     requires port { HasPort C.run.ports PORT }
@@ -161,10 +179,18 @@ fn in_run<C: Case>(
     requires one_each { length C.run.traces ≡ length C.run.ports }
     requires in_order { AreInOrder C.run.syncs (last_version C.run) }
     requires few_edits { length C.run.edits < MANY }
+    requires few_bundles { length C.run.bundles < MANY }
     requires few_syncs { length C.run.syncs ≤ 1 }
     requires counted { AreCounted C.run.traces }
 {
-    let run = RunData::<C>::new(alloc, ports, edits.len() as u32, syncs, traces)?;
-    let edits = RunEdits::new(edits);
+    let run = RunData::<C>::new(
+        alloc,
+        ports,
+        edits.len() as u32,
+        bundles.len() as u32,
+        syncs,
+        traces,
+    )?;
+    let edits = RunEdits::new(edits, bundles);
     first_wrong(alloc, &run, &edits, row.flow_limit, row.calls)
 }

@@ -7,7 +7,7 @@ use std::process::Abort;
 use std::sync::Wait;
 use table_publish::{Editor, PublishFault, Seer};
 
-/// Publishes the next edit, which is to be answered so.
+/// Publishes the next bundle, which is to be answered so.
 pub fn publishes<C: Case, R: Wait + Abort>(
     rt: &R,
     editor: Editor<C>,

@@ -1,10 +1,11 @@
 //! News that a seer learns from behind a lock.
 ghost use Rattle.std.specs.Prelude.{◌≡◌, ◌≤◌, IsTrue, length};
 ghost use Rattle.std.specs.List.{list_all};
+ghost use Rattle.spec_tables.specs.Bundles.{AreBundles};
 ghost use Rattle.spec_tables.specs.Edits.{has_sound_actions};
 
 use crate::calls::{enters, publishes};
-use crate::edits::{EDITS, edits_of};
+use crate::edits::{EDITS, bundles_of, edits_of};
 use rule_tables::Edit;
 use run_case::Case;
 use run_edits::RunEdits;
@@ -76,15 +77,23 @@ impl<C: Case, P: Publication> Mailbox<C, P> {
 fn news_are_learnt_from_behind_a_lock(rt: HostRuntime) -> Result<(), Fail> {
     let alloc = rt.alloc();
     let edits = edits_of(alloc)?;
-    in_run::<Brand, _>(&rt, alloc, edits)
+    let bundles = bundles_of(alloc)?;
+    in_run::<Brand, _>(&rt, alloc, edits, bundles)
 }
 
-fn in_run<C: Case, R: Wait + Abort>(rt: &R, alloc: Global, edits: Vec<Edit>) -> Result<(), Fail>
+fn in_run<C: Case, R: Wait + Abort>(
+    rt: &R,
+    alloc: Global,
+    edits: Vec<Edit>,
+    bundles: Vec<u32>,
+) -> Result<(), Fail>
     requires edits { edits.items ≡ C.run.edits }
+    requires bundles { bundles.items ≡ C.run.bundles }
+    requires whole { AreBundles C.run.bundles EDITS }
     requires sound { IsTrue (list_all has_sound_actions C.run.edits) }
     requires few { length C.run.edits ≡ EDITS }
 {
-    let edits = RunEdits::<C>::new(edits);
+    let edits = RunEdits::<C>::new(edits, bundles);
     let (editor, mut seers) = publish(rt, alloc, 1)?;
     let editor = publishes(rt, editor, &edits, Ok(1));
     in_publication::<C, Brand, R>(rt, editor, seers.remove(0));

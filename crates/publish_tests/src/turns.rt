@@ -1,10 +1,11 @@
 //! An editor and seers, in turn.
 ghost use Rattle.std.specs.Prelude.{◌≡◌, IsTrue, length};
 ghost use Rattle.std.specs.List.{list_all};
+ghost use Rattle.spec_tables.specs.Bundles.{AreBundles};
 ghost use Rattle.spec_tables.specs.Edits.{has_sound_actions};
 
 use crate::calls::{enters, publishes};
-use crate::edits::{EDITS, edits_of};
+use crate::edits::{EDITS, bundles_of, edits_of};
 use rule_tables::Edit;
 use run_case::Case;
 use run_edits::RunEdits;
@@ -21,15 +22,23 @@ const SEERS: usize = 2;
 fn a_guard_keeps_its_version_and_the_next_has_the_newest(rt: HostRuntime) -> Result<(), Fail> {
     let alloc = rt.alloc();
     let edits = edits_of(alloc)?;
-    in_turn::<Brand, _>(&rt, alloc, edits)
+    let bundles = bundles_of(alloc)?;
+    in_turn::<Brand, _>(&rt, alloc, edits, bundles)
 }
 
-fn in_turn<C: Case, R: Wait + Abort>(rt: &R, alloc: Global, edits: Vec<Edit>) -> Result<(), Fail>
+fn in_turn<C: Case, R: Wait + Abort>(
+    rt: &R,
+    alloc: Global,
+    edits: Vec<Edit>,
+    bundles: Vec<u32>,
+) -> Result<(), Fail>
     requires edits { edits.items ≡ C.run.edits }
+    requires bundles { bundles.items ≡ C.run.bundles }
+    requires whole { AreBundles C.run.bundles EDITS }
     requires sound { IsTrue (list_all has_sound_actions C.run.edits) }
     requires few { length C.run.edits ≡ EDITS }
 {
-    let edits = RunEdits::<C>::new(edits);
+    let edits = RunEdits::<C>::new(edits, bundles);
     let (editor, mut seers) = publish(rt, alloc, SEERS)?;
     assert_eq!(rt; seers.len(), SEERS);
     let guard = seers.remove(0).enter(rt);

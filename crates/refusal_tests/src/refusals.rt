@@ -62,7 +62,7 @@ pub struct Fault {
 }
 
 /// Files of edits that are refused.
-pub static EDITS_FAULTS: [Fault; 15] = [
+pub static EDITS_FAULTS: [Fault; 18] = [
     Fault {
         shows: "a prefix that is too long",
         file: "ip,nw_dst=10.0.0.0/33,actions=2",
@@ -140,6 +140,24 @@ pub static EDITS_FAULTS: [Fault; 15] = [
         file: "sync 2|sync 1",
         status: 3,
         text: "edits:2:1: sync order",
+    },
+    Fault {
+        shows: "a sync line in a bundle",
+        file: "begin|sync 1",
+        status: 3,
+        text: "edits:2:1: syntax",
+    },
+    Fault {
+        shows: "a bundle that is left open",
+        file: "begin",
+        status: 3,
+        text: "edits:1:1: syntax",
+    },
+    Fault {
+        shows: "the end of a bundle that wasn't begun",
+        file: "commit",
+        status: 3,
+        text: "edits:1:1: syntax",
     },
     Fault {
         shows: "65 actions",

@@ -19,10 +19,10 @@
 //! - There is a journal for each port. Without workers they are those of the run's schedule: the given steps that are met, and
 //!   then what is left. With workers they are those that threads made. Each is legal and complete: each step is one that may be taken where it stands and has the result that it has there,
 //!   exactly one of them decides each frame of the port's trace, and at the end a sweep of the last version is completed.
-//! - A frame is decided as a plain priority scan of one version of the tables decides it. That version is in the
-//!   frame's *window*: it is of the frame's block, which lies between two sync points, it is no older than the last
-//!   sweep completed before, and no newer than the newest version that the board had carried. Where no block has both edits
-//!   and frames, it is the last of the frame's block, with any number of workers.
+//! - A frame is decided as a plain priority scan of one version of the tables decides it; each bundle of edits makes one. That
+//!   version is in the frame's *window*: it is of the frame's block, which lies between two sync points, it is no older than
+//!   the last sweep completed before, and no newer than the newest version that the board had carried. Where no block has
+//!   both edits and frames, it is the last of the frame's block, with any number of workers.
 //! - The bytes of a port's file are those of the frames that these decisions send there, in the order of time, ingress
 //!   port and place.
 //! - The flows are those of the IPv4 packets that came in, with the first port to which these decisions send each flow's first
@@ -47,7 +47,7 @@
 //! parameter: every board, and every fact of a board, speaks of it.
 //!
 //! Without workers each port's board takes the given steps and is then run to its end, which decides every frame; it keeps
-//! as many megaflows at most as the words say. The tables follow the edits meanwhile (`given_steps`, `step_runner`). With
+//! as many megaflows at most as the words say. The tables follow the bundles meanwhile (`given_steps`, `step_runner`). With
 //! workers threads do all of this (`worker_phase`). Only then files are written and the summary is printed
 //! (`switch_output`), of boards whose type says that they are finished. Why a run was refused is told without memory
 //! (`switch_refusals`).

@@ -150,8 +150,15 @@ fn decide_and_tell<
         mirrors,
         traces,
     } = inputs;
-    let edits = RunEdits::<C>::new(script.edits);
-    let run = RunData::<C>::new(alloc, ports, edits.count(), script.syncs, traces)?;
+    let edits = RunEdits::<C>::new(script.edits, script.bundles);
+    let run = RunData::<C>::new(
+        alloc,
+        ports,
+        edits.edits(),
+        edits.versions(),
+        script.syncs,
+        traces,
+    )?;
     let (finished, told) = decide(rt, alloc, &run, &edits, &command, &steps, gate)?;
     let outlets = outlets_of(&command.input, &mirrors);
     put_out(alloc, shelf, say, outlets, &run, &rules, &finished, told)
@@ -210,7 +217,8 @@ fn end<R: Threads + Wait + Sync, S: Shelf, K: Sink, G: Gate + Sync>(
 /// EDITS has a line for each edit of the tables, as ovs-ofctl(8) writes flows: a word (`add` where it is left out,
 /// `modify`, `modify_strict`, `delete`, `delete_strict`), a match of fields with values and masks, a table, a priority and
 /// a cookie, and actions, each of which is run. A line that is none ends with status 3 and its place, also where it has an
-/// action or a field that is left out.
+/// action or a field that is left out. No frame is decided between two edits that stand between the lines `begin` and
+/// `commit`.
 ///
 /// There may be lines `sync SECONDS` between the edits. In each trace the frames before the first that isn't before that
 /// time are decided under no more than the edits before the line, and those from it on under no fewer. Which version it

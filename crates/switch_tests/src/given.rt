@@ -3,7 +3,7 @@
 use switch_runs::cases::{Bytes, Given, NO_FRAMES, Run, STEPS, STEPS_AT_THREE_PORTS};
 
 /// Given steps, and what is left of the run after them.
-pub static GIVEN: [Given; 10] = [
+pub static GIVEN: [Given; 11] = [
     Given {
         steps: "edit|rx 1|snap 1 1|edit|sweep 1|swept 1|settle 1 1|snap 1 1|settle 1 1",
         run: Run {
@@ -42,6 +42,25 @@ pub static GIVEN: [Given; 10] = [
                 look 3 exact 1|port 2|begin 2|end|port 3|begin 2|end",
             summary: "ports=3 frames=3 edits=2 blocks=1|exact=1 mega=1 miss=1|installed=1 present=0 full=0|\
                 sent=3 dropped=0 entries=1|steps=11 unmet=0",
+        },
+    },
+    Given {
+        steps: "edit|rx 1|snap 1 1|settle 1 1|edit|sweep 1|check 1 1|put 1 1|swept 1|rx 1",
+        run: Run {
+            shows: "a bundle is published at once, and its rules have the numbers of their edits",
+            words: STEPS_AT_THREE_PORTS,
+            edits: "in_port=1,actions=2|begin|delete in_port=1|in_port=1,actions=3|commit",
+            traces: &[("a.pcap", Bytes::At(&[1, 2]))],
+            sent: &[(1, NO_FRAMES), (2, Bytes::At(&[1])), (3, Bytes::At(&[2]))],
+            rules: "cookie=0x0, table=0, n_packets=1, n_bytes=60, priority=32768,in_port=1 actions=output:3 \
+                # rule=3|\
+                # gone rule=1 n_packets=1 n_bytes=60",
+            megaflows: "port=1 entry=1 version=2 packets=1 bytes=60 owed_packets=1 owed_bytes=60 \
+                used=2.000000000 visits=3 match=in_port=1,dl_type=0x88b5 actions=3",
+            journal: "port 1|look 1 miss|settle 1 1 installed 1|begin 2|put 1 2 replaced|end|look 2 mega 1|\
+                port 2|begin 2|end|port 3|begin 2|end",
+            summary: "ports=3 frames=2 edits=3 blocks=1|exact=0 mega=1 miss=1|installed=1 present=0 full=0|\
+                sent=2 dropped=0 entries=1|steps=10 unmet=0",
         },
     },
     Given {

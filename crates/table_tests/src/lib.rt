@@ -6,6 +6,8 @@
 #![tactic(auto)]
 
 #[cfg(test)]
+mod bundles;
+#[cfg(test)]
 mod caches;
 #[cfg(test)]
 mod fields;

@@ -14,7 +14,7 @@ const IN_PORT_BITS: u128 = 0xffff;
 const DL_DST_BITS: u128 = 0xffff_ffff_ffff;
 
 /// `in_port=1`
-fn port_1() -> Match {
+pub fn port_1() -> Match {
     let mut key = Key::zero();
     key.set(FieldId::InPort, 1);
     let mut mask = Mask::none();
@@ -23,7 +23,7 @@ fn port_1() -> Match {
 }
 
 /// `in_port=1,dl_dst=00:00:00:00:00:02`
-fn port_1_to_2() -> Match {
+pub fn port_1_to_2() -> Match {
     let mut key = Key::zero();
     key.set(FieldId::InPort, 1);
     key.set(FieldId::DlDst, 2);
@@ -34,7 +34,7 @@ fn port_1_to_2() -> Match {
 }
 
 /// An edit without a table, whose action is an output.
-fn edit(
+pub fn edit(
     alloc: Global,
     word: EditWord,
     cookie: Option<u64>,
@@ -57,11 +57,11 @@ fn five_versions(alloc: Global) -> Result<VersionedRules, AllocError>
     ensures { IfOk result (λ rules. newest rules ≡ 5) }
 {
     let mut rules = VersionedRules::new(alloc);
-    rules.apply(&edit(alloc, EditWord::Add, Some(7), port_1(), 2)?)?;
-    rules.apply(&edit(alloc, EditWord::Add, None, port_1_to_2(), 3)?)?;
-    rules.apply(&edit(alloc, EditWord::Modify, None, port_1(), 4)?)?;
-    rules.apply(&edit(alloc, EditWord::DeleteStrict, None, port_1(), 0)?)?;
-    rules.apply(&edit(alloc, EditWord::Add, None, port_1_to_2(), 5)?)?;
+    rules.apply(&[edit(alloc, EditWord::Add, Some(7), port_1(), 2)?])?;
+    rules.apply(&[edit(alloc, EditWord::Add, None, port_1_to_2(), 3)?])?;
+    rules.apply(&[edit(alloc, EditWord::Modify, None, port_1(), 4)?])?;
+    rules.apply(&[edit(alloc, EditWord::DeleteStrict, None, port_1(), 0)?])?;
+    rules.apply(&[edit(alloc, EditWord::Add, None, port_1_to_2(), 5)?])?;
     Ok(rules)
 }
 
@@ -110,10 +110,10 @@ fn strict_words(alloc: Global) -> Result<VersionedRules, AllocError>
     ensures { IfOk result (λ rules. newest rules ≡ 4) }
 {
     let mut rules = VersionedRules::new(alloc);
-    rules.apply(&edit(alloc, EditWord::Add, Some(7), port_1(), 2)?)?;
-    rules.apply(&edit(alloc, EditWord::ModifyStrict, Some(9), port_1(), 3)?)?;
-    rules.apply(&edit(alloc, EditWord::ModifyStrict, None, port_1_to_2(), 4)?)?;
-    rules.apply(&edit(alloc, EditWord::Delete, None, Match::any(), 0)?)?;
+    rules.apply(&[edit(alloc, EditWord::Add, Some(7), port_1(), 2)?])?;
+    rules.apply(&[edit(alloc, EditWord::ModifyStrict, Some(9), port_1(), 3)?])?;
+    rules.apply(&[edit(alloc, EditWord::ModifyStrict, None, port_1_to_2(), 4)?])?;
+    rules.apply(&[edit(alloc, EditWord::Delete, None, Match::any(), 0)?])?;
     Ok(rules)
 }
 

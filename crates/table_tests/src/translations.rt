@@ -43,8 +43,8 @@ fn two_tables(
     ensures runnable { IfOk result (λ r. AreRunnable (rules_of r 2)) }
 {
     let mut rules = VersionedRules::new(alloc);
-    rules.apply(&adding(alloc, 0, first)?)?;
-    rules.apply(&adding(alloc, 1, second)?)?;
+    rules.apply(&[adding(alloc, 0, first)?])?;
+    rules.apply(&[adding(alloc, 1, second)?])?;
     Ok(rules)
 }
 

@@ -31,6 +31,21 @@ fn a_script_has_edits_and_sync_points(rt: HostRuntime) -> Result<(), Fail> {
     Ok(())
 }
 
+#[test]
+fn edits_between_begin_and_commit_are_one_bundle(rt: HostRuntime) -> Result<(), Fail> {
+    let bytes =
+        b"actions=1\n begin # two edits\ndelete\nactions=2\ncommit\nsync 1\nbegin\ncommit\nactions=3\n";
+    let script = read_script(rt.alloc(), bytes)?;
+    assert_eq!(rt; script.edits.len(), 4);
+    assert_eq!(rt; script.bundles.as_slice(), [1, 3, 4].as_slice());
+    let sync = SyncPoint {
+        time: 1_000_000_000,
+        after: 2,
+    };
+    assert_eq!(rt; script.syncs.as_slice(), [sync].as_slice());
+    Ok(())
+}
+
 fn fault_of(script: Result<Script, ScriptFault>) -> Option<ScriptFault> {
     script.err()
 }
@@ -57,5 +72,13 @@ fn a_fault_has_its_line_and_column(rt: HostRuntime) {
     assert_eq!(rt;
         fault_of(falling_time),
         Some(ScriptFault::SyncOrder { line: 2 })
+    );
+    let left_open = read_script(rt.alloc(), b"actions=1\n  begin\nactions=2\n");
+    assert_eq!(rt;
+        fault_of(left_open),
+        Some(ScriptFault::Line {
+            line: 2,
+            why: TextFault::Syntax { col: 3 }
+        })
     );
 }

@@ -19,6 +19,18 @@ fn a_lookup_without_a_winner_is_told(rt: HostRuntime) -> Result<(), Fail> {
 }
 
 #[test]
+fn a_trace_is_through_the_rules_of_all_bundles(rt: HostRuntime) -> Result<(), Fail> {
+    let trace = Trace {
+        edits: "actions=1\nbegin\ndelete\nactions=2\ncommit\n",
+        words: &words_for("in_port=1"),
+        status: 0,
+        text: "flow: in_port=1\n0 table=0 rule=3 priority=32768 actions=output:2\nlast: in_port=1\nmegaflow: in_port=1,dl_type=0x0000\ndatapath: 2\n",
+    };
+    assert!(rt; ends_as_shown(rt.alloc(), &trace, NONE, NONE)?);
+    Ok(())
+}
+
+#[test]
 fn the_port_of_the_flow_is_one_of_the_switch(rt: HostRuntime) -> Result<(), Fail> {
     let trace = Trace {
         edits: TO_AN_EMPTY_TABLE,

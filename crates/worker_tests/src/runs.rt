@@ -1,14 +1,15 @@
 //! Runs of literal edits and frames, each with acts on the board of its port.
 ghost use Rattle.std.specs.Prelude.{◌≡◌, ◌<◌, ◌≤◌, IsTrue, IfOk, length};
 ghost use Rattle.std.specs.List.{list_all};
+ghost use Rattle.spec_tables.specs.Bundles.{AreBundles};
 ghost use Rattle.spec_tables.specs.Edits.{has_sound_actions};
 ghost use Rattle.run_blocks.specs.Places.{HasPort, IsCounted, AreCounted};
 ghost use Rattle.spec_case.specs.Blocks.{AreInOrder};
-ghost use Rattle.spec_case.specs.Run.{last_version};
+ghost use Rattle.spec_case.specs.Run.{edit_count, last_version};
 ghost use Rattle.spec_script.specs.Script.{most_edits, most_syncs};
 
 use crate::acts::{Act, first_wrong};
-use edit_script::{Edit, MOST_BYTES, SyncPoint, read_script};
+use edit_script::{MOST_BYTES, Script, read_script};
 use pcap_reader::{Trace, read_trace};
 use pmd_board::Board;
 use run_case::{Case, Ports, RunData};
@@ -50,7 +51,7 @@ pub struct Row {
     pub edits: &'static [u8],
     /// The last byte of each frame's destination. All frames come in at 1 second.
     pub frames: &'static [u8],
-    /// How many edits are published before the first act.
+    /// How many bundles are published before the first act.
     pub published: u32,
     /// For how many upcalls the queue has room.
     pub room: usize,
@@ -94,10 +95,10 @@ fn first_wrong_of<R: Wait>(rt: &R, alloc: Global, row: &Row) -> Result<Option<us
     let script = read_script(alloc, row.edits)?;
     let mut traces = Vec::new(alloc);
     traces.push(trace_of(alloc, row.frames)?)?;
-    Ok(in_run::<Brand, R>(rt, alloc, ports, script.edits, script.syncs, traces, row)?)
+    Ok(in_run::<Brand, R>(rt, alloc, ports, script, traces, row)?)
 }
 
-/// Publishes so many edits, or fewer where there are fewer.
+/// Publishes so many bundles, or fewer where there are fewer.
 fn published<C: Case, R: Wait>(
     rt: &R,
     editor: Editor<C>,
@@ -115,14 +116,15 @@ fn in_run<C: Case, R: Wait>(
     rt: &R,
     alloc: Global,
     ports: Ports,
-    edits: Vec<Edit>,
-    syncs: Vec<SyncPoint>,
+    script: Script,
     traces: Vec<Trace>,
     row: &Row,
 ) -> Result<Option<usize>, AllocError>
     requires ports { ports ≡ C.run.ports }
-    requires edits { edits.items ≡ C.run.edits }
-    requires syncs { syncs.items ≡ C.run.syncs }
+    requires edits { script.edits.items ≡ C.run.edits }
+    requires bundles { script.bundles.items ≡ C.run.bundles }
+    requires whole { AreBundles C.run.bundles (edit_count C.run) }
+    requires syncs { script.syncs.items ≡ C.run.syncs }
     requires traces { traces.items ≡ C.run.traces }
     requires port { HasPort C.run.ports PORT }
     requires sound { IsTrue (list_all has_sound_actions C.run.edits) }
@@ -132,8 +134,15 @@ fn in_run<C: Case, R: Wait>(
     requires few_syncs { length C.run.syncs ≤ most_syncs }
     requires counted { AreCounted C.run.traces }
 {
-    let run = RunData::<C>::new(alloc, ports, edits.len() as u32, syncs, traces)?;
-    let edits = RunEdits::new(edits);
+    let edits = RunEdits::<C>::new(script.edits, script.bundles);
+    let run = RunData::<C>::new(
+        alloc,
+        ports,
+        edits.edits(),
+        edits.versions(),
+        script.syncs,
+        traces,
+    )?;
     let board = Board::new(alloc, &run, PORT, AMPLE)?;
     let (editor, mut seers) = publish(rt, alloc, 1)?;
     let editor = published(rt, editor, &edits, row.published);

@@ -1,8 +1,8 @@
 use Rattle.std.proofs.Common.{◌≡◌, [], ◌∷◌, true, refl, sym, ap, ◌∙◌, subst, arith}
 use Rattle.std.proofs.lemmas.Bool.{and_from}
 use Rattle.spec_tables.specs.Edits.{Edit, has_sound_actions}
-use Rattle.rule_tables.specs.History.{History, rules_of, edited_by, history_of}
-use Rattle.rule_tables.proofs.Histories.{history-none, history-push}
+use Rattle.rule_tables.specs.History.{History, rules_of, bundled_by, history_of}
+use Rattle.rule_tables.proofs.Histories.{history-none, history-bundled}
 use Rattle.pipe_model.specs.Runnable.{AreRunnable}
 use Rattle.pipe_model.proofs.Versions.{runnable-history}
 use Rattle.table_tests.proofs.translations.two_tables.Goals as goal
@@ -11,8 +11,10 @@ pub returns-clause-runnable : goal.returns-clause-runnable
 returns-clause-runnable c =
     let first : Edit = c.in_ok-adding.field-0 in
     let second : Edit = c.in_ok-adding-2.field-0 in
-    let one : c.apply.new.self ≡ history_of (first ∷ []) = c.in_ok-apply.ensures.edited ∙ ap (edited_by first) (c.new-rules.ensures ∙ history-none) ∙ sym (history-push [] first) in
-    let two : c.apply-2.new.self ≡ history_of (first ∷ second ∷ []) = c.in_ok-apply-2.ensures.edited ∙ ap (edited_by second) one ∙ sym (history-push (first ∷ []) second) in
+    let one : c.apply.new.self ≡ history_of (first ∷ []) (1 ∷ []) =
+    c.in_ok-apply.ensures.bundled ∙ ap (bundled_by (first ∷ [])) (c.new-rules.ensures ∙ history-none) ∙ history-bundled [] (first ∷ []) [] in
+    let two : c.apply-2.new.self ≡ history_of (first ∷ second ∷ []) (1 ∷ 2 ∷ []) =
+    c.in_ok-apply-2.ensures.bundled ∙ ap (bundled_by (second ∷ [])) one ∙ history-bundled (first ∷ []) (second ∷ []) (1 ∷ []) in
     subst (λ (h : History). AreRunnable (rules_of h 2)) (sym two)
-    (runnable-history (first ∷ second ∷ []) 2 (omega arith)
+    (runnable-history (first ∷ second ∷ []) (1 ∷ 2 ∷ []) 2 (omega arith)
     (and_from (has_sound_actions first) _ c.in_ok-adding.ensures.sound (and_from (has_sound_actions second) true c.in_ok-adding-2.ensures.sound refl)))
