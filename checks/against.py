@@ -17,6 +17,7 @@ LEFT_OUT = {
     "first-switch": "one of its ports is hexadecimal, which Open vSwitch refuses",
     "stale-settle": "its steps say which version decides a frame",
     "replaced-entry": "its steps say which version decides a frame",
+    "swapped-rules": "its steps say which version decides a frame",
 }
 
 

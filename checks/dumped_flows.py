@@ -24,7 +24,7 @@ COMMAND = re.compile(r"sed -E '[^']*'")
 BY_OLD, BY_NEWER = [["ovs-ofctl", "-O", version, "--no-names", "dump-flows", "br0"] for version in [OLD, NEWER]]
 BY_SWITCH = ["ovs-appctl", "bridge/dump-flows", "br0"]
 # One of its ports is hexadecimal, which Open vSwitch refuses; steps say which version decides a frame.
-LEFT_OUT = ["first-switch", "replaced-entry", "stale-settle"]
+LEFT_OUT = ["first-switch", "replaced-entry", "stale-settle", "swapped-rules"]
 # What a dump by OpenFlow 1.0 lacks.
 LACKED = "push_vlan"
 # Flows with what no example has: times, flags and fragments.

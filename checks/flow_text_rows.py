@@ -92,6 +92,19 @@ a second line, indented                              | \\n \\tsync 5.           
 a time with a leading zero                           | sync 05                                    | 1:6 bad value
 a time of 33 bits                                    | sync 4294967296                            | 1:6 bad value
 a tenth digit                                        | sync 1.0123456789                          | 1:6 bad value
+# bundles
+a sync line in a bundle                              | begin\\nsync 1                              | 2:1 syntax
+a bundle that no line ends                           | begin                                      | 1:1 syntax
+the last of two bundles, indented                    | begin\\ncommit\\n begin # 2\\nactions=2       | 3:2 syntax
+a line with a fault in a bundle that no line ends    | begin\\nfoo                                 | 2:1 unknown name
+an end of no bundle                                  | commit                                     | 1:1 syntax
+a second beginning                                   | begin\\nbegin                               | 2:1 syntax
+a second end                                         | begin\\ncommit\\n\\tcommit                    | 3:2 syntax
+a word behind a beginning                            | begin  1 2                                 | 1:8 syntax
+a word behind an end                                 | begin\\ncommit 1                            | 2:8 syntax
+a second beginning with a word behind it             | begin\\nbegin 1                             | 2:1 syntax
+an end of no bundle with a word behind it            | commit 1                                   | 1:1 syntax
+a byte above 127 behind an end of no bundle          | commit \\xff                                | 1:8 syntax
 # actions
 an action that is none                               | actions=2,bar                              | 1:11 unknown name
 DROP                                                 | actions=DROP                               | 1:9 unknown name
@@ -187,6 +200,7 @@ a strict word without a table means table 0          | table=3,actions=2\\nactio
 a modify that reaches no rule                        | modify in_port=1,actions=2 |  | 0
 a delete of all                                      | in_port=1,actions=2\\nactions=3\\ndelete |  | 4
 a match of fewer bits isn't more specific            | reg0=1/1,actions=2\\ndelete reg0=1/3 | 1 output:2 | 1
+in a bundle edits act one after the other            | begin\\nactions=2\\ndelete\\ncommit\\nbegin\\nactions=3\\ncommit | 3 output:3 | 3
 """
 
 
@@ -229,8 +243,8 @@ def reads_back(line):
 
 def version_of(data):
     rules = Rules()
-    for edit in read_script(data).edits:
-        rules.apply(edit)
+    for bundle in read_script(data).bundles:
+        rules.apply(bundle)
     live = "; ".join(f"{rule.number} {print_actions(rule.actions)}" for rule in rules.live.values())
     return live, str(rules.changes)
 

@@ -82,6 +82,7 @@ VEILS, VEIL_DELETES = [0, 1, 2, 2], 6
 # The bytes of addresses, of the header of IPv4 and of ports.
 CHANGED_BYTES = [0, 5, 11, 15, 16, 22, 23, 29, 30, 32, 33, 35, 37]
 ODD_SYNCS = ["sync", " sync ", "sync1", "Sync 1", "syncs 1", "sync=1", "sync,1", "sync 1\v", "add sync 1", "sync\0 1"]
+ODD_BOUNDS = ["begin", "commit", "begin 1", " commit commit", "commit\v", " begin\t", "Begin", "commits", "commit,", "begin#", ""]
 
 
 # What a trace is made of; fraction is in the unit of the trace.
@@ -182,12 +183,26 @@ class Maker(Picker):
             lines.append(self.one(*ODD_SYNCS) if self.rarely() else line)
         return lines
 
+    def bundled(self, lines):
+        """The lines in groups, some of which stand between begin and commit. Seldom one of these two is odd or missing."""
+        groups = []
+        while lines:
+            count = self.one(0, 1, 2, 2, 3, 5) if self.chance(0.2) else None
+            taken = lines[: 1 if count is None else count]
+            lines = lines[len(taken) :]
+            around = ["begin", "commit"] if count is not None else []
+            if around and self.rarely():
+                around[self.one(0, 1)] = self.one(*ODD_BOUNDS)
+            groups.append([*around[:1], *taken, *around[1:]])
+        return groups
+
     def edits(self):
-        lines = self.rules()
+        groups = self.bundled(self.rules())
         syncs = self.syncs()
-        places = sorted(self.pick.randrange(len(lines) + 1) for _ in syncs)
+        places = sorted(self.pick.randrange(len(groups) + 1) for _ in syncs)
         for place, sync in reversed(list(zip(places, syncs))):
-            lines.insert(place, sync)
+            groups.insert(place, [sync])
+        lines = [line for group in groups for line in group]
         return ("\n".join(lines) + self.one("", "\n")).encode()
 
     def frame(self):

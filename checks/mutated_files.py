@@ -41,7 +41,7 @@ SYNCS = [b"sync 0", b"sync 1", b"sync 2.5", b"sync 3.000000001", b"sync 42949672
 ODD_LINES = {
     "steps": [b"edit", b"rx 1", b"sweep 1", b"swept 1", b"open 1", b"put 1 1", b"snap 1 1", b"settle 1 1", b""],
     "mirrors": [b"select_all", b",", b"", b"select_dst_port=1", b"select_src_port=1\r"],
-    "edits": [*SYNCS, *SYNCS, b"", b"delete", b"modify actions=2", b"actions=all", b"modify_strict actions=", b"#"],
+    "edits": [*SYNCS, *SYNCS, b"begin", b"begin", b"commit", b"commit", b"", b"delete", b"modify actions=2", b"actions=all", b"modify_strict actions=", b"#"],
 }
 LONG_LINES = [b" " * LIMITS["line"], b"#".ljust(LIMITS["line"] + 1)]
 # How often a line is repeated: also more often than there may be mirrors and sync lines.

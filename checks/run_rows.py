@@ -278,6 +278,23 @@ GIVEN = {
         "out.megaflows": "port=1 entry=1 version=2 packets=2 bytes=120 owed_packets=1 owed_bytes=60 used=3.000000000 visits=1 "
                          "match=in_port=1,dl_type=0x88b5 actions=3",
     }, THREE_PORTS, f"{FIRST_STEPS}|edit|rx 1|sweep 1|check 1 1|put 1 1|swept 1|rx 1"),
+    "a bundle is published at once, and its rules have the numbers of their edits": Row(
+        f"{FROM_1}\nbegin\ndelete in_port=1\nin_port=1,actions=3\ncommit", [F, F],
+        {
+            "said": "ports=3 frames=2 edits=3 blocks=1|exact=0 mega=1 miss=1|installed=1 present=0 full=0|"
+                    "sent=2 dropped=0 entries=1|steps=10 unmet=0",
+            "journal of 1": f"{FIRST_LINES}|begin 2|put 1 2 replaced|end|look 2 mega 1",
+            "sent by 2": [F], "sent by 3": [F],
+            "out.rules": "cookie=0x0, table=0, n_packets=1, n_bytes=60, priority=32768,in_port=1 actions=output:3 # rule=3|"
+                         "# gone rule=1 n_packets=1 n_bytes=60",
+        },
+        THREE_PORTS, f"{FIRST_STEPS}|edit|sweep 1|check 1 1|put 1 1|swept 1|rx 1",
+    ),
+    "no bundle is left behind the last one": Row(f"begin\n{FROM_1}\n{FROM_1}\ncommit\nbegin\ncommit", [F], {
+        "said": f"ports=2 frames=1 edits=2 blocks=1|{ONE_DECIDED}|steps=3 unmet=1",
+        "out.rules": "cookie=0x0, table=0, n_packets=1, n_bytes=60, priority=32768,in_port=1 actions=output:2 # rule=2|"
+                     "# gone rule=1 n_packets=0 n_bytes=0",
+    }, STEPS_WORDS, "edit|edit|rx 1"),
     "an entry that is kept, and dropped by a wider one": Row(WIDENED, [F, F, F6], DROPPED, STEPS_WORDS, WIDER_STEPS),
     "also where no more than one may be": Row(WIDENED, [F, F, F6], DROPPED, f"--flow-limit 1 {STEPS_WORDS}", WIDER_STEPS),
     "an entry that is dropped by a wider one before a sweep has put it": Row(WIDENED, [F, F6], {

@@ -28,7 +28,7 @@ ZEROS = {size: pow(PRIME, size, 1 << 64) for _, size in FIELD_SIZES}
 EXACT, MEGA, MISS = "exact", "mega", "miss"
 INSTALLED, PRESENT, FULL = "installed", "present", "full"
 
-# A block of a port: its frames, and how many edits stand before it and before its end.
+# A block of a port: its frames, and how many bundles stand before it and before its end.
 Block = namedtuple("Block", "frames lo hi")
 # What a version of the rules makes of a key.
 Versioned = namedtuple("Versioned", "version translated")

@@ -1,4 +1,4 @@
-"""The rules of a switch by version: what the edits of flow text do to them, after ovs-ofctl(8)."""
+"""The rules of a switch by version: what the edits of flow text do to them, bundle by bundle, after ovs-ofctl(8)."""
 from collections import namedtuple
 
 from .flow_text import refuse_over
@@ -11,13 +11,18 @@ class Rules:
     """The rules that the edits so far have made, by number, and how many rules these added, changed or removed."""
 
     def __init__(self):
-        self.version, self.changes, self.live, self.numbers = 0, 0, {}, {}
+        self.version, self.edit_count, self.changes, self.live, self.numbers = 0, 0, 0, {}, {}
         # The numbers of those that were ever added.
         self.added = []
 
-    def apply(self, edit):
-        """Makes the next version."""
+    def apply(self, bundle):
+        """Makes the next version by the edits of a bundle."""
         self.version += 1
+        for edit in bundle:
+            self.carry_out(edit)
+
+    def carry_out(self, edit):
+        self.edit_count += 1
         if edit.word == "add":
             self.add(edit)
         else:
@@ -30,9 +35,10 @@ class Rules:
         for rule in self.strictly_reached(edit):
             self.remove(rule)
         identity = identity_of(edit)
-        self.added.append(self.version)
-        self.numbers[identity] = self.version
-        self.live[self.version] = Rule(self.version, *identity, edit.cookie or 0, edit.actions)
+        number = self.edit_count
+        self.added.append(number)
+        self.numbers[identity] = number
+        self.live[number] = Rule(number, *identity, edit.cookie or 0, edit.actions)
         self.changes += 1
 
     def modify(self, rule, edit):
@@ -64,6 +70,6 @@ def last_version(edits):
     """The rules that all edits make. Raises OverLimit where the edits change too much."""
     rules = Rules()
     for edit in edits:
-        rules.apply(edit)
+        rules.carry_out(edit)
     refuse_over(rules.changes, "changes")
     return rules

@@ -62,11 +62,10 @@ UNSUPPORTED_ACTIONS = """
     set_tunnel set_vlan_vid set_vlan_pcp push_mpls pop_mpls
 """.split()
 
-# The time in nanoseconds, and the number of edits before it.
+# The time in nanoseconds, and the number of bundles before it.
 Sync = namedtuple("Sync", "time after")
 # The priority is 32768 where none stands; table and cookie are then None.
 Edit = namedtuple("Edit", "word table priority cookie matching actions")
-Script = namedtuple("Script", "edits syncs")
 # A kind, by its name in docs/FORMATS.md, and its arguments.
 Action = namedtuple("Action", "kind arguments")
 # Bits of a named field, both ends among them.
@@ -78,6 +77,14 @@ Stated = namedtuple("Stated", "name needs field value mask")
 Part = namedtuple("Part", "text column")
 # An item of an action list, and whether its brackets close.
 Item = namedtuple("Item", "text column closes")
+
+
+class Script(namedtuple("Script", "bundles syncs")):
+    """The edits of each bundle, and the sync points."""
+
+    @property
+    def edits(self):
+        return [edit for bundle in self.bundles for edit in bundle]
 
 
 class TextFault(Exception):
@@ -122,11 +129,13 @@ def number_of(part, most, least=0):
 
 
 def read_script(data):
-    """The edits and sync points of a file. Raises its first fault, or what is above its limit."""
+    """The bundles and sync points of a file. Raises its first fault, or what is above its limit."""
     refuse_over(len(data), "edits-bytes")
-    edits, syncs = [], []
-    read_lines(data, read_line, edits, syncs)
-    return Script(edits, syncs)
+    reader = ScriptReader()
+    read_lines(data, reader.read_line)
+    if reader.open is not None:
+        raise TextFault(SYNTAX, reader.begun.column, reader.begun.line)
+    return Script(reader.bundles, reader.syncs)
 
 
 def read_lines(data, read, *arguments):
@@ -140,21 +149,60 @@ def read_lines(data, read, *arguments):
             raise TextFault(fault.reason, fault.column, number) from None
 
 
-def read_line(line, edits, syncs):
-    text = line.partition("#")[0]
-    words = parts_of(text, WHITE)
-    if not words:
-        return
-    if words[0].text == "sync":
-        refuse_over(len(syncs) + 1, "syncs")
+# Where a bundle was begun.
+Begun = namedtuple("Begun", "line column")
+
+
+class ScriptReader:
+    """What the lines of a file have said so far."""
+
+    def __init__(self):
+        self.bundles, self.syncs, self.edit_count = [], [], 0
+        # The edits of the bundle that the lines are in, or None, and where it was begun.
+        self.open, self.begun = None, None
+        self.lines = 0
+
+    def read_line(self, line):
+        self.lines += 1
+        text = line.partition("#")[0]
+        words = parts_of(text, WHITE)
+        if not words:
+            return
+        if words[0].text == "sync":
+            self.read_sync(text, words)
+        elif words[0].text == "begin":
+            self.check_word_alone(text, words, self.open is None)
+            self.open, self.begun = [], Begun(self.lines, words[0].column)
+        elif words[0].text == "commit":
+            self.check_word_alone(text, words, self.open is not None)
+            self.bundles += [self.open] if self.open else []
+            self.open = None
+        else:
+            self.read_edit(text, words)
+
+    def read_sync(self, text, words):
+        refuse_over(len(self.syncs) + 1, "syncs")
         require_ascii(text, 0)
+        require(self.open is None, SYNTAX, words[0])
         time = read_sync_time(words)
-        if syncs and time < syncs[-1].time:
+        if self.syncs and time < self.syncs[-1].time:
             raise TextFault(SYNC_ORDER, 1)
-        syncs.append(Sync(time, len(edits)))
-    else:
-        refuse_over(len(edits) + 1, "edits")
-        edits.append(read_edit(text, words[0]))
+        self.syncs.append(Sync(time, len(self.bundles)))
+
+    def check_word_alone(self, text, words, may_stand):
+        require_ascii(text, 0)
+        require(may_stand, SYNTAX, words[0])
+        for word in words[1:]:
+            require(False, SYNTAX, word)
+
+    def read_edit(self, text, words):
+        refuse_over(self.edit_count + 1, "edits")
+        edit = read_edit(text, words[0])
+        self.edit_count += 1
+        if self.open is None:
+            self.bundles.append([edit])
+        else:
+            self.open.append(edit)
 
 
 def parts_of(text, separators, at=0):

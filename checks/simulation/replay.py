@@ -17,10 +17,10 @@ class Unlawful(Exception):
 class Versions:
     """The tables of each version of the rules, which are made as they are asked for."""
 
-    def __init__(self, edits, ports):
+    def __init__(self, bundles, ports):
         self.ports, self.live, self.tables, rules = ports, [[]], {}, Rules()
-        for edit in edits:
-            rules.apply(edit)
+        for bundle in bundles:
+            rules.apply(bundle)
             self.live.append(list(rules.live.values()))
 
     def translate(self, version, key):
@@ -70,7 +70,7 @@ class Replay:
 
 def replayed(script, frames, flow_limit, journal):
     """The boards at the end of a run with this journal. Raises Unlawful where it is none of this run."""
-    versions = Versions(script.edits, list(frames))
+    versions = Versions(script.bundles, list(frames))
     boards = [Board(port, blocks_of(frames[port], script), flow_limit) for port in frames]
     left = iter(boards)
     replay = None

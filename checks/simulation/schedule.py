@@ -1,6 +1,6 @@
 """Boards under way: given steps, and how a run is finished after them, or without any.
 
-Every translation is made by the newest version, which is the number of the edits that are published so far.
+Every translation is made by the newest version, which is the number of the bundles that are published so far.
 """
 from .caches import FLOW_LIMIT, Block, Board, Versioned
 from .classifier import Tables
@@ -15,7 +15,7 @@ def blocks_of(frames, script):
         end = next((at for at, frame in enumerate(frames) if frame.time >= sync.time), len(frames))
         blocks.append(Block(frames[:end], lo, sync.after))
         frames, lo = frames[end:], sync.after
-    return [*blocks, Block(frames, lo, len(script.edits))]
+    return [*blocks, Block(frames, lo, len(script.bundles))]
 
 
 class Schedule:
@@ -23,7 +23,7 @@ class Schedule:
 
     def __init__(self, script, frames, flow_limit=FLOW_LIMIT):
         """frames has those of each port."""
-        self.edits, self.rules, self.tables = script.edits, Rules(), None
+        self.bundles, self.rules, self.tables = script.bundles, Rules(), None
         self.boards = {port: Board(port, blocks_of(frames[port], script), flow_limit) for port in frames}
         # What was made of the keys of frames and of entries for a later step, by the step, the port and their number.
         self.kept = {}
@@ -33,7 +33,7 @@ class Schedule:
         return self.rules.version
 
     def publish(self):
-        self.rules.apply(self.edits[self.newest])
+        self.rules.apply(self.bundles[self.newest])
         self.tables = None
 
     def translate(self, key):

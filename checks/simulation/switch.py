@@ -16,7 +16,7 @@ from .rewriting import sent
 from .schedule import Schedule
 from .steps import read_steps
 
-# What a run is made of: its edits and sync points, the rules that all of them make, the frames of each port, the unit of
+# What a run is made of: its bundles of edits and its sync points, the rules that all edits make, the frames of each port, the unit of
 # the files that are written, and the steps, or None where none are given. And its mirrors.
 Input = namedtuple("Input", "script rules frames unit steps mirrors", defaults=[()])
 # How many steps were given, and how many of these weren't met.
@@ -39,7 +39,7 @@ def read_text(read, data, name):
 
 @functools.lru_cache(1)
 def read_edits(data):
-    """The edits and sync points of a file, and the rules that all of them make. Those of the last file are remembered:
+    """The bundles and sync points of a file, and the rules that all edits make. Those of the last file are remembered:
     made_runs.py reads it before it is run."""
     script = read_script(data)
     return script, last_version(script.edits)
