@@ -539,6 +539,17 @@ def some_pings(desk, count, gap=1000000):
     )
 
 
+# ---- swapped-rules
+
+
+def pings_in_turn():
+    """What comes from a desk, which pings the file server and the printer in turn, but the file server twice in the middle."""
+    targets = [FILE_SERVER, PRINTER, FILE_SERVER, FILE_SERVER, PRINTER]
+    return trace(
+        (MORNING + number * 1000000, ping(DESK, target, 0x1000 + number, number)) for number, target in enumerate(targets, 1)
+    )
+
+
 TRACES = {
     "access-list/outside.pcap": outside,
     "access-list/inside.pcap": inside,
@@ -556,6 +567,7 @@ TRACES = {
     "rule-change/rack-a.pcap": old_place,
     "stale-settle/desk.pcap": lambda: some_pings(DESK, 1),
     "stale-settle/other-desk.pcap": lambda: some_pings(OTHER_DESK, 2),
+    "swapped-rules/desk.pcap": pings_in_turn,
     "two-captures/desk.pcap": pings,
     "two-captures/server.pcap": replies,
     "vlan-access/desks.pcap": from_a_desk,
