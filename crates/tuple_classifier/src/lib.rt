@@ -71,8 +71,8 @@
 //! - An add or a strict word, also in a bundle, finds the subtable of its mask by one hash, however many masks there are, and
 //!   then takes a few probes and a walk of each trie. The sorted lists are of different priorities, so an add moves what stands
 //!   after its place in one only where no rule of the mask has the priority yet, and a strict delete only where no other rule
-//!   has it. Else they change a count. Where a rule goes by its name, by a strict delete or for an added one, the addresses of
-//!   the live rules of greater numbers move, of 8 bytes each.
+//!   has it. Else they change a count. Where a rule goes by its name, by a strict delete or for an added one, the live rules
+//!   of greater numbers move, of 24 bytes each: a signature, and the address of a box.
 //! - Where it brings a new mask, or changes the greatest priority of one, where the mask belongs in the order is found by a
 //!   binary search, and the places behind, of 4 bytes each, move by one. A mask that stood there before, or goes, is first found
 //!   by a pass over these, and a mask that goes takes a second one.
