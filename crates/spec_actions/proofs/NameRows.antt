@@ -5,7 +5,7 @@ use Rattle.spec_base.specs.Bits.{all_bits}
 use Rattle.spec_keys.specs.Fields.{place_of, fields}
 use Rattle.spec_keys.specs.declared.field_id.FieldId.{FieldId}
 use Rattle.spec_actions.specs.declared.named_field.NamedField.{NamedField}
-use Rattle.spec_actions.specs.declared.named_field.NamedField.TheVariants.{InPort, Metadata, Reg0, Reg1, Reg2, Reg3, Reg4, Reg5, Reg6, Reg7, Reg8, Reg9, Reg10, Reg11, Reg12, Reg13, Reg14, Reg15, DlSrc, DlDst, DlType, VlanTci, VlanVid, VlanPcp, NwSrc, NwDst, ArpSpa, ArpTpa, Ipv6Src, Ipv6Dst, NwProto, ArpOp, NwTos, IpDscp, NwEcn, NwTtl, IpFrag, ArpSha, ArpTha, TpSrc, TpDst, TcpSrc, TcpDst, UdpSrc, UdpDst, IcmpType, IcmpCode, Icmpv6Type, Icmpv6Code}
+use Rattle.spec_actions.specs.declared.named_field.NamedField.TheVariants.{InPort, Metadata, Reg0, Reg1, Reg2, Reg3, Reg4, Reg5, Reg6, Reg7, Reg8, Reg9, Reg10, Reg11, Reg12, Reg13, Reg14, Reg15, DlSrc, DlDst, DlType, VlanTci, VlanVid, VlanPcp, NwSrc, NwDst, ArpSpa, ArpTpa, Ipv6Src, Ipv6Dst, NwProto, ArpOp, NwTos, IpDscp, NwEcn, NwTtl, IpFrag, ArpSha, ArpTha, TpSrc, TpDst, TcpSrc, TcpDst, UdpSrc, UdpDst, IcmpType, IcmpCode, Icmpv6Type, Icmpv6Code, VlanTpid, VlanTci2, VlanTpid2}
 use Rattle.spec_actions.specs.declared.named_field.Prerequisite.{Prerequisite}
 use Rattle.spec_actions.specs.declared.named_field.Prerequisite.TheVariants as needs
 use Rattle.spec_actions.specs.Named.{named}
@@ -20,7 +20,7 @@ abbrev names : List NamedField
 names =
     InPort ∷ Metadata ∷ registers ++ (DlSrc ∷ DlDst ∷ DlType ∷ VlanTci ∷ VlanVid ∷ VlanPcp ∷ NwSrc ∷ NwDst ∷ ArpSpa ∷
     ArpTpa ∷ Ipv6Src ∷ Ipv6Dst ∷ NwProto ∷ ArpOp ∷ NwTos ∷ IpDscp ∷ NwEcn ∷ NwTtl ∷ IpFrag ∷ ArpSha ∷ ArpTha ∷ TpSrc ∷
-    TpDst ∷ TcpSrc ∷ TcpDst ∷ UdpSrc ∷ UdpDst ∷ IcmpType ∷ IcmpCode ∷ Icmpv6Type ∷ Icmpv6Code ∷ [])
+    TpDst ∷ TcpSrc ∷ TcpDst ∷ UdpSrc ∷ UdpDst ∷ IcmpType ∷ IcmpCode ∷ Icmpv6Type ∷ Icmpv6Code ∷ VlanTpid ∷ VlanTci2 ∷ VlanTpid2 ∷ [])
 
 -- ---- the field, and the bits of it
 
@@ -34,7 +34,7 @@ fields_and_their_names :
     ++ ((DlSrc ∷ []) ∷ (DlDst ∷ []) ∷ (DlType ∷ []) ∷ (VlanTci ∷ VlanVid ∷ VlanPcp ∷ []) ∷ (NwSrc ∷ ArpSpa ∷ []) ∷
     (NwDst ∷ ArpTpa ∷ []) ∷ (Ipv6Src ∷ []) ∷ (Ipv6Dst ∷ []) ∷ (NwProto ∷ ArpOp ∷ []) ∷ (NwTos ∷ IpDscp ∷ NwEcn ∷ []) ∷
     (NwTtl ∷ []) ∷ (IpFrag ∷ []) ∷ (ArpSha ∷ []) ∷ (ArpTha ∷ []) ∷ (TpSrc ∷ TcpSrc ∷ UdpSrc ∷ IcmpType ∷ Icmpv6Type ∷ []) ∷
-    (TpDst ∷ TcpDst ∷ UdpDst ∷ IcmpCode ∷ Icmpv6Code ∷ []) ∷ [])
+    (TpDst ∷ TcpDst ∷ UdpDst ∷ IcmpCode ∷ Icmpv6Code ∷ []) ∷ (VlanTpid ∷ []) ∷ (VlanTci2 ∷ []) ∷ (VlanTpid2 ∷ []) ∷ [])
 fields_and_their_names = refl
 
 -- the names of so many bits
@@ -47,7 +47,7 @@ names_by_width =
     (13, VlanVid ∷ []) ∷ (
       16,
       InPort ∷ DlType ∷ VlanTci ∷ TpSrc ∷ TpDst ∷ TcpSrc ∷ TcpDst ∷ UdpSrc ∷ UdpDst ∷ IcmpType ∷ IcmpCode ∷
-          Icmpv6Type ∷ Icmpv6Code ∷ [],
+          Icmpv6Type ∷ Icmpv6Code ∷ VlanTpid ∷ VlanTci2 ∷ VlanTpid2 ∷ [],
     ) ∷
     (32, registers ++ (NwSrc ∷ NwDst ∷ ArpSpa ∷ ArpTpa ∷ [])) ∷ (48, DlSrc ∷ DlDst ∷ ArpSha ∷ ArpTha ∷ []) ∷
     (64, Metadata ∷ []) ∷ (128, Ipv6Src ∷ Ipv6Dst ∷ []) ∷ []
@@ -70,7 +70,8 @@ the_names_that_begin_above_the_least_bit = refl
 -- what is never written; what is written in part, and the bits; all others are written whole
 the_names_by_what_a_write_changes :
     (filter (λ n. (named n).writable == 0) names
-    ≡ InPort ∷ DlType ∷ NwProto ∷ ArpOp ∷ IpFrag ∷ IcmpType ∷ IcmpCode ∷ Icmpv6Type ∷ Icmpv6Code ∷ [])
+    ≡ InPort ∷ DlType ∷ NwProto ∷ ArpOp ∷ IpFrag ∷ IcmpType ∷ IcmpCode ∷ Icmpv6Type ∷ Icmpv6Code ∷ VlanTpid ∷
+    VlanTci2 ∷ VlanTpid2 ∷ [])
     × ((map (λ n. (named n).writable) (NwTos ∷ []) ≡ 0xfc ∷ [])
     × (filter (λ n. (named n).writable == all_bits (named n).bits) names
     ≡ Metadata ∷ registers ++ (DlSrc ∷ DlDst ∷ VlanTci ∷ VlanVid ∷ VlanPcp ∷ NwSrc ∷ NwDst ∷ ArpSpa ∷ ArpTpa ∷ Ipv6Src ∷
@@ -80,7 +81,7 @@ the_names_by_what_a_write_changes = (refl, (refl, refl))
 the_names_that_may_be_masked :
     filter (λ n. (named n).maskable) names
     ≡ Metadata ∷ registers ++ (DlSrc ∷ DlDst ∷ VlanTci ∷ VlanVid ∷ NwSrc ∷ NwDst ∷ ArpSpa ∷ ArpTpa ∷ Ipv6Src ∷ Ipv6Dst ∷
-    ArpSha ∷ ArpTha ∷ TpSrc ∷ TpDst ∷ TcpSrc ∷ TcpDst ∷ UdpSrc ∷ UdpDst ∷ [])
+    ArpSha ∷ ArpTha ∷ TpSrc ∷ TpDst ∷ TcpSrc ∷ TcpDst ∷ UdpSrc ∷ UdpDst ∷ VlanTpid ∷ VlanTci2 ∷ VlanTpid2 ∷ [])
 the_names_that_may_be_masked = refl
 
 -- whether a write acts on any packet
@@ -93,7 +94,7 @@ with_need n = (n, (named n).write_needs)
 
 what_a_write_to_each_name_needs :
     (filter (λ n. is_for_all (named n).write_needs) names
-    ≡ InPort ∷ Metadata ∷ registers ++ (DlSrc ∷ DlDst ∷ DlType ∷ VlanTci ∷ []))
+    ≡ InPort ∷ Metadata ∷ registers ++ (DlSrc ∷ DlDst ∷ DlType ∷ VlanTci ∷ VlanTpid ∷ VlanTci2 ∷ VlanTpid2 ∷ []))
     × (map with_need (filter (λ n. not (is_for_all (named n).write_needs)) names)
     ≡ (VlanVid, needs.Tag) ∷ (VlanPcp, needs.Tag) ∷ (NwSrc, needs.Ipv4) ∷ (NwDst, needs.Ipv4) ∷ (ArpSpa, needs.Arp) ∷
     (ArpTpa, needs.Arp) ∷ (Ipv6Src, needs.Ipv6) ∷ (Ipv6Dst, needs.Ipv6) ∷ (NwProto, needs.Ip) ∷ (ArpOp, needs.Arp) ∷

@@ -7,7 +7,7 @@ use Rattle.spec_actions.specs.declared.named_field.NamedField.{NamedField}
 use Rattle.spec_actions.specs.declared.named_field.NamedField.TheVariants as name
 use Rattle.spec_actions.specs.declared.named_field.Prerequisite.TheVariants as needs
 use Rattle.spec_actions.specs.declared.action.Slice.{Slice}
-use Rattle.spec_actions.specs.declared.action.OfAction.TheVariants.{Resubmit, Goto, Set, Move, OutputField, SetVid, SetPcp}
+use Rattle.spec_actions.specs.declared.action.OfAction.TheVariants.{Resubmit, Goto, Set, Move, OutputField, PushVlan, SetVid, SetPcp}
 use Rattle.spec_actions.specs.Named.{named}
 use Rattle.spec_actions.specs.Sound.{is_sound}
 
@@ -73,6 +73,16 @@ a_move_reads_what_it_may_not_write :
     (is_sound (Move (whole name.InPort 15) (whole name.Reg0 15)) ≡ true)
     × (is_sound (Move (whole name.Reg0 15) (whole name.InPort 15)) ≡ false)
 a_move_reads_what_it_may_not_write = (refl, refl)
+
+a_name_that_is_printed_alone_is_in_no_action :
+    (is_sound (OutputField (whole name.VlanTpid 15)) ≡ false)
+    × (is_sound (Move (whole name.VlanTci2 15) (whole name.Reg0 15)) ≡ false)
+    × (is_sound (Set name.VlanTpid2 0x8100 0xffff) ≡ false)
+a_name_that_is_printed_alone_is_in_no_action = (refl, refl, refl)
+
+a_pushed_tag_has_one_of_two_types :
+    (is_sound (PushVlan 0x8100) ≡ true) × (is_sound (PushVlan 0x88a8) ≡ true) × (is_sound (PushVlan 0x9100) ≡ false)
+a_pushed_tag_has_one_of_two_types = (refl, refl, refl)
 
 a_set_is_within_its_name :
     (is_sound (Set name.VlanVid 0x1fff 0x1fff) ≡ true) × (is_sound (Set name.VlanVid 0x2000 0x1fff) ≡ false)

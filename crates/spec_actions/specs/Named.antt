@@ -1,11 +1,11 @@
--- The named fields of the flow text, after ovs-fields(7). What a write needs of the packet, and that in_port, dl_type,
+-- The named fields of the flow text, after ovs-fields(7), and those that are printed alone. What a write needs of the packet, and that in_port, dl_type,
 -- nw_proto, ip_frag and the ARP and ICMP codes can't be written, is this profile's.
 use Rattle.std.specs.Prelude.{ℕ, Bool, true, false}
 use Rattle.spec_base.specs.Bits.{all_bits}
 use Rattle.spec_keys.specs.declared.field_id.FieldId.{FieldId}
 use Rattle.spec_keys.specs.declared.field_id.FieldId.TheVariants as key
 use Rattle.spec_actions.specs.declared.named_field.NamedField.{NamedField}
-use Rattle.spec_actions.specs.declared.named_field.NamedField.TheVariants.{InPort, Metadata, Reg0, Reg1, Reg2, Reg3, Reg4, Reg5, Reg6, Reg7, Reg8, Reg9, Reg10, Reg11, Reg12, Reg13, Reg14, Reg15, DlSrc, DlDst, DlType, VlanTci, VlanVid, VlanPcp, NwSrc, NwDst, ArpSpa, ArpTpa, Ipv6Src, Ipv6Dst, NwProto, ArpOp, NwTos, IpDscp, NwEcn, NwTtl, IpFrag, ArpSha, ArpTha, TpSrc, TpDst, TcpSrc, TcpDst, UdpSrc, UdpDst, IcmpType, IcmpCode, Icmpv6Type, Icmpv6Code}
+use Rattle.spec_actions.specs.declared.named_field.NamedField.TheVariants.{InPort, Metadata, Reg0, Reg1, Reg2, Reg3, Reg4, Reg5, Reg6, Reg7, Reg8, Reg9, Reg10, Reg11, Reg12, Reg13, Reg14, Reg15, DlSrc, DlDst, DlType, VlanTci, VlanVid, VlanPcp, NwSrc, NwDst, ArpSpa, ArpTpa, Ipv6Src, Ipv6Dst, NwProto, ArpOp, NwTos, IpDscp, NwEcn, NwTtl, IpFrag, ArpSha, ArpTha, TpSrc, TpDst, TcpSrc, TcpDst, UdpSrc, UdpDst, IcmpType, IcmpCode, Icmpv6Type, Icmpv6Code, VlanTpid, VlanTci2, VlanTpid2}
 use Rattle.spec_actions.specs.declared.named_field.Prerequisite.{Prerequisite}
 use Rattle.spec_actions.specs.declared.named_field.Prerequisite.TheVariants as needs
 
@@ -73,3 +73,13 @@ named IcmpType = record { field = key.TpSrc; low = 0; bits = 16; writable = 0; m
 named IcmpCode = record { field = key.TpDst; low = 0; bits = 16; writable = 0; maskable = false; write_needs = needs.Icmp }
 named Icmpv6Type = record { field = key.TpSrc; low = 0; bits = 16; writable = 0; maskable = false; write_needs = needs.Icmp6 }
 named Icmpv6Code = record { field = key.TpDst; low = 0; bits = 16; writable = 0; maskable = false; write_needs = needs.Icmp6 }
+named VlanTpid = record { field = key.VlanTpid; low = 0; bits = 16; writable = 0; maskable = true; write_needs = needs.Nothing }
+named VlanTci2 = record { field = key.VlanTci2; low = 0; bits = 16; writable = 0; maskable = true; write_needs = needs.Nothing }
+named VlanTpid2 = record { field = key.VlanTpid2; low = 0; bits = 16; writable = 0; maskable = true; write_needs = needs.Nothing }
+
+-- whether a name is printed alone, and no text of a flow has it: the type of an outer tag, and an inner tag
+abbrev pub is_printed_alone : NamedField → Bool
+is_printed_alone VlanTpid = true
+is_printed_alone VlanTci2 = true
+is_printed_alone VlanTpid2 = true
+is_printed_alone name = false

@@ -39,9 +39,9 @@ pub enum OfAction {
     },
     /// Lower the TTL or hop limit by one.
     DecTtl,
-    /// Add a VLAN tag of type 0x8100.
-    PushVlan,
-    /// Take the VLAN tag away.
+    /// Add a VLAN tag of this type (IEEE 802.1Q), 0x8100 or 0x88a8.
+    PushVlan(u16),
+    /// Take the outer VLAN tag away.
     PopVlan,
     /// Write the VLAN identifier, adding a tag where there is none.
     SetVid(u16),
@@ -54,10 +54,11 @@ pub enum OfAction {
 pub enum DpAction {
     /// Send the frame as it now is.
     Output(u16),
-    /// Take the VLAN tag away.
+    /// Take the outer VLAN tag away.
     PopVlan,
-    /// Add a VLAN tag of type 0x8100 with this content; its bit 0x1000 is sent as 0.
+    /// Add a VLAN tag of this type outside of those that there are, with this content; its bit 0x1000 is sent as 0.
     PushVlan {
+        tpid: u16,
         tci: u16,
     },
     /// Write the bits of `value` where `mask` has 1.

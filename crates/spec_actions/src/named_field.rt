@@ -1,6 +1,7 @@
 /// A field as the flow text names it: one variant for each name, by its first name in ovs-fields(7).
 ///
-/// Several names may stand for bits of one field of the key, as `nw_src` and `arp_spa` do.
+/// Several names may stand for bits of one field of the key, as `nw_src` and `arp_spa` do. The last three aren't names of the
+/// flow text: by them the type of a VLAN tag, and an inner tag, are told where megaflows and keys are printed.
 #[derive(Clone, Copy, Debug, PartialEq, Eq)]
 pub enum NamedField {
     InPort,
@@ -52,6 +53,9 @@ pub enum NamedField {
     IcmpCode,
     Icmpv6Type,
     Icmpv6Code,
+    VlanTpid,
+    VlanTci2,
+    VlanTpid2,
 }
 
 /// What a packet has to be for a write to a named field to act (ovs-fields(7), "Prerequisites").

@@ -393,7 +393,7 @@ an_edit_of_the_next_block_is_published_once_it_is_open = refl
 
 abbrev actions : List DpAction
 actions =
-    Sent 1 ∷ Sent 2 ∷ PopVlan ∷ PushVlan 0x1001 ∷ PushVlan 0x1002 ∷ Set field.NwSrc 1 1 ∷ Set field.NwSrc 0 1 ∷ Set field.NwSrc 1 3
+    Sent 1 ∷ Sent 2 ∷ PopVlan ∷ PushVlan 0x8100 0x1001 ∷ PushVlan 0x8100 0x1002 ∷ PushVlan 0x88a8 0x1001 ∷ Set field.NwSrc 1 1 ∷ Set field.NwSrc 0 1 ∷ Set field.NwSrc 1 3
     ∷ Set field.NwDst 1 1 ∷ []
 
 an_action_is_the_same_as_itself_alone : map (λ a. filter (is_same_action a) actions) actions ≡ map (λ a. a ∷ []) actions
@@ -431,8 +431,8 @@ first_taken = slot (first_slot a_key) other_key 1 ∷ []
 abbrev both_taken : List Slot
 both_taken = slot (second_slot a_key) other_key 2 ∷ first_taken
 
--- its hash is 0xb0f1e1ed2939f27d
-the_slots_of_the_zero_key_are_13_bits_of_each_half_of_its_hash : (first_slot none ≡ 0x127d) × (second_slot none ≡ 0x1ed)
+-- its hash is 0xeb4f61260020abd5
+the_slots_of_the_zero_key_are_13_bits_of_each_half_of_its_hash : (first_slot none ≡ 0xbd5) × (second_slot none ≡ 0x126)
 unfolding shown
 the_slots_of_the_zero_key_are_13_bits_of_each_half_of_its_hash = (refl, refl)
 

@@ -15,7 +15,7 @@ use Rattle.spec_tables.specs.Edits.{Edit, after_edits}
 use Rattle.spec_tables.specs.Bundles.{each_alone}
 use Rattle.spec_tables.proofs.Packets.{Stated, is, match_of, mask_of}
 use Rattle.spec_tables.proofs.Packets as packets
-use Rattle.spec_frames.specs.Ethernet.{is_tagged, tci_of, carried, carried_by}
+use Rattle.spec_frames.specs.Ethernet.{is_tag_at, tag_count, tci_at, carried, carried_by}
 use Rattle.spec_frames.specs.Network.{network_at}
 use Rattle.spec_frames.specs.Key as frames
 use Rattle.spec_xlate.specs.Needs.{is_met, fields_needed}
@@ -128,7 +128,7 @@ first_port_shown unmet run (b ∷ bs) = record {
 
 -- what the schedule of a run leads to
 unfoldable pub shown : Run → Shown
-unfolding big_endian_at none masked same joined only_at widths stages hash_bytes field_bytes key_hash winner after_edits packets.key_of mask_of frames.key_of is_tagged tci_of carried carried_by network_at frames.with_network is_met fields_needed outer_tags commit_tags commit commit_field commit_fields pipe act run look last_state write output output_all emit emit_all committed inserted rising through length_up_to common_length deciding probe consults act_bits run_bits look_bits consulted frames_in ends_after are_same_actions credited_by decisions_from finish_board least_block finish with_given_steps
+unfolding big_endian_at none masked same joined only_at widths stages hash_bytes field_bytes key_hash winner after_edits packets.key_of mask_of frames.key_of is_tag_at tag_count tci_at carried carried_by network_at frames.with_network is_met fields_needed outer_tags commit_tags commit commit_field commit_fields pipe act run look last_state write output output_all emit emit_all committed inserted rising through length_up_to common_length deciding probe consults act_bits run_bits look_bits consulted frames_in ends_after are_same_actions credited_by decisions_from finish_board least_block finish with_given_steps
 shown r = of_schedule (scheduled r)
   where
     of_schedule : Schedule → Shown

@@ -91,7 +91,7 @@ idle_time = 10000000000
 abbrev pub is_same_action : DpAction → DpAction → Bool
 is_same_action (Output m) (Output n) = m == n
 is_same_action PopVlan PopVlan = true
-is_same_action (PushVlan c) (PushVlan d) = c == d
+is_same_action (PushVlan t c) (PushVlan u d) = (t == u) && (c == d)
 is_same_action (Set f v m) (Set g w n) = (place_of f == place_of g) && ((v == w) && (m == n))
 is_same_action a b = false
 

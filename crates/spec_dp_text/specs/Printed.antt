@@ -1,11 +1,13 @@
 -- The one text of a list of datapath actions (ovs-actions(7), ovs-dpctl(8)). That a write has the field's own name, and
 -- its value and mask in the forms of a match, is this profile's.
-use Rattle.std.specs.Prelude.{ℕ, ◌-◌, ◌/◌, ◌%◌, ◌^◌, List, [], ◌∷◌, ◌++◌, codes}
+use Rattle.std.specs.Prelude.{ℕ, ◌-◌, ◌/◌, ◌%◌, ◌^◌, ◌==◌, if◌then◌else◌, List, [], ◌∷◌, ◌++◌, codes}
 use Rattle.std.specs.Fmt.{decimal}
 use Rattle.spec_keys.specs.declared.field_id.FieldId.{FieldId}
 use Rattle.spec_actions.specs.declared.action.DpAction.{DpAction}
 use Rattle.spec_actions.specs.declared.action.DpAction.TheVariants.{Output, PopVlan, PushVlan, Set}
-use Rattle.spec_numbers.specs.Characters.{right_parenthesis}
+use Rattle.spec_keys.specs.Protocols.{customer_tag}
+use Rattle.spec_numbers.specs.Characters.{comma, right_parenthesis}
+use Rattle.spec_numbers.specs.Printed.{hexadecimal4}
 use Rattle.spec_flow_text.specs.Values.{Bits, bits, within_mask}
 use Rattle.spec_flow_text.specs.Printed.{Value, shown_text, own_name, list_printed}
 
@@ -30,11 +32,16 @@ priority_of tci = tci / 2 ^ (tag_width - priority_width)
 abbrev pub write_text : FieldId → Bits → List ℕ
 write_text f b = shown_text (Value (own_name f) (within_mask b))
 
+-- the type of a tag, where it isn't a customer's
+abbrev pub tag_type_text : ℕ → List ℕ
+tag_type_text tpid = if tpid == customer_tag then [] else codes "tpid=" ++ (hexadecimal4 tpid ++ comma ∷ [])
+
 abbrev pub dp_action_text : DpAction → List ℕ
 dp_action_text (Output port) = decimal port
 dp_action_text PopVlan = codes "pop_vlan"
-dp_action_text (PushVlan tci) =
-    codes "push_vlan(vid=" ++ (decimal (identifier_of tci) ++ (codes ",pcp=" ++ (decimal (priority_of tci) ++ right_parenthesis ∷ [])))
+dp_action_text (PushVlan tpid tci) =
+    codes "push_vlan(" ++ (tag_type_text tpid
+    ++ (codes "vid=" ++ (decimal (identifier_of tci) ++ (codes ",pcp=" ++ (decimal (priority_of tci) ++ right_parenthesis ∷ [])))))
 dp_action_text (Set f value mask) = codes "set(" ++ (write_text f (bits value mask) ++ right_parenthesis ∷ [])
 
 -- the text of a list of datapath actions

@@ -9,7 +9,7 @@ use Rattle.spec_actions.specs.declared.action.DpAction.TheVariants.{Output, PopV
 abbrev pub is_within_field : DpAction → Bool
 is_within_field (Output port) = true
 is_within_field PopVlan = true
-is_within_field (PushVlan tci) = true
+is_within_field (PushVlan tpid tci) = true
 is_within_field (Set f value mask) = nat_lt value (2 ^ width_of f) && nat_lt mask (2 ^ width_of f)
 
 -- Each action of a list does.

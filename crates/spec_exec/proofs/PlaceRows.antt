@@ -15,11 +15,11 @@ use Rattle.spec_frames.specs.declared.layout.L4.TheVariants as l4
 use Rattle.spec_exec.specs.Places.{Place, place_in, Zero, Plain, Ones, Absent, Sum, sums_of}
 
 abbrev headers : L3 → L4 → Layout
-headers network transport = record { tagged = false; l3 = network; l4 = transport; routed = false }
+headers network transport = record { tags = 0; l3 = network; l4 = transport; routed = false }
 
 -- behind a routing header
 abbrev routed : L4 → Layout
-routed transport = record { tagged = false; l3 = l3.Ipv6 14; l4 = transport; routed = true }
+routed transport = record { tags = 0; l3 = l3.Ipv6 14; l4 = transport; routed = true }
 
 -- ---- places
 

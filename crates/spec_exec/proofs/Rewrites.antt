@@ -3,7 +3,7 @@ use Rattle.std.specs.Prelude.{◌≡◌, ℕ, List, [], ◌∷◌, ◌++◌, map
 use Rattle.spec_base.specs.Bytes.{big_endian, big_endian_at}
 use Rattle.spec_keys.specs.declared.field_id.FieldId.TheVariants.{InPort, DlDst, VlanTci, NwSrc, NwDst, Ipv6Src, Ipv6Dst, NwTos, NwTtl, ArpSha, ArpTha, TpSrc, TpDst}
 use Rattle.spec_checksum.specs.Checksum.{updated}
-use Rattle.spec_frames.specs.Ethernet.{is_tagged, carried, carried_by}
+use Rattle.spec_frames.specs.Ethernet.{is_tag_at, tag_count, carried, carried_by}
 use Rattle.spec_frames.specs.Arp.{is_arp}
 use Rattle.spec_frames.specs.Ipv4.{is_ipv4, ipv4}
 use Rattle.spec_frames.specs.Ipv6.{ipv6, upper_layer}
@@ -21,7 +21,7 @@ hex n digits = big_endian n digits
 
 -- what is sent, by these rules alone
 unfoldable sends : List DpAction → List ℕ → List Piece
-unfolding big_endian_at updated is_tagged carried carried_by is_arp is_ipv4 ipv4 ipv6 upper_layer network_at transport layout_of after_word after_words corrected set_field push_tag pop_tag after_action sent
+unfolding big_endian_at updated is_tag_at tag_count carried carried_by is_arp is_ipv4 ipv4 ipv6 upper_layer network_at transport layout_of after_word after_words corrected set_field push_tag pop_tag after_action sent
 sends actions frame = sent actions frame
 
 abbrev piece : ℕ → List ℕ → Piece
@@ -58,12 +58,12 @@ an_output_before_a_write_sends_the_frame_as_it_was :
 unfolding sends
 an_output_before_a_write_sends_the_frame_as_it_was = refl
 
-a_tag_is_pushed : sends (PushVlan 0x1005 ∷ Output 2 ∷ []) (plain 2)
+a_tag_is_pushed : sends (PushVlan 0x8100 0x1005 ∷ Output 2 ∷ []) (plain 2)
     ≡ piece 2 (hex 12 0x000000000002000000000001 ++ (hex 6 0x8100000588b5 ++ replicate 46 0)) ∷ []
 unfolding sends
 a_tag_is_pushed = refl
 
-a_tag_that_was_pushed_is_popped : sends (PushVlan 0x1005 ∷ PopVlan ∷ Output 2 ∷ []) (plain 2) ≡ piece 2 (plain 2) ∷ []
+a_tag_that_was_pushed_is_popped : sends (PushVlan 0x8100 0x1005 ∷ PopVlan ∷ Output 2 ∷ []) (plain 2) ≡ piece 2 (plain 2) ∷ []
 unfolding sends
 a_tag_that_was_pushed_is_popped = refl
 
@@ -71,12 +71,12 @@ without_a_header_nothing_is_written : sends (Set NwSrc 8 8 ∷ Set TpDst 1 1 ∷
 unfolding sends
 without_a_header_nothing_is_written = refl
 
-a_short_frame_stays : sends (Set DlDst 8 8 ∷ PushVlan 5 ∷ PopVlan ∷ Output 2 ∷ []) (replicate 13 1) ≡ piece 2 (replicate 13 1) ∷ []
+a_short_frame_stays : sends (Set DlDst 8 8 ∷ PushVlan 0x8100 5 ∷ PopVlan ∷ Output 2 ∷ []) (replicate 13 1) ≡ piece 2 (replicate 13 1) ∷ []
 unfolding sends
 a_short_frame_stays = refl
 
 a_frame_of_an_ethernet_header_alone_is_changed :
-    sends (Set DlDst 8 8 ∷ PushVlan 5 ∷ Output 2 ∷ []) (replicate 14 1)
+    sends (Set DlDst 8 8 ∷ PushVlan 0x8100 5 ∷ Output 2 ∷ []) (replicate 14 1)
     ≡ piece 2 (hex 6 0x010101010109 ++ (replicate 6 1 ++ hex 6 0x810000050101)) ∷ []
 unfolding sends
 a_frame_of_an_ethernet_header_alone_is_changed = refl
@@ -243,7 +243,7 @@ the_addresses_of_arp_are_written = refl
 abbrev with_tag : ℕ → List ℕ
 with_tag tag = hex 12 0x000000000002000000000001 ++ (hex 4 tag ++ (hex 2 0x88b5 ++ replicate 46 0))
 
-the_bit_that_says_that_there_is_a_tag_is_not_sent : sends (PushVlan 0xffff ∷ Output 2 ∷ []) (plain 2) ≡ piece 2 (with_tag 0x8100efff) ∷ []
+the_bit_that_says_that_there_is_a_tag_is_not_sent : sends (PushVlan 0x8100 0xffff ∷ Output 2 ∷ []) (plain 2) ≡ piece 2 (with_tag 0x8100efff) ∷ []
 unfolding sends
 the_bit_that_says_that_there_is_a_tag_is_not_sent = refl
 

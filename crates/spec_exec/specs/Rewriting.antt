@@ -6,7 +6,7 @@ use Rattle.spec_keys.specs.declared.field_id.FieldId.{FieldId}
 use Rattle.spec_keys.specs.Fields.{width_of}
 use Rattle.spec_checksum.specs.Checksum.{updated}
 use Rattle.spec_keys.specs.Protocols.{tag_bit}
-use Rattle.spec_frames.specs.Ethernet.{header_size, type_at, type_size, tag_size, customer_tag}
+use Rattle.spec_frames.specs.Ethernet.{header_size, type_at, type_size, tag_size}
 use Rattle.spec_frames.specs.Layout.{layout_of}
 use Rattle.spec_actions.specs.declared.action.DpAction.{DpAction}
 use Rattle.spec_actions.specs.declared.action.DpAction.TheVariants.{Output, PopVlan, PushVlan, Set}
@@ -63,21 +63,21 @@ set_field f value mask frame =
 abbrev pub content_bits : ℕ
 content_bits = all_bits 16 - tag_bit
 
--- with a tag of this content after the addresses (IEEE 802.1Q, 9.3)
-unfoldable pub push_tag : ℕ → List ℕ → List ℕ
-push_tag tci frame =
+-- with a tag of this type and content after the addresses (IEEE 802.1Q, 9.3)
+unfoldable pub push_tag : ℕ → ℕ → List ℕ → List ℕ
+push_tag tpid tci frame =
     take type_at frame
-    ++ (big_endian type_size customer_tag ++ (big_endian type_size (bit_and tci content_bits) ++ drop type_at frame))
+    ++ (big_endian type_size tpid ++ (big_endian type_size (bit_and tci content_bits) ++ drop type_at frame))
 
--- without its tag, if there is one
+-- without its outer tag, if there is one
 unfoldable pub pop_tag : List ℕ → List ℕ
-pop_tag frame = if (layout_of frame).tagged then take type_at frame ++ drop (type_at + tag_size) frame else frame
+pop_tag frame = if nat_lt 0 (layout_of frame).tags then take type_at frame ++ drop (type_at + tag_size) frame else frame
 
 -- what an action makes of a frame that has a whole Ethernet header
 abbrev pub changed : DpAction → List ℕ → List ℕ
 changed (Output port) frame = frame
 changed PopVlan frame = pop_tag frame
-changed (PushVlan tci) frame = push_tag tci frame
+changed (PushVlan tpid tci) frame = push_tag tpid tci frame
 changed (Set f value mask) frame = set_field f value mask frame
 
 -- what it makes of any frame: one without a whole Ethernet header stays as it is

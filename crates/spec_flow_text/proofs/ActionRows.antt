@@ -38,7 +38,7 @@ texts_and_their_actions =
     (codes "mod_dl_src:2:0:0:0:0:1,mod_nw_tos:184,mod_nw_ttl:64,mod_tp_dst:80", codes "set_field:02:00:00:00:00:01->dl_src,set_field:184->nw_tos,set_field:64->nw_ttl,set_field:80->tp_dst") ∷
     (codes "move:NXM_OF_ETH_SRC[]->dl_dst[],move:reg0[0..7]->reg1[8..15]", codes "move:dl_src[0..47]->dl_dst[0..47],move:reg0[0..7]->reg1[8..15]") ∷
     (codes "move:reg0[3]->reg1[4]", codes "move:reg0[3..3]->reg1[4..4]") ∷
-    (codes "dec_ttl,push_vlan:33024,strip_vlan,pop_vlan,mod_vlan_vid:5,mod_vlan_pcp:7", codes "dec_ttl,push_vlan:0x8100,pop_vlan,pop_vlan,mod_vlan_vid:5,mod_vlan_pcp:7") ∷
+    (codes "dec_ttl,push_vlan:33024,push_vlan:0x88a8,strip_vlan,pop_vlan,mod_vlan_vid:5,mod_vlan_pcp:7", codes "dec_ttl,push_vlan:0x8100,push_vlan:0x88a8,pop_vlan,pop_vlan,mod_vlan_vid:5,mod_vlan_pcp:7") ∷
     (codes " 1 ,, 2 # 3", codes "output:1,output:2") ∷ []
 
 actions_are_read_and_printed : map (λ row. printed row.0) texts_and_their_actions ≡ map (λ row. Ok row.1) texts_and_their_actions
@@ -65,7 +65,6 @@ texts_and_their_faults =
     (codes "resubmit(1)", Unsupported 1) ∷
     (codes "resubmit(1,2)", Unsupported 1) ∷
     (codes "resubmit(,1,ct)", Unsupported 1) ∷
-    (codes "push_vlan:0x88a8", Unsupported 1) ∷
     (codes "0", BadValue 1) ∷
     (codes "02", BadValue 1) ∷
     (codes "2x", BadValue 1) ∷

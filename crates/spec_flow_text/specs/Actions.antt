@@ -5,7 +5,7 @@ use Rattle.std.specs.Prelude.{ℕ, ◌+◌, ◌-◌, ◌*◌, ◌^◌, ◌==◌,
 use Rattle.std.specs.List.{take_while, starts_with, slice_split}
 use Rattle.std.specs.Option.{ok_or, option_map, option_and_then}
 use Rattle.spec_base.specs.Bits.{all_bits}
-use Rattle.spec_keys.specs.Protocols.{tag_bit}
+use Rattle.spec_keys.specs.Protocols.{tag_bit, is_tag_type}
 use Rattle.spec_actions.specs.declared.named_field.NamedField.{NamedField}
 use Rattle.spec_actions.specs.declared.named_field.NamedField.TheVariants as field
 use Rattle.spec_actions.specs.declared.action.Slice.{Slice}
@@ -231,20 +231,14 @@ modify f w = argument w >>= (λ a. value_or_fault a (option_map (set_of f) (whol
 unfoldable pub number_argument : ℕ → Word → Result ℕ TextFault
 number_argument most w = argument w >>= (λ a. value_or_fault a (number_upto most a.text))
 
--- types of VLAN tags: IEEE 802.1Q's, and that of service tags, which are left out
-abbrev pub tag_type : ℕ
-tag_type = 0x8100
-
-abbrev pub service_tag_type : ℕ
-service_tag_type = 0x88a8
-
-abbrev pub pushed : Word → Word → ℕ → Result OfAction TextFault
-pushed w a n =
-    if n == tag_type then Ok PushVlan
-    else (if n == service_tag_type then Err (fault.Unsupported (column w)) else Err (fault.BadValue (column a)))
+-- the type of a VLAN tag: a customer's or a service provider's
+abbrev pub tag_type : ℕ → Option ℕ
+tag_type number = if is_tag_type number then Some number else None
 
 unfoldable pub push_vlan : Word → Result OfAction TextFault
-push_vlan w = argument w >>= (λ a. value_or_fault a (number_upto (all_bits 16) a.text) >>= pushed w a)
+push_vlan w = do
+  a ← argument w
+  value_or_fault a (option_map (λ tpid. PushVlan tpid) (option_and_then tag_type (number_upto (all_bits 16) a.text)))
 
 -- the port of an output: a number, a reserved port, or the bits of a field
 abbrev pub reserved : ActionName → OfAction

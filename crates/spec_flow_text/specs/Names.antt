@@ -6,7 +6,7 @@ use Rattle.std.specs.Option.{option_map, option_map_or, option_or}
 use Rattle.std.specs.Char.{is_ascii_digit, to_ascii_uppercase}
 use Rattle.spec_keys.specs.Protocols.{ipv4_type, ipv6_type, arp_type, icmp_protocol, tcp_protocol, udp_protocol, icmp6_protocol}
 use Rattle.spec_actions.specs.declared.named_field.NamedField.{NamedField}
-use Rattle.spec_actions.specs.declared.named_field.NamedField.TheVariants.{InPort, Metadata, Reg0, Reg1, Reg2, Reg3, Reg4, Reg5, Reg6, Reg7, Reg8, Reg9, Reg10, Reg11, Reg12, Reg13, Reg14, Reg15, DlSrc, DlDst, DlType, VlanTci, VlanVid, VlanPcp, NwSrc, NwDst, ArpSpa, ArpTpa, Ipv6Src, Ipv6Dst, NwProto, ArpOp, NwTos, IpDscp, NwEcn, NwTtl, IpFrag, ArpSha, ArpTha, TpSrc, TpDst, TcpSrc, TcpDst, UdpSrc, UdpDst, IcmpType, IcmpCode, Icmpv6Type, Icmpv6Code}
+use Rattle.spec_actions.specs.declared.named_field.NamedField.TheVariants.{InPort, Metadata, Reg0, Reg1, Reg2, Reg3, Reg4, Reg5, Reg6, Reg7, Reg8, Reg9, Reg10, Reg11, Reg12, Reg13, Reg14, Reg15, DlSrc, DlDst, DlType, VlanTci, VlanVid, VlanPcp, NwSrc, NwDst, ArpSpa, ArpTpa, Ipv6Src, Ipv6Dst, NwProto, ArpOp, NwTos, IpDscp, NwEcn, NwTtl, IpFrag, ArpSha, ArpTha, TpSrc, TpDst, TcpSrc, TcpDst, UdpSrc, UdpDst, IcmpType, IcmpCode, Icmpv6Type, Icmpv6Code, VlanTpid, VlanTci2, VlanTpid2}
 use Rattle.spec_flow_text.specs.declared.shorthand.Shorthand.{Shorthand}
 use Rattle.spec_flow_text.specs.declared.shorthand.Shorthand.TheVariants as short
 use Rattle.spec_flow_text.specs.declared.names.ItemName.{ItemName}
@@ -28,7 +28,7 @@ meaning_of table text = option_map (λ row. row.1) (find (λ row. bytes_eq row.0
 
 -- ---- fields
 
--- every named field
+-- every named field that a flow may name
 abbrev pub named_fields : List NamedField
 named_fields =
     InPort ∷ Metadata ∷ Reg0 ∷ Reg1 ∷ Reg2 ∷ Reg3 ∷ Reg4 ∷ Reg5 ∷ Reg6 ∷ Reg7 ∷
@@ -88,6 +88,9 @@ names_of IcmpType = codes "icmp_type" ∷ codes "NXM_OF_ICMP_TYPE" ∷ []
 names_of IcmpCode = codes "icmp_code" ∷ codes "NXM_OF_ICMP_CODE" ∷ []
 names_of Icmpv6Type = codes "icmpv6_type" ∷ codes "NXM_NX_ICMPV6_TYPE" ∷ []
 names_of Icmpv6Code = codes "icmpv6_code" ∷ codes "NXM_NX_ICMPV6_CODE" ∷ []
+names_of VlanTpid = codes "vlan_tpid" ∷ []
+names_of VlanTci2 = codes "vlan_tci2" ∷ []
+names_of VlanTpid2 = codes "vlan_tpid2" ∷ []
 
 -- the name that is printed
 abbrev pub name_of : NamedField → List ℕ

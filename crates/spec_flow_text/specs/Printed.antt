@@ -158,6 +158,9 @@ own_name key.ArpSha = name.ArpSha
 own_name key.ArpTha = name.ArpTha
 own_name key.TpSrc = name.TpSrc
 own_name key.TpDst = name.TpDst
+own_name key.VlanTpid = name.VlanTpid
+own_name key.VlanTci2 = name.VlanTci2
+own_name key.VlanTpid2 = name.VlanTpid2
 
 abbrev pub name_after_arp : FieldId → NamedField
 name_after_arp key.NwSrc = name.ArpSpa
@@ -241,7 +244,7 @@ action_text (Set f value mask) =
     codes "set_field:" ++ (value_in_text f (within_mask (bits value mask)) ++ (codes "->" ++ name_of f))
 action_text (Move source target) = codes "move:" ++ (slice_text source ++ (codes "->" ++ slice_text target))
 action_text DecTtl = codes "dec_ttl"
-action_text PushVlan = codes "push_vlan:0x8100"
+action_text (PushVlan tpid) = codes "push_vlan:" ++ hexadecimal4 tpid
 action_text PopVlan = codes "pop_vlan"
 action_text (SetVid vid) = codes "mod_vlan_vid:" ++ decimal vid
 action_text (SetPcp pcp) = codes "mod_vlan_pcp:" ++ decimal pcp

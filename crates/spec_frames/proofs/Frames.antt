@@ -10,7 +10,7 @@ use Rattle.spec_frames.specs.declared.layout.L3.{L3}
 use Rattle.spec_frames.specs.declared.layout.L3.TheVariants as network
 use Rattle.spec_frames.specs.declared.layout.L4.{L4}
 use Rattle.spec_frames.specs.declared.layout.L4.TheVariants as transport
-use Rattle.spec_frames.specs.Ethernet.{is_tagged, tci_of, carried, carried_by}
+use Rattle.spec_frames.specs.Ethernet.{is_tag_at, tag_count, tci_at, carried, carried_by}
 use Rattle.spec_frames.specs.Arp.{is_arp}
 use Rattle.spec_frames.specs.Ipv4.{is_ipv4, ipv4}
 use Rattle.spec_frames.specs.Ipv6.{ipv6, upper_layer}
@@ -62,21 +62,21 @@ ports = is TpSrc 1000 ∷ is TpDst 53 ∷ []
 
 -- the key of a frame that came in at port 7
 unfoldable pub key : List ℕ → List ℕ
-unfolding none big_endian_at is_tagged tci_of carried carried_by is_arp is_ipv4 ipv4 ipv6 upper_layer network_at transport with_transport with_network key_of
+unfolding none big_endian_at is_tag_at tag_count tci_at carried carried_by is_arp is_ipv4 ipv4 ipv6 upper_layer network_at transport with_transport with_network key_of
 key bytes = key_of 7 bytes
 
 -- ---- layouts
 
 -- that of a frame without a tag, and of a packet without a routing header
 abbrev pub headers : L3 → L4 → Layout
-headers l3 l4 = record { tagged = false; l3 = l3; l4 = l4; routed = false }
+headers l3 l4 = record { tags = 0; l3 = l3; l4 = l4; routed = false }
 
 abbrev pub no_headers : Layout
 no_headers = headers network.None transport.None
 
 -- where the headers of a frame stand
 unfoldable pub layout : List ℕ → Layout
-unfolding big_endian_at is_tagged carried carried_by is_arp is_ipv4 ipv4 ipv6 upper_layer network_at transport layout_of
+unfolding big_endian_at is_tag_at tag_count carried carried_by is_arp is_ipv4 ipv4 ipv6 upper_layer network_at transport layout_of
 layout bytes = layout_of bytes
 
 -- ---- rows

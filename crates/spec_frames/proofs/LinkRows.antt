@@ -1,30 +1,55 @@
 -- Worked rows: Ethernet, tags, SNAP and ARP.
-use Rattle.std.specs.Prelude.{◌≡◌, ℕ, true, List, [], ◌∷◌, ◌++◌, take, refl}
+use Rattle.std.specs.Prelude.{◌≡◌, ℕ, List, [], ◌∷◌, ◌++◌, take, refl}
 use Rattle.spec_base.specs.Bytes.{big_endian_at}
-use Rattle.spec_keys.specs.declared.field_id.FieldId.TheVariants.{InPort, VlanTci, NwSrc, NwDst, NwProto, ArpSha, ArpTha}
+use Rattle.spec_keys.specs.declared.field_id.FieldId.TheVariants.{InPort, VlanTci, VlanTpid, VlanTci2, VlanTpid2, NwSrc, NwDst, NwProto, ArpSha, ArpTha}
 use Rattle.spec_frames.specs.declared.headers.Carried.{Carried}
 use Rattle.spec_frames.specs.declared.layout.L3.TheVariants.{Arp}
 use Rattle.spec_frames.specs.declared.layout.L4.TheVariants.{None}
-use Rattle.spec_frames.specs.Ethernet.{is_tagged, carried, carried_by}
-use Rattle.spec_frames.proofs.Frames.{bytes, frame, is, key_with, of_type, key, headers, no_headers, layout, Shows}
+use Rattle.spec_frames.specs.Ethernet.{is_tag_at, tag_count, carried, carried_by}
+use Rattle.spec_frames.proofs.Frames.{bytes, frame, Stated, is, key_with, of_type, key, headers, no_headers, layout, Shows}
 
--- ---- the header and its tag
+-- ---- the header and its tags
 
 -- priority 5 and VLAN 5, and a type for local experiments (IEEE 802)
 abbrev tagged : List ℕ
 tagged = frame (bytes 6 0x8100_a005_88b5)
 
-a_tag_is_shown_with_the_tag_bit : Shows tagged (of_type 0x88b5 (is VlanTci 0xb005 ∷ [])) (record no_headers { tagged = true })
+a_tag_is_shown_with_its_type_and_the_tag_bit :
+    Shows tagged (of_type 0x88b5 (is VlanTci 0xb005 ∷ is VlanTpid 0x8100 ∷ [])) (record no_headers { tags = 1 })
 unfolding key key_with layout
-a_tag_is_shown_with_the_tag_bit = (refl, refl)
+a_tag_is_shown_with_its_type_and_the_tag_bit = (refl, refl)
 
-a_service_tag_is_a_tag : key (frame (bytes 6 0x88a8_6007_88b5)) ≡ of_type 0x88b5 (is VlanTci 0x7007 ∷ [])
+a_service_tag_is_a_tag : key (frame (bytes 6 0x88a8_6007_88b5)) ≡ of_type 0x88b5 (is VlanTci 0x7007 ∷ is VlanTpid 0x88a8 ∷ [])
 unfolding key key_with
 a_service_tag_is_a_tag = refl
 
-no_second_tag_is_read : key (frame (bytes 10 0x88a8_0007_8100_0005_0800)) ≡ of_type 0x8100 (is VlanTci 0x1007 ∷ [])
+-- a provider's tag of VLAN 7 outside of a customer's of VLAN 5
+abbrev twice_tagged : List ℕ
+twice_tagged = frame (bytes 10 0x88a8_0007_8100_0005_88b5)
+
+abbrev outer_tag_alone : List Stated
+outer_tag_alone = is VlanTci 0x1007 ∷ is VlanTpid 0x88a8 ∷ []
+
+two_tags_are_shown_the_outer_one_first :
+    Shows twice_tagged (of_type 0x88b5 (is VlanTci2 0x1005 ∷ is VlanTpid2 0x8100 ∷ outer_tag_alone)) (record no_headers { tags = 2 })
+unfolding key key_with layout
+two_tags_are_shown_the_outer_one_first = (refl, refl)
+
+a_second_tag_may_have_the_type_of_the_first :
+    key (frame (bytes 10 0x8100_2007_8100_0005_88b5))
+    ≡ of_type 0x88b5 (is VlanTci2 0x1005 ∷ is VlanTpid2 0x8100 ∷ is VlanTci 0x3007 ∷ is VlanTpid 0x8100 ∷ [])
 unfolding key key_with
-no_second_tag_is_read = refl
+a_second_tag_may_have_the_type_of_the_first = refl
+
+no_third_tag_is_read :
+    Shows (frame (bytes 14 0x88a8_0007_8100_0005_8100_0006_88b5))
+    (of_type 0x8100 (is VlanTci2 0x1005 ∷ is VlanTpid2 0x8100 ∷ outer_tag_alone)) (record no_headers { tags = 2 })
+unfolding key key_with layout
+no_third_tag_is_read = (refl, refl)
+
+in_21_bytes_stands_no_second_tag : Shows (take 21 twice_tagged) (of_type 0x8100 outer_tag_alone) (record no_headers { tags = 1 })
+unfolding key key_with layout
+in_21_bytes_stands_no_second_tag = (refl, refl)
 
 in_17_bytes_stands_no_tag : Shows (take 17 tagged) (of_type 0x8100 []) no_headers
 unfolding key key_with layout
@@ -42,7 +67,7 @@ thirteen_bytes_show_the_port_alone = (refl, refl)
 
 -- what a frame carries
 unfoldable carries : List ℕ → Carried
-unfolding big_endian_at is_tagged carried carried_by
+unfolding big_endian_at is_tag_at tag_count carried carried_by
 carries frame = carried frame
 
 abbrev untyped : Carried
@@ -111,9 +136,13 @@ arp_after_snap :
 unfolding key key_with layout
 arp_after_snap = (refl, refl)
 
-arp_after_a_tag : layout (frame (bytes 6 0x8100_0005_0806 ++ reply)) ≡ record (headers (Arp 18) None) { tagged = true }
+arp_after_a_tag : layout (frame (bytes 6 0x8100_0005_0806 ++ reply)) ≡ record (headers (Arp 18) None) { tags = 1 }
 unfolding layout
 arp_after_a_tag = refl
+
+arp_after_two_tags : layout (frame (bytes 10 0x88a8_0007_8100_0005_0806 ++ reply)) ≡ record (headers (Arp 22) None) { tags = 2 }
+unfolding layout
+arp_after_two_tags = refl
 
 an_operation_above_255_is_shown_as_0 :
     (key (over_ethernet (arp 0x0001_0800_06_04_00ff)) ≡ of_operation 255)

@@ -1,7 +1,7 @@
--- The Ethernet header (IEEE 802.3, 3.1), perhaps with a tag (IEEE 802.1Q, 9.3) and with a SNAP header (IEEE 802, 9.2).
-use Rattle.std.specs.Prelude.{ℕ, ◌+◌, Bool, ◌&&◌, ◌||◌, ◌==◌, nat_le, if◌then◌else◌, List, length, bit_or}
+-- The Ethernet header (IEEE 802.3, 3.1), perhaps with tags (IEEE 802.1Q, 9.3) and with a SNAP header (IEEE 802, 9.2).
+use Rattle.std.specs.Prelude.{ℕ, ◌+◌, ◌*◌, Bool, ◌&&◌, ◌==◌, nat_le, if◌then◌else◌, List, length, bit_or}
 use Rattle.spec_base.specs.Bytes.{big_endian_at}
-use Rattle.spec_keys.specs.Protocols.{tag_bit}
+use Rattle.spec_keys.specs.Protocols.{tag_bit, is_tag_type}
 use Rattle.spec_frames.specs.declared.headers.Carried.{Carried}
 
 -- the header: the addresses of the destination and of the source, of six bytes each, and a type of two
@@ -27,22 +27,24 @@ type_at = 12
 abbrev pub tag_size : ℕ
 tag_size = 4
 
-abbrev pub customer_tag : ℕ
-customer_tag = 0x8100
+-- where the inner one of two tags stands
+abbrev pub inner_at : ℕ
+inner_at = type_at + tag_size
 
-abbrev pub service_tag : ℕ
-service_tag = 0x88a8
+-- whether a whole tag stands at an offset, and a type after it
+unfoldable pub is_tag_at : List ℕ → ℕ → Bool
+is_tag_at frame at = nat_le (at + tag_size + type_size) (length frame) && is_tag_type (big_endian_at type_size frame at)
 
-abbrev pub is_tag_type : ℕ → Bool
-is_tag_type number = (number == customer_tag) || (number == service_tag)
+-- how many tags stand after the addresses; no third one is read
+unfoldable pub tag_count : List ℕ → ℕ
+tag_count frame = if is_tag_at frame type_at then (if is_tag_at frame inner_at then 2 else 1) else 0
 
--- whether a whole tag stands after the addresses. No second one is read.
-unfoldable pub is_tagged : List ℕ → Bool
-is_tagged frame = nat_le (header_size + tag_size) (length frame) && is_tag_type (big_endian_at type_size frame type_at)
+-- the type of a tag, and its content with the bit that says that there is one
+abbrev pub tpid_at : List ℕ → ℕ → ℕ
+tpid_at frame at = big_endian_at type_size frame at
 
--- the content of the tag, with the bit that says that there is one
-unfoldable pub tci_of : List ℕ → ℕ
-tci_of frame = bit_or (big_endian_at type_size frame (type_at + type_size)) tag_bit
+unfoldable pub tci_at : List ℕ → ℕ → ℕ
+tci_at frame at = bit_or (big_endian_at type_size frame (at + type_size)) tag_bit
 
 -- ---- the type
 
@@ -79,4 +81,4 @@ carried_by frame at =
 
 -- what a frame carries, which has a whole header
 unfoldable pub carried : List ℕ → Carried
-carried frame = if is_tagged frame then carried_by frame (type_at + tag_size) else carried_by frame type_at
+carried frame = carried_by frame (type_at + tag_count frame * tag_size)

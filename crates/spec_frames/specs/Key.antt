@@ -1,8 +1,8 @@
 -- The key of a frame: its fields by name in ovs-fields(7).
-use Rattle.std.specs.Prelude.{ℕ, ◌+◌, nat_lt, if◌then◌else◌, List, length, slice_index, slice_set}
+use Rattle.std.specs.Prelude.{ℕ, ◌+◌, ◌==◌, nat_lt, if◌then◌else◌, List, length, slice_index, slice_set}
 use Rattle.spec_base.specs.Bytes.{big_endian_at}
 use Rattle.spec_keys.specs.declared.field_id.FieldId.{FieldId}
-use Rattle.spec_keys.specs.declared.field_id.FieldId.TheVariants.{InPort, DlSrc, DlDst, DlType, VlanTci, NwSrc, NwDst, Ipv6Src, Ipv6Dst, NwProto, NwTos, NwTtl, IpFrag, ArpSha, ArpTha, TpSrc, TpDst}
+use Rattle.spec_keys.specs.declared.field_id.FieldId.TheVariants.{InPort, DlSrc, DlDst, DlType, VlanTci, NwSrc, NwDst, Ipv6Src, Ipv6Dst, NwProto, NwTos, NwTtl, IpFrag, ArpSha, ArpTha, TpSrc, TpDst, VlanTpid, VlanTci2, VlanTpid2}
 use Rattle.spec_keys.specs.Fields.{place_of}
 use Rattle.spec_keys.specs.Keys.{none}
 use Rattle.spec_frames.specs.declared.headers.Datagram.{Datagram}
@@ -12,7 +12,7 @@ use Rattle.spec_frames.specs.declared.headers.Network.{Network}
 use Rattle.spec_frames.specs.declared.headers.Network.TheVariants.{Nothing, Arp, Ipv4, Ipv6}
 use Rattle.spec_frames.specs.declared.layout.L4.{L4}
 use Rattle.spec_frames.specs.declared.layout.L4.TheVariants as transport
-use Rattle.spec_frames.specs.Ethernet.{address_size, source_at, header_size, is_tagged, tci_of, carried}
+use Rattle.spec_frames.specs.Ethernet.{address_size, source_at, header_size, type_at, inner_at, tag_count, tpid_at, tci_at, carried}
 use Rattle.spec_frames.specs.Arp as arp
 use Rattle.spec_frames.specs.Ipv4 as ipv4
 use Rattle.spec_frames.specs.Ipv6 as ipv6
@@ -29,11 +29,19 @@ abbrev pub with_addresses : List ℕ → List ℕ → List ℕ
 with_addresses frame key =
     with_value DlSrc (big_endian_at address_size frame source_at) (with_value DlDst (big_endian_at address_size frame 0) key)
 
-abbrev pub with_tag : List ℕ → List ℕ → List ℕ
-with_tag frame key = if is_tagged frame then with_value VlanTci (tci_of frame) key else key
+abbrev pub with_outer_tag : List ℕ → List ℕ → List ℕ
+with_outer_tag frame key = with_value VlanTci (tci_at frame type_at) (with_value VlanTpid (tpid_at frame type_at) key)
+
+abbrev pub with_inner_tag : List ℕ → List ℕ → List ℕ
+with_inner_tag frame key = with_value VlanTci2 (tci_at frame inner_at) (with_value VlanTpid2 (tpid_at frame inner_at) key)
+
+-- with the tags of a frame that has so many
+abbrev pub with_tags : ℕ → List ℕ → List ℕ → List ℕ
+with_tags count frame key =
+    if count == 0 then key else (if count == 1 then with_outer_tag frame key else with_inner_tag frame (with_outer_tag frame key))
 
 abbrev pub with_ethernet : List ℕ → List ℕ → List ℕ
-with_ethernet frame key = with_value DlType (carried frame).dl_type (with_tag frame (with_addresses frame key))
+with_ethernet frame key = with_value DlType (carried frame).dl_type (with_tags (tag_count frame) frame (with_addresses frame key))
 
 -- ---- the transport header
 

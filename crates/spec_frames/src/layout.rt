@@ -27,8 +27,8 @@ pub enum L4 {
 /// Where the headers of a frame stand.
 #[derive(Clone, Copy, Debug, PartialEq, Eq)]
 pub struct Layout {
-    /// Whether a VLAN tag stands after the addresses (IEEE 802.1Q).
-    pub tagged: bool,
+    /// How many VLAN tags stand after the addresses (IEEE 802.1Q): 0, 1 or 2.
+    pub tags: u8,
     pub l3: L3,
     /// Of a first fragment too, but of no later one.
     pub l4: L4,

@@ -4,7 +4,7 @@ use Rattle.std.specs.List.{range_with_len}
 use Rattle.std.proofs.Common.{lit<}
 use Rattle.std.proofs.Math.Nat.{ne_of_lt}
 use Rattle.spec_keys.specs.declared.field_id.FieldId.{FieldId}
-use Rattle.spec_keys.specs.declared.field_id.FieldId.TheVariants.{InPort, Metadata, Reg0, Reg1, Reg2, Reg3, Reg4, Reg5, Reg6, Reg7, Reg8, Reg9, Reg10, Reg11, Reg12, Reg13, Reg14, Reg15, DlSrc, DlDst, DlType, VlanTci, NwSrc, NwDst, Ipv6Src, Ipv6Dst, NwProto, NwTos, NwTtl, IpFrag, ArpSha, ArpTha, TpSrc, TpDst}
+use Rattle.spec_keys.specs.declared.field_id.FieldId.TheVariants.{InPort, Metadata, Reg0, Reg1, Reg2, Reg3, Reg4, Reg5, Reg6, Reg7, Reg8, Reg9, Reg10, Reg11, Reg12, Reg13, Reg14, Reg15, DlSrc, DlDst, DlType, VlanTci, NwSrc, NwDst, Ipv6Src, Ipv6Dst, NwProto, NwTos, NwTtl, IpFrag, ArpSha, ArpTha, TpSrc, TpDst, VlanTpid, VlanTci2, VlanTpid2}
 use Rattle.spec_keys.specs.Fields.{Decimal, Hexadecimal, FourDigits, Mac, Ipv4, Ipv6, Fragment, field_of, place_of, width_of, stage_of, fields, register_fields, field_count, widths, stages}
 use Rattle.spec_keys.specs.Keys.{value_of, none, masked, same, agree, joined, common_bits, covers, overlap, only_at, are_zero, IsKey, IsClean}
 use Rattle.spec_keys.specs.Hash.{hash_bytes, field_bytes, key_hash}
@@ -22,30 +22,30 @@ arp_sha_is_of_stage_two = refl
 tp_dst_is_of_stage_three : stage_of TpDst ≡ 3
 tp_dst_is_of_stage_three = refl
 
-a_key_has_34_fields : field_count ≡ 34
-a_key_has_34_fields = refl
+a_key_has_37_fields : field_count ≡ 37
+a_key_has_37_fields = refl
 
 fields_stand_in_their_places : map place_of fields ≡ range_with_len 0 field_count
 fields_stand_in_their_places = refl
 
 width_of_each_field : widths ≡
     16 ∷ 64 ∷ 32 ∷ 32 ∷ 32 ∷ 32 ∷ 32 ∷ 32 ∷ 32 ∷ 32 ∷ 32 ∷ 32 ∷ 32 ∷ 32 ∷ 32 ∷ 32 ∷ 32 ∷ 32 ∷
-    48 ∷ 48 ∷ 16 ∷ 16 ∷ 32 ∷ 32 ∷ 128 ∷ 128 ∷ 8 ∷ 8 ∷ 8 ∷ 2 ∷ 48 ∷ 48 ∷ 16 ∷ 16 ∷ []
+    48 ∷ 48 ∷ 16 ∷ 16 ∷ 32 ∷ 32 ∷ 128 ∷ 128 ∷ 8 ∷ 8 ∷ 8 ∷ 2 ∷ 48 ∷ 48 ∷ 16 ∷ 16 ∷ 16 ∷ 16 ∷ 16 ∷ []
 unfolding widths
 width_of_each_field = refl
 
 stage_of_each_field : stages ≡
     0 ∷ 0 ∷ 0 ∷ 0 ∷ 0 ∷ 0 ∷ 0 ∷ 0 ∷ 0 ∷ 0 ∷ 0 ∷ 0 ∷ 0 ∷ 0 ∷ 0 ∷ 0 ∷ 0 ∷ 0 ∷
-    1 ∷ 1 ∷ 1 ∷ 1 ∷ 2 ∷ 2 ∷ 2 ∷ 2 ∷ 2 ∷ 2 ∷ 2 ∷ 2 ∷ 2 ∷ 2 ∷ 3 ∷ 3 ∷ []
+    1 ∷ 1 ∷ 1 ∷ 1 ∷ 2 ∷ 2 ∷ 2 ∷ 2 ∷ 2 ∷ 2 ∷ 2 ∷ 2 ∷ 2 ∷ 2 ∷ 3 ∷ 3 ∷ 1 ∷ 1 ∷ 1 ∷ []
 unfolding stages
 stage_of_each_field = refl
 
 form_of_each_kind_of_field :
     map (λ f. (field_of f).form)
     (InPort ∷ Metadata ∷ Reg15 ∷ DlSrc ∷ DlDst ∷ DlType ∷ VlanTci ∷ NwSrc ∷ NwDst ∷ Ipv6Src ∷
-    Ipv6Dst ∷ NwProto ∷ NwTos ∷ NwTtl ∷ IpFrag ∷ ArpSha ∷ ArpTha ∷ TpSrc ∷ TpDst ∷ [])
+    Ipv6Dst ∷ NwProto ∷ NwTos ∷ NwTtl ∷ IpFrag ∷ ArpSha ∷ ArpTha ∷ TpSrc ∷ TpDst ∷ VlanTpid ∷ VlanTci2 ∷ VlanTpid2 ∷ [])
     ≡ Decimal ∷ Hexadecimal ∷ Hexadecimal ∷ Mac ∷ Mac ∷ FourDigits ∷ FourDigits ∷ Ipv4 ∷ Ipv4 ∷ Ipv6 ∷
-    Ipv6 ∷ Decimal ∷ Decimal ∷ Decimal ∷ Fragment ∷ Mac ∷ Mac ∷ Decimal ∷ Decimal ∷ []
+    Ipv6 ∷ Decimal ∷ Decimal ∷ Decimal ∷ Fragment ∷ Mac ∷ Mac ∷ Decimal ∷ Decimal ∷ FourDigits ∷ FourDigits ∷ FourDigits ∷ []
 form_of_each_kind_of_field = refl
 
 -- the list with a number for a field
@@ -169,11 +169,11 @@ unfolding none
 metadata_and_the_registers_are_never_in_a_clean_key = refl
 
 -- The hash: numbers computed by an independent FNV-1a.
-hash_of_the_zero_key : key_hash none ≡ 0xb0f1e1ed2939f27d
+hash_of_the_zero_key : key_hash none ≡ 0xeb4f61260020abd5
 unfolding none key_hash hash_bytes field_bytes
 hash_of_the_zero_key = refl
 
-hash_of_ip_frag : key_hash (with_field none IpFrag 3) ≡ 0xc46c1603e2b14f24
+hash_of_ip_frag : key_hash (with_field none IpFrag 3) ≡ 0x8041fc6a71947704
 unfolding none key_hash hash_bytes field_bytes
 hash_of_ip_frag = refl
 
@@ -185,7 +185,7 @@ hash_of_a_full_key :
     0x0b0b0b0b ∷ 0x0c0c0c0c ∷ 0x0d0d0d0d ∷ 0x0e0e0e0e ∷ 0x0f0f0f0f ∷ 0x10101010 ∷
     0x020000000001 ∷ 0x020000000002 ∷ 0x0800 ∷ 0x100a ∷ 0x0a000001 ∷ 0x0a000002 ∷
     0x20010db8000000000000000000000001 ∷ 0x20010db8000000000000000000000002 ∷ 17 ∷ 0xb8 ∷ 64 ∷ 1 ∷
-    0x020000000003 ∷ 0x020000000004 ∷ 1000 ∷ 53 ∷ [])
-    ≡ 0x79e28d42f678c28c
+    0x020000000003 ∷ 0x020000000004 ∷ 1000 ∷ 53 ∷ 0x88a8 ∷ 0x1014 ∷ 0x8100 ∷ [])
+    ≡ 0xf1b9c7e0bb236e09
 unfolding key_hash hash_bytes field_bytes
 hash_of_a_full_key = refl

@@ -1,8 +1,9 @@
--- The fields of a key: ovs-fields(7) has their names, widths and meanings. The stages, in which a lookup tests the
+-- The fields of a key: ovs-fields(7) has the names, widths and meanings of all but the types of VLAN tags and the inner
+-- tag, which are IEEE 802.1Q's. The stages, in which a lookup tests the
 -- fields (NSDI 2015, section 5.3), are this profile's.
 use Rattle.std.specs.Prelude.{ℕ, List, [], ◌∷◌, length, map}
 use Rattle.spec_keys.specs.declared.field_id.FieldId.{FieldId}
-use Rattle.spec_keys.specs.declared.field_id.FieldId.TheVariants.{InPort, Metadata, Reg0, Reg1, Reg2, Reg3, Reg4, Reg5, Reg6, Reg7, Reg8, Reg9, Reg10, Reg11, Reg12, Reg13, Reg14, Reg15, DlSrc, DlDst, DlType, VlanTci, NwSrc, NwDst, Ipv6Src, Ipv6Dst, NwProto, NwTos, NwTtl, IpFrag, ArpSha, ArpTha, TpSrc, TpDst}
+use Rattle.spec_keys.specs.declared.field_id.FieldId.TheVariants.{InPort, Metadata, Reg0, Reg1, Reg2, Reg3, Reg4, Reg5, Reg6, Reg7, Reg8, Reg9, Reg10, Reg11, Reg12, Reg13, Reg14, Reg15, DlSrc, DlDst, DlType, VlanTci, NwSrc, NwDst, Ipv6Src, Ipv6Dst, NwProto, NwTos, NwTtl, IpFrag, ArpSha, ArpTha, TpSrc, TpDst, VlanTpid, VlanTci2, VlanTpid2}
 
 -- how the value of a field is printed
 pub data Form : Type 0 where
@@ -56,6 +57,9 @@ field_of ArpSha = record { place = 30; bits = 48; stage = 2; form = Mac }
 field_of ArpTha = record { place = 31; bits = 48; stage = 2; form = Mac }
 field_of TpSrc = record { place = 32; bits = 16; stage = 3; form = Decimal }
 field_of TpDst = record { place = 33; bits = 16; stage = 3; form = Decimal }
+field_of VlanTpid = record { place = 34; bits = 16; stage = 1; form = FourDigits }
+field_of VlanTci2 = record { place = 35; bits = 16; stage = 1; form = FourDigits }
+field_of VlanTpid2 = record { place = 36; bits = 16; stage = 1; form = FourDigits }
 
 -- the place of a field in the key
 abbrev pub place_of : FieldId → ℕ
@@ -76,7 +80,7 @@ fields =
     Reg6 ∷ Reg7 ∷ Reg8 ∷ Reg9 ∷ Reg10 ∷ Reg11 ∷ Reg12 ∷ Reg13 ∷
     Reg14 ∷ Reg15 ∷ DlSrc ∷ DlDst ∷ DlType ∷ VlanTci ∷ NwSrc ∷ NwDst ∷
     Ipv6Src ∷ Ipv6Dst ∷ NwProto ∷ NwTos ∷ NwTtl ∷ IpFrag ∷ ArpSha ∷ ArpTha ∷
-    TpSrc ∷ TpDst ∷ []
+    TpSrc ∷ TpDst ∷ VlanTpid ∷ VlanTci2 ∷ VlanTpid2 ∷ []
 
 -- metadata and the registers, which no frame carries
 abbrev pub register_fields : List FieldId

@@ -1,5 +1,5 @@
 -- Numbers of protocols, by which frames and keys say what they carry.
-use Rattle.std.specs.Prelude.{ℕ}
+use Rattle.std.specs.Prelude.{ℕ, Bool, ◌||◌, ◌==◌}
 
 -- Ethernet types (IEEE 802 Numbers of IANA)
 abbrev pub ipv4_type : ℕ
@@ -27,3 +27,13 @@ icmp6_protocol = 58
 -- the bit of vlan_tci that says that there is a tag (ovs-fields(7), "VLAN Fields")
 abbrev pub tag_bit : ℕ
 tag_bit = 0x1000
+
+-- the types of a VLAN tag, of a customer's network and of a service provider's (IEEE 802.1Q, table 9-1)
+abbrev pub customer_tag : ℕ
+customer_tag = 0x8100
+
+abbrev pub service_tag : ℕ
+service_tag = 0x88a8
+
+abbrev pub is_tag_type : ℕ → Bool
+is_tag_type number = (number == customer_tag) || (number == service_tag)

@@ -1,4 +1,5 @@
-/// A field of a packet's key, by its name in ovs-fields(7), in the order of the key.
+/// A field of a packet's key, by its name in ovs-fields(7), in the order of the key. The last three, which have no name
+/// there, are the type of the outer VLAN tag, and the content and the type of the inner one.
 ///
 /// `NwSrc` and `NwDst` also hold the addresses of ARP, `NwProto` its operation, and `TpSrc` and `TpDst` the type
 /// and code of ICMP and ICMPv6.
@@ -38,4 +39,7 @@ pub enum FieldId {
     ArpTha,
     TpSrc,
     TpDst,
+    VlanTpid,
+    VlanTci2,
+    VlanTpid2,
 }

@@ -5,7 +5,7 @@ use Rattle.spec_base.specs.Bytes.{big_endian, big_endian_at}
 use Rattle.spec_keys.specs.Keys.{none, same}
 use Rattle.spec_actions.specs.declared.action.DpAction.TheVariants.{Output, PopVlan}
 use Rattle.spec_pcap.specs.Pcap.{Frame}
-use Rattle.spec_frames.specs.Ethernet.{is_tagged, tci_of, carried, carried_by}
+use Rattle.spec_frames.specs.Ethernet.{is_tag_at, tag_count, tci_at, carried, carried_by}
 use Rattle.spec_frames.specs.Arp.{is_arp}
 use Rattle.spec_frames.specs.Ipv4.{is_ipv4, ipv4}
 use Rattle.spec_frames.specs.Ipv6.{ipv6, upper_layer}
@@ -60,11 +60,11 @@ abbrev nowhere : Decided
 nowhere port place = []
 
 unfoldable told : Run → Decided → List FlowRecord
-unfolding none same big_endian_at is_tagged tci_of carried carried_by is_arp is_ipv4 ipv4 ipv6 upper_layer network_at transport layout_of with_transport with_network key_of frames_in arrivals_at arrivals_in put_in_order in_order first_output with_packet
+unfolding none same big_endian_at is_tag_at tag_count tci_at carried carried_by is_arp is_ipv4 ipv4 ipv6 upper_layer network_at transport layout_of with_transport with_network key_of frames_in arrivals_at arrivals_in put_in_order in_order first_output with_packet
 told run decided = flows run decided
 
 unfoldable written : Run → Decided → List ℕ
-unfolding none same big_endian_at is_tagged tci_of carried carried_by is_arp is_ipv4 ipv4 ipv6 upper_layer network_at transport layout_of with_transport with_network key_of frames_in arrivals_at arrivals_in put_in_order in_order first_output with_packet header record_bytes
+unfolding none same big_endian_at is_tag_at tag_count tci_at carried carried_by is_arp is_ipv4 ipv4 ipv6 upper_layer network_at transport layout_of with_transport with_network key_of frames_in arrivals_at arrivals_in put_in_order in_order first_output with_packet header record_bytes
 written run decided = netflow_bytes run decided
 
 -- ---- what is written

@@ -33,6 +33,16 @@ tcp6 = is field.InPort 1 ∷ is field.DlType 0x86dd ∷ is field.Ipv6Src 0x20010
     ∷ is field.Ipv6Dst 0x20010db8000000000000000000000002 ∷ is field.NwProto 6 ∷ is field.NwTtl 64 ∷ is field.TpSrc 40000
     ∷ is field.TpDst 80 ∷ []
 
+-- a packet's outer tag, of a customer's type; its lack of an inner one, and of both
+abbrev customer : ℕ → List Stated
+customer tci = is field.VlanTci tci ∷ is field.VlanTpid 0x8100 ∷ []
+
+abbrev without_inner_tag : List Stated
+without_inner_tag = is field.VlanTci2 0 ∷ is field.VlanTpid2 0 ∷ []
+
+abbrev untagged : List Stated
+untagged = is field.VlanTci 0 ∷ is field.VlanTpid 0 ∷ without_inner_tag
+
 -- table 0 has this rule alone, which every packet matches
 abbrev always : List OfAction → List Rule
 always actions = rule 1 0 0 [] actions ∷ []
@@ -195,7 +205,7 @@ an_ip_packet_consults_ip_frag_in_either_version = (refl, refl)
 
 a_write_to_part_of_the_tag_consults_it_whole :
     shown (always (Set name.VlanTci 0x1005 0x1fff ∷ Output 2 ∷ [])) ports frame
-    ≡ gives (datapath.PushVlan 0x1005 ∷ datapath.Output 2 ∷ []) (1 ∷ []) (is field.VlanTci 0 ∷ plain_match)
+    ≡ gives (datapath.PushVlan 0x8100 0x1005 ∷ datapath.Output 2 ∷ []) (1 ∷ []) (untagged ++ plain_match)
 unfolding shown
 a_write_to_part_of_the_tag_consults_it_whole = refl
 
@@ -317,18 +327,18 @@ a_value_is_cut_to_its_mask = refl
 -- no frame has such a vlan_tci
 a_tag_is_set_beside_bits_without_a_tag :
     (shown (always (SetVid 5 ∷ Output 2 ∷ [])) ports (is field.VlanTci 0x2004 ∷ frame)
-    ≡ gives (datapath.PushVlan 0x3005 ∷ datapath.Output 2 ∷ []) (1 ∷ []) (is field.VlanTci 0x2004 ∷ plain_match))
+    ≡ gives (datapath.PushVlan 0x8100 0x3005 ∷ datapath.Output 2 ∷ []) (1 ∷ []) (is field.VlanTci 0x2004 ∷ is field.VlanTpid 0 ∷ without_inner_tag ++ plain_match))
     × (shown (always (SetPcp 3 ∷ Output 2 ∷ [])) ports (is field.VlanTci 0x2004 ∷ frame)
-    ≡ gives (datapath.PushVlan 0x7004 ∷ datapath.Output 2 ∷ []) (1 ∷ []) (is field.VlanTci 0x2004 ∷ plain_match))
+    ≡ gives (datapath.PushVlan 0x8100 0x7004 ∷ datapath.Output 2 ∷ []) (1 ∷ []) (is field.VlanTci 0x2004 ∷ is field.VlanTpid 0 ∷ without_inner_tag ++ plain_match))
 unfolding shown
 a_tag_is_set_beside_bits_without_a_tag = (refl, refl)
 
 commit_goes_by_the_order_of_the_fields :
     shown (always (Set name.UdpDst 52 0xffff ∷ Set name.NwSrc 0x0a000002 0xffffffff ∷ SetVid 5 ∷ Set name.DlDst 1 1
     ∷ Output 2 ∷ Output 3 ∷ [])) ports udp
-    ≡ gives (datapath.Set field.DlDst 1 1 ∷ datapath.PushVlan 0x1005 ∷ datapath.Set field.NwSrc 2 3
+    ≡ gives (datapath.Set field.DlDst 1 1 ∷ datapath.PushVlan 0x8100 0x1005 ∷ datapath.Set field.NwSrc 2 3
     ∷ datapath.Set field.TpDst 0 1 ∷ datapath.Output 2 ∷ datapath.Output 3 ∷ []) (1 ∷ []) (has field.DlDst 0 1
-    ∷ is field.VlanTci 0 ∷ is field.NwSrc 0x0a000001 ∷ is field.NwProto 17 ∷ is field.TpDst 53 ∷ ipv4_match)
+    ∷ untagged ++ (is field.NwSrc 0x0a000001 ∷ is field.NwProto 17 ∷ is field.TpDst 53 ∷ ipv4_match))
 unfolding shown
 commit_goes_by_the_order_of_the_fields = refl
 
@@ -336,9 +346,9 @@ commit_goes_by_the_order_of_the_fields = refl
 commit_has_every_field_that_a_write_may_change :
     commit (key_of [])
     (key_of (is field.TpDst 1 ∷ is field.TpSrc 1 ∷ is field.ArpTha 1 ∷ is field.ArpSha 1 ∷ is field.NwTtl 1 ∷ is field.NwTos 1
-    ∷ is field.Ipv6Dst 1 ∷ is field.Ipv6Src 1 ∷ is field.NwDst 1 ∷ is field.NwSrc 1 ∷ is field.VlanTci 0x1001 ∷ is field.DlDst 1
+    ∷ is field.Ipv6Dst 1 ∷ is field.Ipv6Src 1 ∷ is field.NwDst 1 ∷ is field.NwSrc 1 ∷ is field.VlanTci 0x1001 ∷ is field.VlanTpid 0x8100 ∷ is field.DlDst 1
     ∷ is field.DlSrc 1 ∷ []))
-    ≡ datapath.Set field.DlSrc 1 1 ∷ datapath.Set field.DlDst 1 1 ∷ datapath.PushVlan 0x1001 ∷ datapath.Set field.NwSrc 1 1
+    ≡ datapath.Set field.DlSrc 1 1 ∷ datapath.Set field.DlDst 1 1 ∷ datapath.PushVlan 0x8100 0x1001 ∷ datapath.Set field.NwSrc 1 1
     ∷ datapath.Set field.NwDst 1 1 ∷ datapath.Set field.Ipv6Src 1 1 ∷ datapath.Set field.Ipv6Dst 1 1 ∷ datapath.Set field.NwTos 1 1
     ∷ datapath.Set field.NwTtl 1 1 ∷ datapath.Set field.ArpSha 1 1 ∷ datapath.Set field.ArpTha 1 1 ∷ datapath.Set field.TpSrc 1 1
     ∷ datapath.Set field.TpDst 1 1 ∷ []
@@ -350,8 +360,8 @@ a_write_that_leaves_no_tag_bit_takes_the_tag_away :
     shown
     (rule 1 0 0 [] (Set name.VlanVid 5 0x1fff ∷ Goto 1 ∷ [])
     ∷ rule 2 1 0 (is field.VlanTci 0 ∷ []) (Output 2 ∷ []) ∷ [])
-    ports (is field.VlanTci 0xb00a ∷ frame)
-    ≡ gives (datapath.PopVlan ∷ datapath.Output 2 ∷ []) (1 ∷ 2 ∷ []) (is field.VlanTci 0xb00a ∷ plain_match)
+    ports (customer 0xb00a ++ frame)
+    ≡ gives (datapath.PopVlan ∷ datapath.Output 2 ∷ []) (1 ∷ 2 ∷ []) (without_inner_tag ++ (customer 0xb00a ++ plain_match))
 unfolding shown
 a_write_that_leaves_no_tag_bit_takes_the_tag_away = refl
 
@@ -360,45 +370,95 @@ a_move_reads_and_writes_its_slices :
     shown (always (Set name.Reg0 0xc 0xff ∷ SetVid 5
     ∷ Move (record { name = name.Reg0; low = 2; high = 3 }) (record { name = name.VlanPcp; low = 1; high = 2 })
     ∷ Output 2 ∷ [])) ports frame
-    ≡ gives (datapath.PushVlan 0xd005 ∷ datapath.Output 2 ∷ []) (1 ∷ []) (is field.VlanTci 0 ∷ plain_match)
+    ≡ gives (datapath.PushVlan 0x8100 0xd005 ∷ datapath.Output 2 ∷ []) (1 ∷ []) (untagged ++ plain_match)
 unfolding shown
 a_move_reads_and_writes_its_slices = refl
 
 set_vid_and_set_pcp_keep_each_others_part :
-    shown (always (SetPcp 3 ∷ SetVid 7 ∷ Output 2 ∷ [])) ports (is field.VlanTci 0xb80a ∷ frame)
-    ≡ gives (datapath.PopVlan ∷ datapath.PushVlan 0x7007 ∷ datapath.Output 2 ∷ []) (1 ∷ []) (is field.VlanTci 0xb80a
-    ∷ plain_match)
+    shown (always (SetPcp 3 ∷ SetVid 7 ∷ Output 2 ∷ [])) ports (customer 0xb80a ++ frame)
+    ≡ gives (datapath.PopVlan ∷ datapath.PushVlan 0x8100 0x7007 ∷ datapath.Output 2 ∷ []) (1 ∷ []) (without_inner_tag ++ (customer 0xb80a ++ plain_match))
 unfolding shown
 set_vid_and_set_pcp_keep_each_others_part = refl
 
 a_pushed_tag_is_empty_and_popped_again :
-    shown (always (PushVlan ∷ Output 2 ∷ PopVlan ∷ Output 3 ∷ [])) ports frame
-    ≡ gives (datapath.PushVlan 0x1000 ∷ datapath.Output 2 ∷ datapath.PopVlan ∷ datapath.Output 3 ∷ []) (1 ∷ []) (is field.VlanTci 0 ∷ plain_match)
+    shown (always (PushVlan 0x8100 ∷ Output 2 ∷ PopVlan ∷ Output 3 ∷ [])) ports frame
+    ≡ gives (datapath.PushVlan 0x8100 0x1000 ∷ datapath.Output 2 ∷ datapath.PopVlan ∷ datapath.Output 3 ∷ []) (1 ∷ []) (untagged ++ plain_match)
 unfolding shown
 a_pushed_tag_is_empty_and_popped_again = refl
 
-a_pop_consults_the_tag_whether_there_is_one_or_not :
-    (shown (always (PopVlan ∷ Output 2 ∷ [])) ports frame
-    ≡ gives (datapath.Output 2 ∷ []) (1 ∷ []) (is field.VlanTci 0 ∷ plain_match))
-    × (shown (always (PopVlan ∷ Output 2 ∷ [])) ports (is field.VlanTci 0xb00a ∷ frame)
-    ≡ gives (datapath.PopVlan ∷ datapath.Output 2 ∷ []) (1 ∷ []) (is field.VlanTci 0xb00a ∷ plain_match))
+-- a frame that came in with a customer's tag of VLAN 10
+abbrev of_customer_10 : List Stated
+of_customer_10 = customer 0x100a ++ frame
+
+a_service_tag_goes_around_a_customer_s :
+    shown (always (PushVlan 0x88a8 ∷ SetVid 100 ∷ Output 2 ∷ [])) ports of_customer_10
+    ≡ gives (datapath.PushVlan 0x88a8 0x1064 ∷ datapath.Output 2 ∷ []) (1 ∷ []) (without_inner_tag ++ (customer 0x100a ++ plain_match))
 unfolding shown
-a_pop_consults_the_tag_whether_there_is_one_or_not = (refl, refl)
+a_service_tag_goes_around_a_customer_s = refl
+
+-- a frame with a service tag of VLAN 100 around it
+abbrev of_service_100 : List Stated
+of_service_100 = is field.VlanTci 0x1064 ∷ is field.VlanTpid 0x88a8 ∷ is field.VlanTci2 0x100a ∷ is field.VlanTpid2 0x8100 ∷ []
+
+where_the_outer_tag_is_popped_the_inner_one_comes :
+    shown
+    (rule 1 0 0 [] (PopVlan ∷ Goto 1 ∷ [])
+    ∷ rule 2 1 0 (is field.VlanTci 0x100a ∷ []) (Output 2 ∷ []) ∷ [])
+    ports (of_service_100 ++ frame)
+    ≡ gives (datapath.PopVlan ∷ datapath.Output 2 ∷ []) (1 ∷ 2 ∷ []) (of_service_100 ++ plain_match)
+unfolding shown
+where_the_outer_tag_is_popped_the_inner_one_comes = refl
+
+two_tags_take_no_third :
+    shown (always (PushVlan 0x8100 ∷ Output 2 ∷ [])) ports (of_service_100 ++ frame)
+    ≡ gives [] (1 ∷ []) (of_service_100 ++ plain_match)
+unfolding shown
+two_tags_take_no_third = refl
+
+-- the outer tag alone is popped, and the new one pushed around the inner one
+a_changed_outer_tag_is_popped_and_pushed :
+    shown (always (SetVid 7 ∷ Output 2 ∷ [])) ports (of_service_100 ++ frame)
+    ≡ gives (datapath.PopVlan ∷ datapath.PushVlan 0x88a8 0x1007 ∷ datapath.Output 2 ∷ []) (1 ∷ []) (of_service_100 ++ plain_match)
+unfolding shown
+a_changed_outer_tag_is_popped_and_pushed = refl
+
+-- a tag of the same content and another type
+tags_of_other_types_are_others :
+    shown (always (PopVlan ∷ PushVlan 0x88a8 ∷ SetVid 10 ∷ Output 2 ∷ [])) ports of_customer_10
+    ≡ gives (datapath.PopVlan ∷ datapath.PushVlan 0x88a8 0x100a ∷ datapath.Output 2 ∷ []) (1 ∷ []) (without_inner_tag ++ (customer 0x100a ++ plain_match))
+unfolding shown
+tags_of_other_types_are_others = refl
+
+the_tag_of_a_match_is_the_outer_one :
+    (shown (rule 1 0 0 (has field.VlanTci 0x1064 0x1fff ∷ []) (Output 2 ∷ []) ∷ []) ports (of_service_100 ++ frame)
+    ≡ gives (datapath.Output 2 ∷ []) (1 ∷ []) (has field.VlanTci 0x1064 0x1fff ∷ plain_match))
+    × (shown (rule 1 0 0 (has field.VlanTci 0x100a 0x1fff ∷ []) (Output 2 ∷ []) ∷ []) ports (of_service_100 ++ frame)
+    ≡ gives [] [] (has field.VlanTci 0x1064 0x1fff ∷ plain_match))
+unfolding shown
+the_tag_of_a_match_is_the_outer_one = (refl, refl)
+
+a_pop_consults_the_tags_whether_there_are_any_or_not :
+    (shown (always (PopVlan ∷ Output 2 ∷ [])) ports frame
+    ≡ gives (datapath.Output 2 ∷ []) (1 ∷ []) (untagged ++ plain_match))
+    × (shown (always (PopVlan ∷ Output 2 ∷ [])) ports (customer 0xb00a ++ frame)
+    ≡ gives (datapath.PopVlan ∷ datapath.Output 2 ∷ []) (1 ∷ []) (without_inner_tag ++ (customer 0xb00a ++ plain_match)))
+unfolding shown
+a_pop_consults_the_tags_whether_there_are_any_or_not = (refl, refl)
 
 a_pop_leaves_no_bit_of_the_tag :
     shown
     (rule 1 0 0 [] (PopVlan ∷ Goto 1 ∷ [])
     ∷ rule 2 1 0 (is field.VlanTci 0 ∷ []) (Output 2 ∷ []) ∷ [])
-    ports (is field.VlanTci 0xb00a ∷ frame)
-    ≡ gives (datapath.PopVlan ∷ datapath.Output 2 ∷ []) (1 ∷ 2 ∷ []) (is field.VlanTci 0xb00a ∷ plain_match)
+    ports (customer 0xb00a ++ frame)
+    ≡ gives (datapath.PopVlan ∷ datapath.Output 2 ∷ []) (1 ∷ 2 ∷ []) (without_inner_tag ++ (customer 0xb00a ++ plain_match))
 unfolding shown
 a_pop_leaves_no_bit_of_the_tag = refl
 
-a_second_push_ends_the_translation :
-    shown (always (Output 2 ∷ PushVlan ∷ Output 3 ∷ PushVlan ∷ [])) ports frame
-    ≡ gives [] (1 ∷ []) (is field.VlanTci 0 ∷ plain_match)
+a_third_push_ends_the_translation :
+    shown (always (PushVlan 0x88a8 ∷ Output 2 ∷ PushVlan 0x8100 ∷ Output 3 ∷ PushVlan 0x8100 ∷ [])) ports frame
+    ≡ gives [] (1 ∷ []) (untagged ++ plain_match)
 unfolding shown
-a_second_push_ends_the_translation = refl
+a_third_push_ends_the_translation = refl
 
 -- ---- output
 
@@ -464,12 +524,12 @@ a_packet_without_a_ttl_is_no_packet_of_ttl_0 :
 unfolding shown
 a_packet_without_a_ttl_is_no_packet_of_ttl_0 = (refl, refl)
 
--- by a TTL of 1, and by a second push
+-- by a TTL of 1, and by a third push
 what_stands_after_the_end_consults_nothing :
     (shown (always (DecTtl ∷ Set name.DlDst 9 0xffffffffffff ∷ Output 2 ∷ [])) ports icmp
     ≡ gives [] (1 ∷ []) (is field.NwTtl 1 ∷ ipv4_match))
-    × (shown (always (PushVlan ∷ PushVlan ∷ Set name.DlDst 9 0xffffffffffff ∷ Output 2 ∷ [])) ports frame
-    ≡ gives [] (1 ∷ []) (is field.VlanTci 0 ∷ plain_match))
+    × (shown (always (PushVlan 0x8100 ∷ PushVlan 0x8100 ∷ PushVlan 0x8100 ∷ Set name.DlDst 9 0xffffffffffff ∷ Output 2 ∷ [])) ports frame
+    ≡ gives [] (1 ∷ []) (untagged ++ plain_match))
 unfolding shown
 what_stands_after_the_end_consults_nothing = (refl, refl)
 

@@ -59,8 +59,8 @@ number_and_vlan =
 
 the_run_of_the_picture :
     shown number_and_vlan (1 ∷ 2 ∷ 3 ∷ []) frame
-    ≡ gives (datapath.PushVlan 0x1005 ∷ datapath.Output 2 ∷ datapath.Output 3 ∷ []) (1 ∷ 2 ∷ [])
-    (is field.InPort 1 ∷ is field.DlType 0x88b5 ∷ is field.VlanTci 0 ∷ [])
+    ≡ gives (datapath.PushVlan 0x8100 0x1005 ∷ datapath.Output 2 ∷ datapath.Output 3 ∷ []) (1 ∷ 2 ∷ [])
+    (is field.InPort 1 ∷ is field.DlType 0x88b5 ∷ is field.VlanTci 0 ∷ is field.VlanTpid 0 ∷ is field.VlanTci2 0 ∷ is field.VlanTpid2 0 ∷ [])
 unfolding shown
 the_run_of_the_picture = refl
 

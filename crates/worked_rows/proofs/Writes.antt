@@ -67,8 +67,8 @@ a_write_to_a_tcp_port_leaves_a_udp_packet = refl
 
 a_vlan_given_to_an_untagged_frame :
     shown (doing (SetVid 5 ∷ Output 2 ∷ [])) ports (frame 2)
-    ≡ gives (datapath.PushVlan 0x1005 ∷ datapath.Output 2 ∷ []) (1 ∷ [])
-    (at_port_1 (is field.DlType 0x88b5 ∷ is field.VlanTci 0 ∷ []))
+    ≡ gives (datapath.PushVlan 0x8100 0x1005 ∷ datapath.Output 2 ∷ []) (1 ∷ [])
+    (at_port_1 (is field.DlType 0x88b5 ∷ is field.VlanTci 0 ∷ is field.VlanTpid 0 ∷ is field.VlanTci2 0 ∷ is field.VlanTpid2 0 ∷ []))
 unfolding shown
 a_vlan_given_to_an_untagged_frame = refl
 
