@@ -85,7 +85,7 @@ module _ (sw : Switch) (P : ℕ → Type 0)
   act-bounded sub keeps DecTtl s h =
       if-bounded (is_met needs.Ip s.current) (lower_ttl s) s
       (if-bounded (nat_le (value_of s.current field.NwTtl) 1) _ _ (as_bounded s _ refl refl refl h) (as_bounded s _ refl refl refl h)) h
-  act-bounded sub keeps PushVlan s h = if-bounded (is_full s.current) _ _ (as_bounded s _ refl refl refl h) (as_bounded s _ refl refl refl h)
+  act-bounded sub keeps (PushVlan tpid) s h = if-bounded (is_full s.current) _ _ (as_bounded s _ refl refl refl h) (as_bounded s _ refl refl refl h)
   act-bounded sub keeps PopVlan s h = as_bounded s _ refl refl refl h
   act-bounded sub keeps (SetVid vid) s h = as_bounded s _ refl refl refl h
   act-bounded sub keeps (SetPcp pcp) s h = as_bounded s _ refl refl refl h

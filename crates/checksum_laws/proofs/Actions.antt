@@ -1,19 +1,19 @@
 -- What each action does to checksums, and what a list of them sends.
-use Rattle.std.proofs.Common.{◌≡◌, ℕ, ◌<◌, ◌≤◌, Bool, true, false, List, [], ◌∷◌, ◌++◌, length, take, drop, All, ◌⊎◌, inl, inr, refl, sym, ap, ◌∙◌, subst, arith}
-use Rattle.std.proofs.lemmas.Bool.{cases_lt, cond-false}
+use Rattle.std.proofs.Common.{◌≡◌, ℕ, ◌<◌, ◌≤◌, Bool, true, false, List, [], ◌∷◌, length, All, ◌⊎◌, inl, inr, refl, sym, ap, subst}
+use Rattle.std.proofs.lemmas.Bool.{cases_lt}
 use Rattle.std.proofs.lemmas.List.Elements.{All-cons, All-nil}
-use Rattle.spec_frames.specs.declared.layout.Layout.{Layout}
-use Rattle.spec_frames.specs.Ethernet.{header_size, is_tagged}
-use Rattle.spec_frames.specs.Layout.{layout_of}
+use Rattle.spec_keys.specs.Protocols.{is_tag_type}
+use Rattle.spec_frames.specs.Ethernet.{header_size, type_at, is_tag_at, tag_count}
 use Rattle.spec_actions.specs.declared.action.DpAction.{DpAction}
 use Rattle.spec_actions.specs.declared.action.DpAction.TheVariants.{Output, PopVlan, PushVlan, Set}
 use Rattle.spec_exec.specs.Rewriting.{push_tag, pop_tag, after_action}
 use Rattle.spec_exec.specs.Sent.{Piece, sent}
-use Rattle.key_laws.proofs.Forms.{whole-layout}
 use Rattle.exec_laws.specs.ReadBack.{AreBytes}
-use Rattle.exec_laws.proofs.Within.{push-length, act-whole, tagged-size}
+use Rattle.exec_laws.specs.Become.{has_third_tag}
+use Rattle.exec_laws.proofs.Within.{push-length, act-whole}
 use Rattle.exec_laws.proofs.Addresses.{network-moved}
-use Rattle.exec_laws.proofs.Tags.{push-after, push-carried, popped-length, pop-after, pop-carried}
+use Rattle.exec_laws.proofs.Tags.{push-after, push-carried, pop-sized, pop-after, pop-carried, least}
+use Rattle.exec_laws.proofs.ThirdTag.{untagged-pop}
 use Rattle.exec_laws.proofs.BytesKept.{action-bytes}
 use Rattle.exec_laws.proofs.EachField.{short-stays}
 use Rattle.checksum_laws.proofs.Law.{header-right, transport-right, has-kept}
@@ -32,35 +32,32 @@ pub record CoverSame (a b : List ℕ) : Type 0 where
 itself : (a b : List ℕ) → b ≡ a → CoverSame a b
 itself a b e = record { header = ap header_words e; transport = ap transport_words e; has = subst HasTransportSum (sym e) }
 
-pub pushed-same : (tci : ℕ) (frame : List ℕ) → is_tagged frame ≡ false → CoverSame frame (after_action (PushVlan tci) frame)
-pushed-same tci frame untagged = by (cases_lt (length frame) header_size)
+pub pushed-same : (tpid tci : ℕ) (frame : List ℕ) → is_tag_type tpid ≡ true → tag_count frame ≤ 1 → CoverSame frame (after_action (PushVlan tpid tci) frame)
+pushed-same tpid tci frame typed room = by (cases_lt (length frame) header_size)
   where
-    by : (length frame < header_size) ⊎ (header_size ≤ length frame) → CoverSame frame (after_action (PushVlan tci) frame)
-    by (inl short) = itself frame (after_action (PushVlan tci) frame) (short-stays (PushVlan tci) frame short)
+    by : (length frame < header_size) ⊎ (header_size ≤ length frame) → CoverSame frame (after_action (PushVlan tpid tci) frame)
+    by (inl short) = itself frame (after_action (PushVlan tpid tci) frame) (short-stays (PushVlan tpid tci) frame short)
     by (inr whole) =
-        let sized = push-length tci frame whole in
-        let same = push-after frame whole tci in
-        let moves = network-moved frame (push_tag tci frame) 4 sized same whole (push-carried frame whole tci untagged) in
-        subst (CoverSame frame) (sym (act-whole (PushVlan tci) frame whole)) (record {
-          header = header-same frame (push_tag tci frame) sized same whole moves;
-          transport = transport-same frame (push_tag tci frame) sized same whole moves;
-          has = has-same frame (push_tag tci frame) sized same whole moves;
+        let sized = push-length tpid tci frame whole in
+        let same = push-after frame whole tpid tci in
+        let moves = network-moved frame (push_tag tpid tci frame) 4 sized same whole (push-carried frame whole tpid tci typed room) in
+        subst (CoverSame frame) (sym (act-whole (PushVlan tpid tci) frame whole)) (record {
+          header = header-same frame (push_tag tpid tci frame) sized same whole moves;
+          transport = transport-same frame (push_tag tpid tci frame) sized same whole moves;
+          has = has-same frame (push_tag tpid tci frame) sized same whole moves;
         })
 
-pub popped-same : (frame : List ℕ) → is_tagged (after_action PopVlan frame) ≡ false → CoverSame frame (after_action PopVlan frame)
-unfolding pop_tag
-popped-same frame gone = by (cases_lt (length frame) header_size)
+pub popped-same : (frame : List ℕ) → has_third_tag frame ≡ false → CoverSame frame (after_action PopVlan frame)
+popped-same frame single = by (cases_lt (length frame) header_size)
   where
-    tagged-by : header_size ≤ length frame → (t : Bool) → is_tagged frame ≡ t → CoverSame frame (pop_tag frame)
+    tagged-by : header_size ≤ length frame → (t : Bool) → is_tag_at frame type_at ≡ t → CoverSame frame (pop_tag frame)
     tagged-by whole false e =
-        itself frame (pop_tag frame) (cond-false (layout_of frame).tagged (take 12 frame ++ drop 16 frame) frame (ap (λ (l : Layout). l.tagged) (whole-layout frame whole) ∙ e))
+        itself frame (pop_tag frame) (untagged-pop frame whole e)
     tagged-by whole true e =
-        let size = tagged-size frame e in
-        let sized = sym (popped-length frame e size) in
-        let same = pop-after frame e size in
-        let rest : header_size ≤ length (pop_tag frame) = omega (arith, sized, size) in
-        let untagged = ap is_tagged (sym (act-whole PopVlan frame whole)) ∙ gone in
-        let moves = network-moved (pop_tag frame) frame 4 sized same rest (pop-carried frame e size untagged) in
+        let sized = pop-sized frame e in
+        let same = pop-after frame e in
+        let rest = least frame e in
+        let moves = network-moved (pop_tag frame) frame 4 sized same rest (pop-carried frame e single) in
         record {
           header = sym (header-same (pop_tag frame) frame sized same rest moves);
           transport = sym (transport-same (pop_tag frame) frame sized same rest moves);
@@ -69,7 +66,7 @@ popped-same frame gone = by (cases_lt (length frame) header_size)
 
     by : (length frame < header_size) ⊎ (header_size ≤ length frame) → CoverSame frame (after_action PopVlan frame)
     by (inl short) = itself frame (after_action PopVlan frame) (short-stays PopVlan frame short)
-    by (inr whole) = subst (CoverSame frame) (sym (act-whole PopVlan frame whole)) (tagged-by whole (is_tagged frame) refl)
+    by (inr whole) = subst (CoverSame frame) (sym (act-whole PopVlan frame whole)) (tagged-by whole (is_tag_at frame type_at) refl)
 
 -- ---- any action
 
@@ -93,8 +90,8 @@ pub record HasTransportRight (frame : List ℕ) : Type 0 where
 pub header-after : (action : DpAction) (frame : List ℕ) → IsFollowed action frame → HasHeaderRight frame → HasHeaderRight (after_action action frame)
 header-after (Output port) frame followed h = subst HasHeaderRight (sym (output-stays port frame)) h
 header-after (Set f value mask) frame followed h = record { bytes = action-bytes frame h.bytes (Set f value mask); right = header-right frame h.bytes f value mask h.right }
-header-after (PushVlan tci) frame followed h =
-    record { bytes = action-bytes frame h.bytes (PushVlan tci); right = subst IsRight (sym (pushed-same tci frame followed).header) h.right }
+header-after (PushVlan tpid tci) frame followed h =
+    record { bytes = action-bytes frame h.bytes (PushVlan tpid tci); right = subst IsRight (sym (pushed-same tpid tci frame followed.1 followed.0).header) h.right }
 header-after PopVlan frame followed h = record { bytes = action-bytes frame h.bytes PopVlan; right = subst IsRight (sym (popped-same frame followed).header) h.right }
 
 pub transport-after : (action : DpAction) (frame : List ℕ) → IsFollowed action frame → HasTransportRight frame → HasTransportRight (after_action action frame)
@@ -104,9 +101,9 @@ transport-after (Set f value mask) frame followed h = record {
   has = has-kept frame h.bytes f value mask h.has;
   right = transport-right frame h.bytes f value mask followed h.has h.right;
 }
-transport-after (PushVlan tci) frame followed h =
-    let same = pushed-same tci frame followed in
-    record { bytes = action-bytes frame h.bytes (PushVlan tci); has = same.has h.has; right = subst IsRight (sym same.transport) h.right }
+transport-after (PushVlan tpid tci) frame followed h =
+    let same = pushed-same tpid tci frame followed.1 followed.0 in
+    record { bytes = action-bytes frame h.bytes (PushVlan tpid tci); has = same.has h.has; right = subst IsRight (sym same.transport) h.right }
 transport-after PopVlan frame followed h =
     let same = popped-same frame followed in record { bytes = action-bytes frame h.bytes PopVlan; has = same.has h.has; right = subst IsRight (sym same.transport) h.right }
 
@@ -121,7 +118,7 @@ module _ (P Q : List ℕ → Type 0) (after : (action : DpAction) (frame : List 
       All-cons (λ (piece : Piece). Q piece.bytes) (record { port = port; bytes = frame }) (sent actions frame) (gives frame p)
       (sent-keeps actions frame (subst (AreFollowed actions) (output-stays port frame) followed.1) p)
   sent-keeps (PopVlan ∷ actions) frame followed p = sent-keeps actions (after_action PopVlan frame) followed.1 (after PopVlan frame followed.0 p)
-  sent-keeps (PushVlan tci ∷ actions) frame followed p = sent-keeps actions (after_action (PushVlan tci) frame) followed.1 (after (PushVlan tci) frame followed.0 p)
+  sent-keeps (PushVlan tpid tci ∷ actions) frame followed p = sent-keeps actions (after_action (PushVlan tpid tci) frame) followed.1 (after (PushVlan tpid tci) frame followed.0 p)
   sent-keeps (Set f value mask ∷ actions) frame followed p = sent-keeps actions (after_action (Set f value mask) frame) followed.1 (after (Set f value mask) frame followed.0 p)
 
 pub sent-header : (actions : List DpAction) (frame : List ℕ) → AreBytes frame → AreFollowed actions frame → IsRight (header_words frame)

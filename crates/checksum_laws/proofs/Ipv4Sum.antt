@@ -27,7 +27,7 @@ use Rattle.exec_laws.proofs.AfterHeaders.{After4, says-ipv4, SumsAfter, address_
 use Rattle.checksum_laws.proofs.Sums.{sum-first}
 use Rattle.checksum_laws.proofs.Cover.{cover, total}
 use Rattle.checksum_laws.proofs.Writes.{Check, Counts, Write, QuietWrite, told-kept, stays-same, stays-right}
-use Rattle.checksum_laws.proofs.Transport.{laid}
+use Rattle.checksum_laws.proofs.Transport.{far-off, laid}
 use Rattle.checksum_laws.specs.Right.{words_at, words_of, rest_of, IsRight, ipv4_words}
 
 -- ---- transport headers and their checksums, from the header on
@@ -66,15 +66,15 @@ header_check at words = record {
   told = 1;
 }
 
-module _ (at words : ℕ) (least : 10 ≤ words) (far : header_size ≤ at) (h : L4) (after : After4 (at + 2 * words) h) (tagged routed : Bool) where
+module _ (at words : ℕ) (least : 10 ≤ words) (far : header_size ≤ at) (h : L4) (after : After4 (at + 2 * words) h) (tags : ℕ) (routed : Bool) where
   before : (i : ℕ) → Counts (header_check at words) i → i < at + 2 * words
   before i counts = grind arith
 
   -- m words from the j-th of the header on have the field, which is none of the first byte; the words aren't the sixth
   header-write : (p : Place) (j : ℕ) (last : List Sum) → SumsAfter (at + 2 * words) last → p.word_at ≡ at + 2 * j → (p.word_at ≤ p.at) × (p.at + p.size ≤ p.word_at + 2 * p.words)
       → at + 1 ≤ p.at → (j + p.words ≤ 5) ⊎ ((6 ≤ j) × (j + p.words ≤ 10)) → (f : FieldId)
-      → place_in (laid tagged (l3.Ipv4 at) h routed) f ≡ Some p → sums_of (laid tagged (l3.Ipv4 at) h routed) f ≡ record { at = at + 10; zero_says = Plain } ∷ last
-      → Write (header_check at words) (laid tagged (l3.Ipv4 at) h routed) f
+      → place_in (laid tags (l3.Ipv4 at) h routed) f ≡ Some p → sums_of (laid tags (l3.Ipv4 at) h routed) f ≡ record { at = at + 10; zero_says = Plain } ∷ last
+      → Write (header_check at words) (laid tags (l3.Ipv4 at) h routed) f
   header-write p j last clear begins has second apart f stands sums = inr (inr (record {
     p = p;
     first = [];
@@ -97,7 +97,7 @@ module _ (at words : ℕ) (least : 10 ≤ words) (far : header_size ≤ at) (h :
       besides (inl l) = inr (omega (arith, begins))
       besides (inr l) = inl (omega (arith, begins, l))
 
-  over-header : (f : FieldId) → Write (header_check at words) (laid tagged (l3.Ipv4 at) h routed) f
+  over-header : (f : FieldId) → Write (header_check at words) (laid tags (l3.Ipv4 at) h routed) f
   over-header DlSrc = inr (inl (λ i counts. grind arith))
   over-header DlDst = inr (inl (λ i counts. grind arith))
   over-header NwTos =
@@ -142,10 +142,10 @@ module _ (frame : List ℕ) (bytes : EachByte frame) (at : ℕ) (over : (layout_
       let least : 10 ≤ count = omega (arith, says.0.least) in
       let even : at + ipv4.header_size frame at ≡ at + 2 * count = omega arith in
       let after : After4 (at + 2 * count) h = subst (λ (end : ℕ). After4 end h) even says.1 in
-      let laid-is = ap (λ (n : L3). laid (layout_of frame).tagged n h (layout_of frame).routed) over in
+      let laid-is = ap (λ (n : L3). laid (layout_of frame).tags n h (layout_of frame).routed) over in
       let write : Write (header_check at count) (layout_of frame) f = subst (λ (l : Layout). Write (header_check at count) l f) (sym laid-is)
-      (over-header at count least follows.after_ethernet h after (layout_of frame).tagged (layout_of frame).routed f) in
-      let whole : header_size ≤ length frame = omega (arith, follows.after_ethernet, follows.is_within) in
+      (over-header at count least (far-off follows) h after (layout_of frame).tags (layout_of frame).routed f) in
+      let whole : header_size ≤ length frame = omega (arith, (far-off follows), follows.is_within) in
       let first = told-kept (header_check at count) frame bytes whole f value mask write at (omega arith, omega arith) in
       let version = eqb-true (slice_index frame at / 16) 4 says.0.version in
       let some = sum-positive result count at (omega (arith, least)) (omega (arith, first, version)) in
@@ -171,14 +171,14 @@ icmp_check at x size = record {
   told = 2;
 }
 
-over-icmp : (at x size : ℕ) → header_size ≤ at → at + 20 ≤ x → (tagged routed : Bool) (f : FieldId) → QuietWrite (icmp_check at x size) (laid tagged (l3.Ipv4 at) (l4.Icmp x) routed) f
-over-icmp at x size far after tagged routed DlSrc = inr (λ i counts. grind arith)
-over-icmp at x size far after tagged routed DlDst = inr (λ i counts. grind arith)
-over-icmp at x size far after tagged routed NwTos = inr (λ i counts. grind arith)
-over-icmp at x size far after tagged routed NwTtl = inr (λ i counts. grind arith)
-over-icmp at x size far after tagged routed NwSrc = inr (λ i counts. grind arith)
-over-icmp at x size far after tagged routed NwDst = inr (λ i counts. grind arith)
-over-icmp at x size far after tagged routed f = inl refl
+over-icmp : (at x size : ℕ) → header_size ≤ at → at + 20 ≤ x → (tags : ℕ) (routed : Bool) (f : FieldId) → QuietWrite (icmp_check at x size) (laid tags (l3.Ipv4 at) (l4.Icmp x) routed) f
+over-icmp at x size far after tags routed DlSrc = inr (λ i counts. grind arith)
+over-icmp at x size far after tags routed DlDst = inr (λ i counts. grind arith)
+over-icmp at x size far after tags routed NwTos = inr (λ i counts. grind arith)
+over-icmp at x size far after tags routed NwTtl = inr (λ i counts. grind arith)
+over-icmp at x size far after tags routed NwSrc = inr (λ i counts. grind arith)
+over-icmp at x size far after tags routed NwDst = inr (λ i counts. grind arith)
+over-icmp at x size far after tags routed f = inl refl
 
 module _ (frame : List ℕ) (bytes : EachByte frame) (x : ℕ) (f : FieldId) (value mask : ℕ) (is : (layout_of frame).l4 ≡ l4.Icmp x) where
   abbrev icmp_result : List ℕ
@@ -190,10 +190,10 @@ module _ (frame : List ℕ) (bytes : EachByte frame) (x : ℕ) (f : FieldId) (va
       let follows = network_follows frame (l3.Ipv4 at) e in
       let size = end_by frame (l3.Ipv4 at) - x in
       let c = icmp_check at x size in
-      let laid-is = ap₂ (λ (n : L3) (h : L4). laid (layout_of frame).tagged n h (layout_of frame).routed) e is in
-      let whole : header_size ≤ length frame = omega (arith, follows.after_ethernet, follows.is_within) in
+      let laid-is = ap₂ (λ (n : L3) (h : L4). laid (layout_of frame).tags n h (layout_of frame).routed) e is in
+      let whole : header_size ≤ length frame = omega (arith, (far-off follows), follows.is_within) in
       let write : QuietWrite c (layout_of frame) f = subst (λ (l : Layout). QuietWrite c l f) (sym laid-is)
-      (over-icmp at x size follows.after_ethernet after (layout_of frame).tagged (layout_of frame).routed f) in
+      (over-icmp at x size (far-off follows) after (layout_of frame).tags (layout_of frame).routed f) in
       let told = number-same frame icmp_result 2 (at + 2) (λ i l m. told-kept c frame bytes whole f value mask (loud write) i (l, m)) in
       let same = stays-same c frame bytes whole f value mask write [] (omega arith) in
       rw told (subst IsRight (sym same) right)

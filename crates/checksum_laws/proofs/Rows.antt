@@ -5,7 +5,7 @@ use Rattle.spec_base.specs.Bytes.{big_endian, big_endian_at}
 use Rattle.spec_keys.specs.declared.field_id.FieldId.{FieldId}
 use Rattle.spec_keys.specs.declared.field_id.FieldId.TheVariants.{NwDst, Ipv6Src, Ipv6Dst, TpDst}
 use Rattle.spec_checksum.specs.Checksum.{updated}
-use Rattle.spec_frames.specs.Ethernet.{is_tagged, carried, carried_by}
+use Rattle.spec_frames.specs.Ethernet.{is_tag_at, tag_count, carried, carried_by}
 use Rattle.spec_frames.specs.Ipv4.{is_ipv4, ipv4}
 use Rattle.spec_frames.specs.Ipv6.{ipv6, upper_layer}
 use Rattle.spec_frames.specs.Network.{network_at}
@@ -20,20 +20,20 @@ hex n digits = big_endian n digits
 
 -- what is covered, by these rules alone
 unfoldable header : List ℕ → List ℕ
-unfolding big_endian_at is_tagged carried carried_by network_at is_ipv4 ipv4 ipv6 upper_layer transport layout_of words_at
+unfolding big_endian_at is_tag_at tag_count carried carried_by network_at is_ipv4 ipv4 ipv6 upper_layer transport layout_of words_at
 header frame = header_words frame
 
 unfoldable body : List ℕ → List ℕ
-unfolding big_endian_at is_tagged carried carried_by network_at is_ipv4 ipv4 ipv6 upper_layer transport layout_of words_at
+unfolding big_endian_at is_tag_at tag_count carried carried_by network_at is_ipv4 ipv4 ipv6 upper_layer transport layout_of words_at
 body frame = transport_words frame
 
 unfoldable final : List ℕ → List ℕ → List ℕ
-unfolding big_endian_at is_tagged carried carried_by network_at is_ipv4 ipv4 ipv6 upper_layer transport layout_of words_at
+unfolding big_endian_at is_tag_at tag_count carried carried_by network_at is_ipv4 ipv4 ipv6 upper_layer transport layout_of words_at
 final to frame = final_words to frame
 
 -- a frame after a write
 unfoldable written : FieldId → ℕ → ℕ → List ℕ → List ℕ
-unfolding big_endian_at updated is_tagged carried carried_by network_at is_ipv4 ipv4 ipv6 upper_layer transport layout_of after_word after_words corrected set_field after_action
+unfolding big_endian_at updated is_tag_at tag_count carried carried_by network_at is_ipv4 ipv4 ipv6 upper_layer transport layout_of after_word after_words corrected set_field after_action
 written f value mask frame = after_action (Set f value mask) frame
 
 -- ---- frames whose checksums are right

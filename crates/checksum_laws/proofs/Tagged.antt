@@ -1,5 +1,5 @@
 -- A tag that is pushed or popped moves what checksums cover, and changes none of it.
-use Rattle.std.proofs.Common.{◌≡◌, ℕ, zero, suc, ◌+◌, ◌-◌, ◌/◌, ◌<◌, ◌≤◌, Bool, List, ◌∷◌, ◌++◌, length, take, slice_index, ◌⊎◌, inl, inr, refl, sym, ap, ap₂, ◌∙◌, subst, arith}
+use Rattle.std.proofs.Common.{◌≡◌, ℕ, zero, suc, ◌+◌, ◌-◌, ◌/◌, ◌<◌, ◌≤◌, List, ◌∷◌, ◌++◌, length, take, slice_index, ◌⊎◌, inl, inr, refl, sym, ap, ap₂, ◌∙◌, subst, arith}
 use Rattle.std.proofs.lemmas.Bool.{cases_lt}
 use Rattle.spec_base.specs.Bytes.{big_endian_at}
 use Rattle.spec_frames.specs.declared.headers.Network.{Network}
@@ -9,7 +9,7 @@ use Rattle.spec_frames.specs.declared.layout.L3.{L3}
 use Rattle.spec_frames.specs.declared.layout.L3.TheVariants as l3
 use Rattle.spec_frames.specs.declared.layout.L4.{L4}
 use Rattle.spec_frames.specs.declared.layout.L4.TheVariants as l4
-use Rattle.spec_frames.specs.Ethernet.{header_size, type_at, is_tagged}
+use Rattle.spec_frames.specs.Ethernet.{header_size, type_at, tag_count}
 use Rattle.spec_frames.specs.Ipv4 as ipv4
 use Rattle.spec_frames.specs.Transport.{transport}
 use Rattle.spec_frames.specs.Network.{network}
@@ -127,24 +127,24 @@ module _ (a b : List ℕ) (sized : length b ≡ length a + 4) (same : (i : ℕ) 
   -- ---- where the network header is the same, 4 bytes further on
 
   module _ (whole : header_size ≤ length a) (moves : network b ≡ network_on 4 (network a)) where
-    layout-on : layout_of b ≡ record { tagged = is_tagged b; l3 = l3_on (layout_of a).l3; l4 = moved (layout_of a).l4; routed = (layout_of b).routed }
+    layout-on : layout_of b ≡ record { tags = tag_count b; l3 = l3_on (layout_of a).l3; l4 = moved (layout_of a).l4; routed = (layout_of b).routed }
     layout-on =
         let is-a = whole-layout a whole in
         let is-b = whole-layout b (omega (arith, sized, whole)) in
         let n = ap (λ (l : Layout). l.l3) is-b ∙ ap place_of_network moves ∙ place-on (network a) ∙ ap (λ (l : Layout). l3_on l.l3) (sym is-a) in
         let h = ap (λ (l : Layout). l.l4) is-b ∙ ap transport moves ∙ transport-on a b 12 4 sized same (network a) ∙ ap (λ (l : Layout). moved l.l4) (sym is-a) in
-        let t = ap (λ (l : Layout). l.tagged) is-b in
-        ap₂ (λ (t : Bool) (n : L3). record { tagged = t; l3 = n; l4 = (layout_of b).l4; routed = (layout_of b).routed }) t n
-        ∙ ap (λ (h : L4). record { tagged = is_tagged b; l3 = l3_on (layout_of a).l3; l4 = h; routed = (layout_of b).routed }) h
+        let t = ap (λ (l : Layout). l.tags) is-b in
+        ap₂ (λ (t : ℕ) (n : L3). record { tags = t; l3 = n; l4 = (layout_of b).l4; routed = (layout_of b).routed }) t n
+        ∙ ap (λ (h : L4). record { tags = tag_count b; l3 = l3_on (layout_of a).l3; l4 = h; routed = (layout_of b).routed }) h
 
     begins : Begins (layout_of a).l3
     begins = by (layout_of a).l3 refl
       where
         by : (n : L3) → (layout_of a).l3 ≡ n → Begins n
         by l3.None e = tt
-        by (l3.Arp at) e = let l = (network_follows a (l3.Arp at) e).after_ethernet in omega arith
-        by (l3.Ipv4 at) e = let l = (network_follows a (l3.Ipv4 at) e).after_ethernet in omega arith
-        by (l3.Ipv6 at) e = let l = (network_follows a (l3.Ipv6 at) e).after_ethernet in omega arith
+        by (l3.Arp at) e = let l = (network_follows a (l3.Arp at) e).after_tags in omega (arith, l)
+        by (l3.Ipv4 at) e = let l = (network_follows a (l3.Ipv4 at) e).after_tags in omega (arith, l)
+        by (l3.Ipv6 at) e = let l = (network_follows a (l3.Ipv6 at) e).after_tags in omega (arith, l)
 
     after-begins : (n : L3) → Begins n → (x : ℕ) → IsAfter n x → type_at ≤ x
     after-begins l3.None l x after = absurd after

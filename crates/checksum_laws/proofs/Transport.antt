@@ -8,6 +8,7 @@ use Rattle.spec_frames.specs.declared.layout.L3.TheVariants.{Ipv4, Ipv6}
 use Rattle.spec_frames.specs.declared.layout.L4.{L4}
 use Rattle.spec_frames.specs.Ethernet.{header_size}
 use Rattle.spec_exec.specs.Places.{whole, port_at, place_in, Zero, Plain, Sum, sum, port_sum, address_sum, sums_of}
+use Rattle.frame_laws.specs.Headers.{FollowsType}
 use Rattle.exec_laws.specs.Elsewhere.{IsOutside, IsNoSum}
 use Rattle.checksum_laws.proofs.Writes.{Check, Follows, Write}
 
@@ -53,24 +54,28 @@ pub record HasSum (n : L3) (h : L4) (x s : ℕ) (z : Zero) (size : ℕ) : Type 0
   pub addresses : address_sum n h ≡ sum (x + s) z
   pub ports : Ports n h x s z
 
-abbrev pub laid : Bool → L3 → L4 → Bool → Layout
-laid tagged n h routed = record { tagged = tagged; l3 = n; l4 = h; routed = routed }
+-- a network header begins after that of Ethernet
+pub far-off : {frame : List ℕ} {layout : Layout} {dl_type size at : ℕ} → FollowsType frame layout dl_type size at → header_size ≤ at
+far-off follows = omega (arith, follows.after_tags)
+
+abbrev pub laid : ℕ → L3 → L4 → Bool → Layout
+laid tags n h routed = record { tags = tags; l3 = n; l4 = h; routed = routed }
 
 -- ---- by field
 
 module _ (n : L3) (k : ℕ) (h : L4) (x s : ℕ) (z : Zero) (size told_at : ℕ) (has : HasSum n h x s z size) (after : addresses_at n + 2 * k ≤ x)
-    (tagged routed : Bool) where
+    (tags : ℕ) (routed : Bool) where
   -- a port
   port-write : (offset : ℕ) → (offset ≡ 0) ⊎ (offset ≡ 2) → ((i : ℕ) → (told_at ≤ i) × (i < told_at + 2) → (i < x) ⊎ ((x + 4 ≤ i) × (i < x + s))) → (f : FieldId)
-      → place_in (laid tagged n h routed) f ≡ port_at offset h → sums_of (laid tagged n h routed) f ≡ port_sum n h
-      → Write (check n k x s z size told_at) (laid tagged n h routed) f
+      → place_in (laid tags n h routed) f ≡ port_at offset h → sums_of (laid tags n h routed) f ≡ port_sum n h
+      → Write (check n k x s z size told_at) (laid tags n h routed) f
   port-write offset o told f place sums = by has.ports
     where
       step : (offset ≡ 0) ⊎ (offset ≡ 2) → (i : ℕ) × (x + offset ≡ x + 2 * i) × (i ≤ 1)
       step (inl e) = (0, omega (arith, e), omega arith)
       step (inr e) = (1, omega (arith, e), omega arith)
 
-      by : Ports n h x s z → Write (check n k x s z size told_at) (laid tagged n h routed) f
+      by : Ports n h x s z → Write (check n k x s z size told_at) (laid tags n h routed) f
       by (inl none) = inl (rw place (none offset))
       by (inr are) =
           let which = step o in
@@ -94,8 +99,8 @@ module _ (n : L3) (k : ℕ) (h : L4) (x s : ℕ) (z : Zero) (size told_at : ℕ)
   -- an address of so many words, from the i-th word of the addresses on
   address-write : (first : List Sum) → ((i : ℕ) → addresses_at n ≤ i → IsNoSum i first) → ((i : ℕ) → (told_at ≤ i) × (i < told_at + 2) → IsNoSum i first)
       → (j i words : ℕ) → j ≡ addresses_at n + 2 * i → i + words ≤ k → ((k : ℕ) → (told_at ≤ k) × (k < told_at + 2) → (k < addresses_at n) ⊎ ((x ≤ k) × (k < x + s))) → (f : FieldId)
-      → place_in (laid tagged n h routed) f ≡ whole j words → sums_of (laid tagged n h routed) f ≡ first ++ address_sum n h
-      → Follows (check n k x s z size told_at) (laid tagged n h routed) f
+      → place_in (laid tags n h routed) f ≡ whole j words → sums_of (laid tags n h routed) f ≡ first ++ address_sum n h
+      → Follows (check n k x s z size told_at) (laid tags n h routed) f
   address-write first apart told_apart j i words here l told f stands sums = record {
     p = record { at = j; size = 2 * words; unit = 1; word_at = j; words = words };
     first = first;
@@ -118,47 +123,47 @@ module _ (n : L3) (k : ℕ) (h : L4) (x s : ℕ) (z : Zero) (size told_at : ℕ)
       beside k (inl m) = inl (omega (arith, after))
       beside k (inr m) = inl m.1
 
-module _ (h : L4) (x s : ℕ) (z : Zero) (size told_at at : ℕ) (far : header_size ≤ at) (tagged routed : Bool) where
+module _ (h : L4) (x s : ℕ) (z : Zero) (size told_at at : ℕ) (far : header_size ≤ at) (tags : ℕ) (routed : Bool) where
   pub over_ipv4 : HasSum (Ipv4 at) h x s z size → at + 12 + 2 * 4 ≤ x → IsTold (Ipv4 at) x s told_at
-      → (f : FieldId) → Write (check (Ipv4 at) 4 x s z size told_at) (laid tagged (Ipv4 at) h routed) f
+      → (f : FieldId) → Write (check (Ipv4 at) 4 x s z size told_at) (laid tags (Ipv4 at) h routed) f
   over_ipv4 has after told DlSrc = inr (inl (λ i counts. grind arith))
   over_ipv4 has after told DlDst = inr (inl (λ i counts. grind arith))
   over_ipv4 has after told NwTos = inr (inl (λ i counts. grind arith))
   over_ipv4 has after told NwTtl = inr (inl (λ i counts. grind arith))
   over_ipv4 has after told NwSrc =
-      inr (inr (address-write (Ipv4 at) 4 h x s z size told_at has after tagged routed (sum (at + 10) Plain) (λ i l. grind arith) (λ i l. grind arith)
+      inr (inr (address-write (Ipv4 at) 4 h x s z size told_at has after tags routed (sum (at + 10) Plain) (λ i l. grind arith) (λ i l. grind arith)
       (at + 12) 0 2 (omega arith) (omega arith) (λ i l. grind arith) NwSrc refl refl))
   over_ipv4 has after told NwDst =
-      inr (inr (address-write (Ipv4 at) 4 h x s z size told_at has after tagged routed (sum (at + 10) Plain) (λ i l. grind arith) (λ i l. grind arith)
+      inr (inr (address-write (Ipv4 at) 4 h x s z size told_at has after tags routed (sum (at + 10) Plain) (λ i l. grind arith) (λ i l. grind arith)
       (at + 16) 2 2 (omega arith) (omega arith) (λ i l. grind arith) NwDst refl refl))
-  over_ipv4 has after told TpSrc = port-write (Ipv4 at) 4 h x s z size told_at has after tagged routed 0 (inl refl) (λ i l. grind arith) TpSrc refl refl
-  over_ipv4 has after told TpDst = port-write (Ipv4 at) 4 h x s z size told_at has after tagged routed 2 (inr refl) (λ i l. grind arith) TpDst refl refl
+  over_ipv4 has after told TpSrc = port-write (Ipv4 at) 4 h x s z size told_at has after tags routed 0 (inl refl) (λ i l. grind arith) TpSrc refl refl
+  over_ipv4 has after told TpDst = port-write (Ipv4 at) 4 h x s z size told_at has after tags routed 2 (inr refl) (λ i l. grind arith) TpDst refl refl
   over_ipv4 has after told f = inl refl
 
   -- where so many words of the addresses are covered, by what a write to the destination does
   over_ipv6 : (k : ℕ) → 8 ≤ k → k ≤ 16 → HasSum (Ipv6 at) h x s z size → at + 40 ≤ x → IsTold (Ipv6 at) x s told_at
-      → (f : FieldId) → (f ≡ Ipv6Dst → Write (check (Ipv6 at) k x s z size told_at) (laid tagged (Ipv6 at) h routed) Ipv6Dst)
-      → Write (check (Ipv6 at) k x s z size told_at) (laid tagged (Ipv6 at) h routed) f
+      → (f : FieldId) → (f ≡ Ipv6Dst → Write (check (Ipv6 at) k x s z size told_at) (laid tags (Ipv6 at) h routed) Ipv6Dst)
+      → Write (check (Ipv6 at) k x s z size told_at) (laid tags (Ipv6 at) h routed) f
   over_ipv6 k least most has after told DlSrc to = inr (inl (λ i counts. grind arith))
   over_ipv6 k least most has after told DlDst to = inr (inl (λ i counts. grind arith))
   over_ipv6 k least most has after told NwTos to = inr (inl (λ i counts. grind arith))
   over_ipv6 k least most has after told NwTtl to = inr (inl (λ i counts. grind arith))
   over_ipv6 k least most has after told Ipv6Src to =
-      inr (inr (address-write (Ipv6 at) k h x s z size told_at has (omega arith) tagged routed [] (λ i l. tt) (λ i l. tt) (at + 8) 0 8 (omega arith) (omega arith) (λ i l. grind arith) Ipv6Src refl refl))
+      inr (inr (address-write (Ipv6 at) k h x s z size told_at has (omega arith) tags routed [] (λ i l. tt) (λ i l. tt) (at + 8) 0 8 (omega arith) (omega arith) (λ i l. grind arith) Ipv6Src refl refl))
   over_ipv6 k least most has after told Ipv6Dst to = to refl
-  over_ipv6 k least most has after told TpSrc to = port-write (Ipv6 at) k h x s z size told_at has (omega arith) tagged routed 0 (inl refl) (λ i l. grind arith) TpSrc refl refl
-  over_ipv6 k least most has after told TpDst to = port-write (Ipv6 at) k h x s z size told_at has (omega arith) tagged routed 2 (inr refl) (λ i l. grind arith) TpDst refl refl
+  over_ipv6 k least most has after told TpSrc to = port-write (Ipv6 at) k h x s z size told_at has (omega arith) tags routed 0 (inl refl) (λ i l. grind arith) TpSrc refl refl
+  over_ipv6 k least most has after told TpDst to = port-write (Ipv6 at) k h x s z size told_at has (omega arith) tags routed 2 (inr refl) (λ i l. grind arith) TpDst refl refl
   over_ipv6 k least most has after told f to = inl refl
 
   -- both addresses, where no routing header was passed
   pub direct_ipv6 : HasSum (Ipv6 at) h x s z size → at + 40 ≤ x → IsTold (Ipv6 at) x s told_at
-      → (f : FieldId) → (f ≡ Ipv6Dst → routed ≡ false) → Write (check (Ipv6 at) 16 x s z size told_at) (laid tagged (Ipv6 at) h routed) f
+      → (f : FieldId) → (f ≡ Ipv6Dst → routed ≡ false) → Write (check (Ipv6 at) 16 x s z size told_at) (laid tags (Ipv6 at) h routed) f
   direct_ipv6 has after told f direct =
-      over_ipv6 16 (omega arith) (omega arith) has after told f (λ e. inr (inr (address-write (Ipv6 at) 16 h x s z size told_at has (omega arith) tagged routed [] (λ i l. tt) (λ i l. tt)
+      over_ipv6 16 (omega arith) (omega arith) has after told f (λ e. inr (inr (address-write (Ipv6 at) 16 h x s z size told_at has (omega arith) tags routed [] (λ i l. tt) (λ i l. tt)
       (at + 24) 8 8 (omega arith) (omega arith) (λ i l. grind arith) Ipv6Dst refl (rw (direct e) refl))))
 
   -- the source alone, where one was
   pub routed_ipv6 : HasSum (Ipv6 at) h x s z size → at + 40 ≤ x → IsTold (Ipv6 at) x s told_at
-      → routed ≡ true → (f : FieldId) → Write (check (Ipv6 at) 8 x s z size told_at) (laid tagged (Ipv6 at) h routed) f
+      → routed ≡ true → (f : FieldId) → Write (check (Ipv6 at) 8 x s z size told_at) (laid tags (Ipv6 at) h routed) f
   routed_ipv6 has after told is f =
       over_ipv6 8 (omega arith) (omega arith) has after told f (λ e. inr (inl (λ i counts. (grind arith, rw is tt))))

@@ -23,7 +23,7 @@ use Rattle.exec_laws.proofs.Bytes.{EachByte}
 use Rattle.checksum_laws.proofs.Sums.{sum-first}
 use Rattle.checksum_laws.proofs.Cover.{cover, total}
 use Rattle.checksum_laws.proofs.Writes.{Counts, Write, IsThere, told-kept, stays-right, sum-absent, sum-present}
-use Rattle.checksum_laws.proofs.Transport.{addresses_at, check, IsTold, HasSum, laid, over_ipv4, direct_ipv6, routed_ipv6}
+use Rattle.checksum_laws.proofs.Transport.{addresses_at, check, IsTold, HasSum, far-off, laid, over_ipv4, direct_ipv6, routed_ipv6}
 use Rattle.checksum_laws.specs.Right.{AreWords, IsRight, pseudo_header, final_header, covered}
 
 -- ---- words of a pseudo header that are no addresses
@@ -87,11 +87,11 @@ module _ (frame : List ℕ) (bytes : EachByte frame) (f : FieldId) (value mask :
 
   -- by what a write does to the checksum, which covers k words of the addresses and those that are given
   by-write : (g : Segment frame) (n : L3) → (layout_of frame).l3 ≡ n → header_size ≤ length frame → (k : ℕ) → addresses_at n + 2 * k ≤ g.x
-      → (given : List ℕ) → AreWords given → 0 < sum given → Write (check n k g.x g.s (g.z n) g.size (g.told_at n)) (laid (layout_of frame).tagged n g.h (layout_of frame).routed) f
+      → (given : List ℕ) → AreWords given → 0 < sum given → Write (check n k g.x g.s (g.z n) g.size (g.told_at n)) (laid (layout_of frame).tags n g.h (layout_of frame).routed) f
       → Stays g n (cover (addresses_at n) k given g.size g.x)
   by-write g n e whole k apart given are more write =
       let c = check n k g.x g.s (g.z n) g.size (g.told_at n) in
-      let laid-is = ap₂ (λ (m : L3) (h : L4). laid (layout_of frame).tagged m h (layout_of frame).routed) e g.is in
+      let laid-is = ap₂ (λ (m : L3) (h : L4). laid (layout_of frame).tags m h (layout_of frame).routed) e g.is in
       let here : Write c (layout_of frame) f = subst (λ (l : Layout). Write c l f) (sym laid-is) write in
       let has = g.has n in
       let stands = ap (λ (k : ℕ). g.x + k) has.even in
@@ -117,15 +117,15 @@ module _ (frame : List ℕ) (bytes : EachByte frame) (f : FieldId) (value mask :
           let follows = network_follows frame n e in
           let apart : at + 12 + 2 * 4 ≤ g.x = omega (arith, after) in
           let some = sum-first g.protocol (g.size ∷ []) in
-          let is = by-write g n e (omega (arith, follows.after_ethernet, follows.is_within)) 4 apart (g.protocol ∷ g.size ∷ []) (two-words g.protocol g.size g.fits g.small) (omega (arith, some, g.some))
-          (over_ipv4 g.h g.x g.s (g.z n) g.size (g.told_at n) at follows.after_ethernet (layout_of frame).tagged (layout_of frame).routed (g.has n) apart (g.told n after) f) in
+          let is = by-write g n e (omega (arith, (far-off follows), follows.is_within)) 4 apart (g.protocol ∷ g.size ∷ []) (two-words g.protocol g.size g.fits g.small) (omega (arith, some, g.some))
+          (over_ipv4 g.h g.x g.s (g.z n) g.size (g.told_at n) at (far-off follows) (layout_of frame).tags (layout_of frame).routed (g.has n) apart (g.told n after) f) in
           record { told-same = is.told-same; right = is.right; absent = is.absent; present = is.present }
       by (l3.Ipv6 at) e after =
           let n = l3.Ipv6 at in
           let follows = network_follows frame n e in
-          let is = by-write g n e (omega (arith, follows.after_ethernet, follows.is_within)) 16 (omega (arith, after)) (size6 g.protocol g.size)
+          let is = by-write g n e (omega (arith, (far-off follows), follows.is_within)) 16 (omega (arith, after)) (size6 g.protocol g.size)
           (size6-words g.protocol g.size g.fits g.small) (size6-some g.protocol g.size g.some)
-          (direct_ipv6 g.h g.x g.s (g.z n) g.size (g.told_at n) at follows.after_ethernet (layout_of frame).tagged (layout_of frame).routed (g.has n) after (g.told n after) f (direct at e)) in
+          (direct_ipv6 g.h g.x g.s (g.z n) g.size (g.told_at n) at (far-off follows) (layout_of frame).tags (layout_of frame).routed (g.has n) after (g.told n after) f (direct at e)) in
           record { told-same = is.told-same; right = is.right; absent = is.absent; present = is.present }
 
   -- on the way to a final destination
@@ -140,7 +140,7 @@ module _ (frame : List ℕ) (bytes : EachByte frame) (f : FieldId) (value mask :
           let n = l3.Ipv6 other in
           let follows = network_follows frame n e in
           let some = sum_by-append (λ (w : ℕ). w) to (size6 g.protocol g.size) in
-          let is = by-write g n e (omega (arith, follows.after_ethernet, follows.is_within)) 8 (omega (arith, after)) (to ++ size6 g.protocol g.size)
+          let is = by-write g n e (omega (arith, (far-off follows), follows.is_within)) 8 (omega (arith, after)) (to ++ size6 g.protocol g.size)
           (All-append IsWord to (size6 g.protocol g.size) are (size6-words g.protocol g.size g.fits g.small)) (omega (arith, some, size6-some g.protocol g.size g.some))
-          (routed_ipv6 g.h g.x g.s (g.z n) g.size (g.told_at n) other follows.after_ethernet (layout_of frame).tagged (layout_of frame).routed (g.has n) after (g.told n after) routed f) in
+          (routed_ipv6 g.h g.x g.s (g.z n) g.size (g.told_at n) other (far-off follows) (layout_of frame).tags (layout_of frame).routed (g.has n) after (g.told n after) routed f) in
           record { told-same = is.told-same; right = is.right; absent = is.absent; present = is.present }

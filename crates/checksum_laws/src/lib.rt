@@ -32,7 +32,8 @@
 //!   holds of its own words alone. An address that is written in one with fewer than 20 bytes of TCP leaves the datagram's
 //!   checksum as it was.
 //! - Of a frame that was cut off, the bytes that are missing count as 0.
-//! - After a second tag the headers of a packet are not read, and no checksum is followed.
+//! - After a third tag the headers of a packet are not read, and no checksum is followed. Nor is one after a push of a
+//!   type that no tag has.
 //!
 //! # How
 //!

@@ -1,5 +1,5 @@
 -- The fields of the Ethernet header read back.
-use Rattle.std.proofs.Common.{◌≡◌, ℕ, ◌+◌, ◌%◌, ◌^◌, ◌<◌, ◌≤◌, Bool, true, false, nat_lt, ◌&&◌, if◌then◌else◌, List, length, slice_index, All, inl, inr, refl, sym, ap, ap₂, ◌∙◌, arith}
+use Rattle.std.proofs.Common.{◌≡◌, ℕ, ◌+◌, ◌*◌, ◌%◌, ◌^◌, ◌<◌, ◌≤◌, nat_lt, List, length, slice_index, All, inl, inr, refl, sym, ap, ap₂, ◌∙◌, arith}
 use Rattle.std.proofs.lemmas.Bool.{le-ltb, cond-false}
 use Rattle.std.proofs.Math.Nat.{mod-eq_of_lt}
 use Rattle.spec_base.specs.Bytes.{big_endian_at}
@@ -7,30 +7,30 @@ use Rattle.spec_keys.specs.declared.field_id.FieldId.TheVariants.{DlSrc, DlDst}
 use Rattle.spec_keys.specs.Keys.{value_of}
 use Rattle.spec_frames.specs.declared.headers.Carried.{Carried}
 use Rattle.spec_frames.specs.declared.headers.Network.{Network}
-use Rattle.spec_frames.specs.Ethernet.{is_tag_type, is_tagged, tci_of, carried, carried_by, header_size, type_at}
+use Rattle.spec_frames.specs.Ethernet.{is_tag_at, tag_count, tci_at, carried, header_size, type_at}
 use Rattle.spec_frames.specs.Network.{network_at, network}
 use Rattle.spec_frames.specs.Key.{with_value, with_network, key_of}
 use Rattle.spec_actions.specs.declared.action.DpAction.TheVariants.{Set}
 use Rattle.spec_base.specs.Bits.{merged}
 use Rattle.spec_exec.specs.Writing.{with_number}
 use Rattle.spec_exec.specs.Rewriting.{corrected, set_field, after_action}
-use Rattle.key_laws.proofs.Forms.{ethernet_key, ethernet_of, whole-key}
+use Rattle.key_laws.proofs.Forms.{Tags, tags_of, ethernet_key, ethernet_of, whole-key}
 use Rattle.frame_laws.proofs.HeaderLaws.{carried-least}
 use Rattle.exec_laws.proofs.Bytes.{big_endian_at-lt}
 use Rattle.exec_laws.proofs.Replacing.{with_number-length, with_number-reads, with_number-after, with_number-apart}
-use Rattle.exec_laws.proofs.Moved.{number-moved, size-moved, carried_on, carried_by-moved, network_on, network_at-moved, network-LiesFrom, with_network-moved}
+use Rattle.exec_laws.proofs.Moved.{number-moved, tag_at-moved, carried_on, carried_by-moved, network_on, network_at-moved, network-LiesFrom, with_network-moved}
 use Rattle.exec_laws.proofs.Fields.{keyed, network-says, merged-lt, mask-fits, unit_one}
 
--- the content of the tag that a key shows
-abbrev pub shown_tci : List ℕ → ℕ
-shown_tci frame = if is_tagged frame then tci_of frame else 0
+-- the tags that a key shows
+abbrev pub shown_tags : List ℕ → Tags
+shown_tags frame = tags_of frame
 
--- the key of a frame by its addresses and its tag
-abbrev pub keyed_by : List ℕ → ℕ → (source destination tci : ℕ) → List ℕ
-keyed_by frame port source destination tci = keyed frame (network frame) port (carried frame).dl_type source destination tci
+-- the key of a frame by its addresses and its tags
+abbrev pub keyed_by : List ℕ → ℕ → (source destination : ℕ) → Tags → List ℕ
+keyed_by frame port source destination t = keyed frame (network frame) port (carried frame).dl_type source destination t
 
 pub key-is : (port : ℕ) (frame : List ℕ) → header_size ≤ length frame
-    → key_of port frame ≡ keyed_by frame port (big_endian_at 6 frame 6) (big_endian_at 6 frame 0) (shown_tci frame)
+    → key_of port frame ≡ keyed_by frame port (big_endian_at 6 frame 6) (big_endian_at 6 frame 0) (shown_tags frame)
 key-is port frame l = whole-key port frame l
 
 -- a frame in which everything from an offset on is the same, perhaps further on, and which carries the same there
@@ -40,11 +40,11 @@ module _ (a b : List ℕ) (from s : ℕ) (sized : length b ≡ length a + s) (sa
   network-from =
       ap (λ (c : Carried). network_at b c.dl_type c.at) carries ∙ network_at-moved a b from s sized same (carried a).dl_type (carried a).at ((carried a).at + s) refl begins
 
-  pub key-from : (port : ℕ) → key_of port b ≡ keyed_by a port (big_endian_at 6 b 6) (big_endian_at 6 b 0) (shown_tci b)
+  pub key-from : (port : ℕ) → key_of port b ≡ keyed_by a port (big_endian_at 6 b 6) (big_endian_at 6 b 0) (shown_tags b)
   key-from port =
       whole-key port b (omega (arith, sized, whole)) ∙ ap (λ (n : Network). with_network b n (ethernet_of port b)) network-from
       ∙ with_network-moved a b from s sized same (network a) (network-LiesFrom a b from s sized same begins) (ethernet_of port b)
-      ∙ ap (λ (c : Carried). with_network a (network a) (ethernet_key port (big_endian_at 6 b 6) (big_endian_at 6 b 0) c.dl_type (shown_tci b))) carries
+      ∙ ap (λ (c : Carried). with_network a (network a) (ethernet_key port (big_endian_at 6 b 6) (big_endian_at 6 b 0) c.dl_type (shown_tags b))) carries
 
 -- one in which everything after the addresses is
 pub network-moved : (a b : List ℕ) (s : ℕ) → length b ≡ length a + s → ((i : ℕ) → type_at ≤ i → slice_index b (i + s) ≡ slice_index a i) → header_size ≤ length a
@@ -59,31 +59,31 @@ module _ (a b : List ℕ) (sized : length b ≡ length a) (same : (i : ℕ) → 
   pub same_on : (i : ℕ) → type_at ≤ i → slice_index b (i + 0) ≡ slice_index a i
   same_on i l = let e : i + 0 ≡ i = omega arith in ap (slice_index b) e ∙ same i l
 
-  pub is_tagged-same : is_tagged b ≡ is_tagged a
-  unfolding is_tagged
-  is_tagged-same =
-      ap₂ (λ (t : Bool) (number : ℕ). t && is_tag_type number) (size-moved a b 12 0 sized_on same_on 18 18 (omega arith))
-      (number-moved a b 12 0 sized_on same_on 2 12 12 (omega arith) (omega arith))
+  pub tag_at-same : (at : ℕ) → type_at ≤ at → is_tag_at b at ≡ is_tag_at a at
+  tag_at-same at l = tag_at-moved a b 12 0 sized_on same_on at at (omega arith) l
 
-  pub tci-same : shown_tci b ≡ shown_tci a
-  unfolding tci_of
-  tci-same = rw (is_tagged-same, number-moved a b 12 0 sized_on same_on 2 14 14 (omega arith) (omega arith)) refl
+  pub count-same : tag_count b ≡ tag_count a
+  unfolding tag_count
+  count-same = rw (tag_at-same 12 (omega arith), tag_at-same 16 (omega arith)) refl
+
+  pub tags-same : shown_tags b ≡ shown_tags a
+  unfolding tci_at
+  tags-same =
+      rw (
+        count-same,
+        number-moved a b 12 0 sized_on same_on 2 12 12 (omega arith) (omega arith),
+        number-moved a b 12 0 sized_on same_on 2 14 14 (omega arith) (omega arith),
+        number-moved a b 12 0 sized_on same_on 2 16 16 (omega arith) (omega arith),
+        number-moved a b 12 0 sized_on same_on 2 18 18 (omega arith) (omega arith),
+      ) refl
 
   pub carried-same : carried b ≡ carried_on 0 (carried a)
   unfolding carried
   carried-same =
-      rw (
-        is_tagged-same,
-        carried_by-moved a b 12 0 sized_on same_on 16 16 (omega arith) (omega arith),
-        carried_by-moved a b 12 0 sized_on same_on 12 12 (omega arith) (omega arith),
-      ) (by (is_tagged a))
-    where
-      by : (t : Bool) → (if t then carried_on 0 (carried_by a 16) else carried_on 0 (carried_by a 12)) ≡ carried_on 0 (if t then carried_by a 16 else carried_by a 12)
-      by true = refl
-      by false = refl
+      rw count-same (carried_by-moved a b 12 0 sized_on same_on (12 + tag_count a * 4) (12 + tag_count a * 4) (omega arith) (omega arith))
 
-  pub addressed-key : (port : ℕ) → key_of port b ≡ keyed_by a port (big_endian_at 6 b 6) (big_endian_at 6 b 0) (shown_tci a)
-  addressed-key port = key-from a b 12 0 sized_on same_on whole (omega (arith, carried-least a)) carried-same port ∙ ap (keyed_by a port (big_endian_at 6 b 6) (big_endian_at 6 b 0)) tci-same
+  pub addressed-key : (port : ℕ) → key_of port b ≡ keyed_by a port (big_endian_at 6 b 6) (big_endian_at 6 b 0) (shown_tags a)
+  addressed-key port = key-from a b 12 0 sized_on same_on whole (omega (arith, carried-least a)) carried-same port ∙ ap (keyed_by a port (big_endian_at 6 b 6) (big_endian_at 6 b 0)) tags-same
 
 -- ---- the laws
 
@@ -110,30 +110,30 @@ module _ (port : ℕ) (frame : List ℕ) (bytes : All (λ byte. byte < 256) fram
 
   -- the key of the frame, as the laws on forms have it
   abbrev key : List ℕ
-  key = keyed_by frame port (big_endian_at 6 frame 6) (big_endian_at 6 frame 0) (shown_tci frame)
+  key = keyed_by frame port (big_endian_at 6 frame 6) (big_endian_at 6 frame 0) (shown_tags frame)
 
   pub dl_src-reads-back : key_of port (after_action (Set DlSrc value mask) frame)
       ≡ with_value DlSrc (merged (value_of (key_of port frame) DlSrc) value mask) (key_of port frame)
   dl_src-reads-back =
-      let says = network-says frame (network frame) port (carried frame).dl_type (big_endian_at 6 frame 6) (big_endian_at 6 frame 0) (shown_tci frame) in
+      let says = network-says frame (network frame) port (carried frame).dl_type (big_endian_at 6 frame 6) (big_endian_at 6 frame 0) (shown_tags frame) in
       let now = addressed-key frame (with_number 6 frame 6 (new 6)) (with_number-length 6 frame 6 (new 6) (omega arith))
       (λ i l. with_number-after 6 frame 6 (new 6) (omega arith) i l) whole port in
       let source = with_number-reads 6 frame 6 (new 6) (omega arith) ∙ new-fits 6 in
       let destination = with_number-apart 6 frame 6 (new 6) (omega arith) 6 0 (inl (omega arith)) in
       ap (key_of port) (set-whole frame whole DlSrc value mask ∙ src-set) ∙ now
-      ∙ ap₂ (λ (x y : ℕ). keyed_by frame port x y (shown_tci frame)) source destination
+      ∙ ap₂ (λ (x y : ℕ). keyed_by frame port x y (shown_tags frame)) source destination
       ∙ says.other_src (new 6) ∙ ap (λ (z : ℕ). with_value DlSrc (merged z value mask) key) (sym says.dl_src)
       ∙ ap (λ (k : List ℕ). with_value DlSrc (merged (value_of k DlSrc) value mask) k) (sym (key-is port frame whole))
 
   pub dl_dst-reads-back : key_of port (after_action (Set DlDst value mask) frame)
       ≡ with_value DlDst (merged (value_of (key_of port frame) DlDst) value mask) (key_of port frame)
   dl_dst-reads-back =
-      let says = network-says frame (network frame) port (carried frame).dl_type (big_endian_at 6 frame 6) (big_endian_at 6 frame 0) (shown_tci frame) in
+      let says = network-says frame (network frame) port (carried frame).dl_type (big_endian_at 6 frame 6) (big_endian_at 6 frame 0) (shown_tags frame) in
       let now = addressed-key frame (with_number 6 frame 0 (new 0)) (with_number-length 6 frame 0 (new 0) (omega arith))
       (λ i l. with_number-after 6 frame 0 (new 0) (omega arith) i (omega arith)) whole port in
       let destination = with_number-reads 6 frame 0 (new 0) (omega arith) ∙ new-fits 0 in
       let source = with_number-apart 6 frame 0 (new 0) (omega arith) 6 6 (inr (omega arith)) in
       ap (key_of port) (set-whole frame whole DlDst value mask ∙ dst-set) ∙ now
-      ∙ ap₂ (λ (x y : ℕ). keyed_by frame port x y (shown_tci frame)) source destination
+      ∙ ap₂ (λ (x y : ℕ). keyed_by frame port x y (shown_tags frame)) source destination
       ∙ says.other_dst (new 0) ∙ ap (λ (z : ℕ). with_value DlDst (merged z value mask) key) (sym says.dl_dst)
       ∙ ap (λ (k : List ℕ). with_value DlDst (merged (value_of k DlDst) value mask) k) (sym (key-is port frame whole))

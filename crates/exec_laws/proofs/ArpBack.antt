@@ -11,7 +11,7 @@ use Rattle.spec_frames.specs.declared.headers.Network.{Network}
 use Rattle.spec_frames.specs.declared.headers.Network.TheVariants as network
 use Rattle.spec_frames.specs.declared.layout.L3.TheVariants as l3
 use Rattle.spec_frames.specs.declared.layout.L4.TheVariants as l4
-use Rattle.spec_frames.specs.Ethernet.{is_tagged, carried, no_type, header_size}
+use Rattle.spec_frames.specs.Ethernet.{tag_count, carried, no_type, header_size}
 use Rattle.spec_frames.specs.Arp.{is_arp, key_operation}
 use Rattle.spec_frames.specs.Network.{network_at, network}
 use Rattle.spec_frames.specs.Transport.{transport}
@@ -20,15 +20,15 @@ use Rattle.spec_frames.specs.Layout.{place_of_network, layout_with, layout_of}
 use Rattle.spec_actions.specs.declared.action.DpAction.TheVariants.{Set}
 use Rattle.spec_exec.specs.Writing.{with_number}
 use Rattle.spec_exec.specs.Rewriting.{corrected, set_field, after_action}
-use Rattle.key_laws.proofs.Forms.{by_length, by_network, ethernet_key, whole-key, whole-layout}
+use Rattle.key_laws.proofs.Forms.{Tags, by_length, by_network, ethernet_key, whole-key, whole-layout}
 use Rattle.frame_laws.proofs.HeaderLaws.{carried-least}
 use Rattle.exec_laws.proofs.Bytes.{big_endian_at-lt}
 use Rattle.exec_laws.specs.ReadBack.{ReadsBack}
 use Rattle.exec_laws.proofs.Replacing.{number-same, with_number-length, with_number-reads, with_number-before, with_number-apart}
 use Rattle.exec_laws.proofs.Within.{Fits3, l3-fits}
 use Rattle.exec_laws.proofs.Fields.{merged-lt, mask-fits, unit_one}
-use Rattle.exec_laws.proofs.Addresses.{set-whole, shown_tci}
-use Rattle.exec_laws.proofs.Kept.{is_tagged-kept, carried-kept, tci-kept}
+use Rattle.exec_laws.proofs.Addresses.{set-whole, shown_tags}
+use Rattle.exec_laws.proofs.Kept.{count-kept, carried-kept, tags-kept}
 
 -- what a frame has in which the layout names ARP at an offset
 record HasArp (frame : List ℕ) (at : ℕ) : Type 0 where
@@ -52,9 +52,9 @@ no-transport frame at =
     (λ whole. by_network frame (carried frame).dl_type (carried frame).at (λ n. place_of_network n ≡ l3.Arp at → transport n ≡ l4.None)
     (λ e. refl) (λ t h e. refl) (λ t h e. absurd cc) (λ t d h e. absurd cc))
 
-abbrev arp_key : (port source destination tci nw_src nw_dst protocol sha tha : ℕ) → List ℕ
-arp_key port source destination tci nw_src nw_dst protocol sha tha =
-    with_value ArpTha tha (with_value ArpSha sha (with_value NwProto protocol (with_value NwDst nw_dst (with_value NwSrc nw_src (ethernet_key port source destination arp_type tci)))))
+abbrev arp_key : (port source destination : ℕ) → Tags → (nw_src nw_dst protocol sha tha : ℕ) → List ℕ
+arp_key port source destination t nw_src nw_dst protocol sha tha =
+    with_value ArpTha tha (with_value ArpSha sha (with_value NwProto protocol (with_value NwDst nw_dst (with_value NwSrc nw_src (ethernet_key port source destination arp_type t)))))
 
 network-of : (frame : List ℕ) (at : ℕ) → HasArp frame at → network frame ≡ network.Arp at
 unfolding network_at
@@ -62,12 +62,12 @@ network-of frame at h = ap (λ (c : Carried). network_at frame c.dl_type c.at) h
 
 has-key : (port : ℕ) (frame : List ℕ) (at : ℕ) → HasArp frame at
     → key_of port frame
-    ≡ arp_key port (big_endian_at 6 frame 6) (big_endian_at 6 frame 0) (shown_tci frame) (big_endian_at 4 frame (at + 14)) (big_endian_at 4 frame (at + 24))
+    ≡ arp_key port (big_endian_at 6 frame 6) (big_endian_at 6 frame 0) (shown_tags frame) (big_endian_at 4 frame (at + 14)) (big_endian_at 4 frame (at + 24))
     (key_operation (big_endian_at 2 frame (at + 6))) (big_endian_at 6 frame (at + 8)) (big_endian_at 6 frame (at + 18))
 unfolding with_network
 has-key port frame at h =
     whole-key port frame h.whole
-    ∙ ap₂ (λ (c : Carried) (n : Network). with_network frame n (ethernet_key port (big_endian_at 6 frame 6) (big_endian_at 6 frame 0) c.dl_type (shown_tci frame))) h.carries
+    ∙ ap₂ (λ (c : Carried) (n : Network). with_network frame n (ethernet_key port (big_endian_at 6 frame 6) (big_endian_at 6 frame 0) c.dl_type (shown_tags frame))) h.carries
     (network-of frame at h)
 
 module _ (port : ℕ) (frame : List ℕ) (bytes : All (λ byte. byte < 256) frame) (at : ℕ) (l3-is : (layout_of frame).l3 ≡ l3.Arp at) where
@@ -79,7 +79,7 @@ module _ (port : ℕ) (frame : List ℕ) (bytes : All (λ byte. byte < 256) fram
 
   abbrev key_with : (nw_src nw_dst sha tha : ℕ) → List ℕ
   key_with nw_src nw_dst sha tha =
-      arp_key port (big_endian_at 6 frame 6) (big_endian_at 6 frame 0) (shown_tci frame) nw_src nw_dst (key_operation (big_endian_at 2 frame (at + 6))) sha tha
+      arp_key port (big_endian_at 6 frame 6) (big_endian_at 6 frame 0) (shown_tags frame) nw_src nw_dst (key_operation (big_endian_at 2 frame (at + 6))) sha tha
 
   -- n bytes from this offset on are written
   module _ (n off v : ℕ) (after : 8 ≤ off) (within : off + n ≤ 28) where
@@ -105,7 +105,7 @@ module _ (port : ℕ) (frame : List ℕ) (bytes : All (λ byte. byte < 256) fram
         let some : (carried frame).dl_type ≢ no_type = λ e. absurd (omega (arith, e, ap (λ (c : Carried). c.dl_type) has.carries)) in
         record {
           whole = omega (arith, has.whole, sized);
-          carries = carried-kept frame now at sized (λ i l. before i (omega arith)) some here begins ∙ has.carries;
+          carries = carried-kept frame now at sized (λ i l. before i (omega arith)) here begins some ∙ has.carries;
           is_there = rw (
             sized,
             number-same frame now 2 at (λ i l m. before i (omega arith)),
@@ -118,17 +118,17 @@ module _ (port : ℕ) (frame : List ℕ) (bytes : All (λ byte. byte < 256) fram
     now-layout : layout_of now ≡ layout_of frame
     now-layout =
         whole-layout now now-has.whole
-        ∙ ap₂ layout_with (is_tagged-kept frame now (at + 8) sized before (omega (arith, begins))) (network-of now at now-has)
-        ∙ ap (layout_with (is_tagged frame)) (sym (network-of frame at has)) ∙ sym (whole-layout frame has.whole)
+        ∙ ap₂ layout_with (count-kept frame now at sized (λ i l. before i (omega arith)) (omega (arith, ap (λ (c : Carried). c.at) has.carries)) begins) (network-of now at now-has)
+        ∙ ap (layout_with (tag_count frame)) (sym (network-of frame at has)) ∙ sym (whole-layout frame has.whole)
 
     now-key : key_of port now ≡ key_with (big_endian_at 4 now (at + 14)) (big_endian_at 4 now (at + 24)) (big_endian_at 6 now (at + 8)) (big_endian_at 6 now (at + 18))
     now-key =
         has-key port now at now-has
         ∙ same-ethernet (number-same frame now 6 6 (λ i l m. before i (omega (arith, begins, m)))) (number-same frame now 6 0 (λ i l m. before i (omega (arith, begins, m))))
-        (tci-kept frame now at sized (λ i l. before i (omega arith)) (omega (arith, ap (λ (c : Carried). c.at) has.carries)) begins)
+        (tags-kept frame now at sized (λ i l. before i (omega arith)) (omega (arith, ap (λ (c : Carried). c.at) has.carries)) begins)
         (ap key_operation (number-same frame now 2 (at + 6) (λ i l m. before i (omega arith))))
       where
-        same-ethernet : {s t d e c f o q : ℕ} → s ≡ t → d ≡ e → c ≡ f → o ≡ q
+        same-ethernet : {s t d e : ℕ} {c f : Tags} {o q : ℕ} → s ≡ t → d ≡ e → c ≡ f → o ≡ q
             → arp_key port s d c (big_endian_at 4 now (at + 14)) (big_endian_at 4 now (at + 24)) o (big_endian_at 6 now (at + 8)) (big_endian_at 6 now (at + 18))
             ≡ arp_key port t e f (big_endian_at 4 now (at + 14)) (big_endian_at 4 now (at + 24)) q (big_endian_at 6 now (at + 8)) (big_endian_at 6 now (at + 18))
         same-ethernet a b g h = rw (a, b, g, h) refl

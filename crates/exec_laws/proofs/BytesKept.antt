@@ -6,7 +6,7 @@ use Rattle.spec_base.specs.Bits.{all_bits}
 use Rattle.spec_base.specs.Bytes.{big_endian, big_endian_at}
 use Rattle.spec_keys.specs.declared.field_id.FieldId.{FieldId}
 use Rattle.spec_keys.specs.Fields.{width_of}
-use Rattle.spec_frames.specs.Ethernet.{header_size, type_size, type_at, tag_size, customer_tag}
+use Rattle.spec_frames.specs.Ethernet.{header_size, type_size, type_at, tag_size}
 use Rattle.spec_frames.specs.Layout.{layout_of}
 use Rattle.spec_actions.specs.declared.action.DpAction.{DpAction}
 use Rattle.spec_actions.specs.declared.action.DpAction.TheVariants.{Output, PopVlan, PushVlan, Set}
@@ -41,14 +41,14 @@ module _ (frame : List ℕ) (bytes : AreBytes frame) where
   number-bytes : (n v : ℕ) → AreBytes (big_endian n v)
   number-bytes n v = are-bytes (big_endian n v) (byte-of-number n v)
 
-  push-bytes : (tci : ℕ) → AreBytes (push_tag tci frame)
+  push-bytes : (tpid tci : ℕ) → AreBytes (push_tag tpid tci frame)
   unfolding push_tag
-  push-bytes tci =
+  push-bytes tpid tci =
       let content = big_endian type_size (bit_and tci content_bits) in
       let rest = drop type_at frame in
-      let tag = big_endian type_size customer_tag in
+      let tag = big_endian type_size tpid in
       joined (take type_at frame) (tag ++ (content ++ rest)) (All-take (λ b. b < 256) type_at frame bytes)
-      (joined tag (content ++ rest) (number-bytes type_size customer_tag)
+      (joined tag (content ++ rest) (number-bytes type_size tpid)
       (joined content rest (number-bytes type_size (bit_and tci content_bits)) (All-drop (λ b. b < 256) type_at frame bytes)))
 
   pop-bytes : AreBytes (pop_tag frame)
@@ -56,7 +56,7 @@ module _ (frame : List ℕ) (bytes : AreBytes frame) where
   pop-bytes =
       let front = take type_at frame in
       let rest = drop (type_at + tag_size) frame in
-      cond_both (layout_of frame).tagged (front ++ rest) frame AreBytes
+      cond_both (nat_lt 0 (layout_of frame).tags) (front ++ rest) frame AreBytes
       (λ e. joined front rest (All-take (λ b. b < 256) type_at frame bytes) (All-drop (λ b. b < 256) (type_at + tag_size) frame bytes)) (λ e. bytes)
 
   set-bytes : (f : FieldId) (value mask : ℕ) → header_size ≤ length frame → AreBytes (set_field f value mask frame)
@@ -67,7 +67,7 @@ module _ (frame : List ℕ) (bytes : AreBytes frame) where
   changed-bytes : (action : DpAction) → header_size ≤ length frame → AreBytes (changed action frame)
   changed-bytes (Output port) whole = bytes
   changed-bytes PopVlan whole = pop-bytes
-  changed-bytes (PushVlan tci) whole = push-bytes tci
+  changed-bytes (PushVlan tpid tci) whole = push-bytes tpid tci
   changed-bytes (Set f value mask) whole = set-bytes f value mask whole
 
   pub action-bytes : (action : DpAction) → AreBytes (after_action action frame)

@@ -3,7 +3,7 @@ use Rattle.std.proofs.Common.{◌≡◌, ℕ, ◌*◌, ◌/◌, ◌%◌, ◌^◌
 use Rattle.std.proofs.lemmas.Nat.{and_mask, xor_lt, and_le_r, xor_shr, and_shr, xor_mod, and_mod, xor_comm, shl-shr}
 use Rattle.std.proofs.Math.Nat.{mod-eq_of_lt}
 use Rattle.spec_base.specs.Bits.{all_bits, merged}
-use Rattle.spec_keys.specs.declared.field_id.FieldId.TheVariants.{DlSrc, DlDst, VlanTci}
+use Rattle.spec_keys.specs.declared.field_id.FieldId.TheVariants.{DlSrc, DlDst, IpFrag}
 use Rattle.spec_keys.specs.Keys.{none, value_of}
 use Rattle.spec_frames.specs.declared.headers.Datagram.{Datagram}
 use Rattle.spec_frames.specs.declared.headers.Network.{Network}
@@ -14,44 +14,58 @@ use Rattle.spec_frames.specs.Ipv4 as ipv4
 use Rattle.spec_frames.specs.Ipv6 as ipv6
 use Rattle.spec_frames.specs.Transport.{transport}
 use Rattle.spec_frames.specs.Key.{with_value, shown, with_datagram, with_transport, with_network}
-use Rattle.key_laws.proofs.Forms.{ethernet_key, with_addresses}
+use Rattle.spec_xlate.specs.Tags.{VlanTag, outer_tag, inner_tag, with_tags}
+use Rattle.key_laws.proofs.Forms.{Tags, ethernet_key, with_addresses}
+
+-- ---- tags
+
+-- the outer and the inner tag of those of a key
+abbrev pub outer_of : Tags → VlanTag
+outer_of t = record { tpid = t.tpid; tci = t.tci }
+
+abbrev pub inner_of : Tags → VlanTag
+inner_of t = record { tpid = t.tpid2; tci = t.tci2 }
+
+-- ---- fields
 
 -- what a key says of Ethernet, whatever its other fields are
-pub record SaysEthernet (with : (source destination tci : ℕ) → List ℕ) (source destination tci : ℕ) : Type 0 where
-  pub dl_src : value_of (with source destination tci) DlSrc ≡ source
-  pub dl_dst : value_of (with source destination tci) DlDst ≡ destination
-  pub vlan_tci : value_of (with source destination tci) VlanTci ≡ tci
-  pub other_src : (v : ℕ) → with v destination tci ≡ with_value DlSrc v (with source destination tci)
-  pub other_dst : (v : ℕ) → with source v tci ≡ with_value DlDst v (with source destination tci)
-  pub other_tci : (v : ℕ) → with source destination v ≡ with_value VlanTci v (with source destination tci)
+pub record SaysEthernet (with : (source destination : ℕ) → Tags → List ℕ) (source destination : ℕ) (t : Tags) : Type 0 where
+  pub dl_src : value_of (with source destination t) DlSrc ≡ source
+  pub dl_dst : value_of (with source destination t) DlDst ≡ destination
+  pub outer : outer_tag (with source destination t) ≡ outer_of t
+  pub inner : inner_tag (with source destination t) ≡ inner_of t
+  pub other_src : (v : ℕ) → with v destination t ≡ with_value DlSrc v (with source destination t)
+  pub other_dst : (v : ℕ) → with source v t ≡ with_value DlDst v (with source destination t)
+  pub same_part : (u : Tags) → value_of (with source destination u) IpFrag ≡ value_of (with source destination t) IpFrag
+  pub other_tags : (u : Tags) → with source destination u ≡ with_tags (outer_of u) (inner_of u) (with source destination t)
 
-abbrev pub keyed : List ℕ → Network → ℕ → ℕ → (source destination tci : ℕ) → List ℕ
-keyed frame n port dl_type source destination tci = with_network frame n (ethernet_key port source destination dl_type tci)
+abbrev pub keyed : List ℕ → Network → ℕ → ℕ → (source destination : ℕ) → Tags → List ℕ
+keyed frame n port dl_type source destination t = with_network frame n (ethernet_key port source destination dl_type t)
 
-transport-says : (frame : List ℕ) (h : L4) (d : Datagram) (port dl_type nw_src nw_dst ipv6_src ipv6_dst source destination tci : ℕ)
-    → SaysEthernet (λ x y z. with_transport frame h (with_datagram d (with_addresses nw_src nw_dst ipv6_src ipv6_dst (ethernet_key port x y dl_type z)))) source destination tci
+transport-says : (frame : List ℕ) (h : L4) (d : Datagram) (port dl_type nw_src nw_dst ipv6_src ipv6_dst source destination : ℕ) (t : Tags)
+    → SaysEthernet (λ x y z. with_transport frame h (with_datagram d (with_addresses nw_src nw_dst ipv6_src ipv6_dst (ethernet_key port x y dl_type z)))) source destination t
 unfolding with_transport none
-transport-says frame l4.None d port dl_type a b c e source destination tci =
-    record { dl_src = refl; dl_dst = refl; vlan_tci = refl; other_src = λ v. refl; other_dst = λ v. refl; other_tci = λ v. refl }
-transport-says frame (l4.Tcp at) d port dl_type a b c e source destination tci =
-    record { dl_src = refl; dl_dst = refl; vlan_tci = refl; other_src = λ v. refl; other_dst = λ v. refl; other_tci = λ v. refl }
-transport-says frame (l4.Udp at) d port dl_type a b c e source destination tci =
-    record { dl_src = refl; dl_dst = refl; vlan_tci = refl; other_src = λ v. refl; other_dst = λ v. refl; other_tci = λ v. refl }
-transport-says frame (l4.Icmp at) d port dl_type a b c e source destination tci =
-    record { dl_src = refl; dl_dst = refl; vlan_tci = refl; other_src = λ v. refl; other_dst = λ v. refl; other_tci = λ v. refl }
-transport-says frame (l4.Icmp6 at) d port dl_type a b c e source destination tci =
-    record { dl_src = refl; dl_dst = refl; vlan_tci = refl; other_src = λ v. refl; other_dst = λ v. refl; other_tci = λ v. refl }
+transport-says frame l4.None d port dl_type a b c e source destination t =
+    record { dl_src = refl; dl_dst = refl; outer = refl; inner = refl; other_src = λ v. refl; other_dst = λ v. refl; same_part = λ u. refl; other_tags = λ u. refl }
+transport-says frame (l4.Tcp at) d port dl_type a b c e source destination t =
+    record { dl_src = refl; dl_dst = refl; outer = refl; inner = refl; other_src = λ v. refl; other_dst = λ v. refl; same_part = λ u. refl; other_tags = λ u. refl }
+transport-says frame (l4.Udp at) d port dl_type a b c e source destination t =
+    record { dl_src = refl; dl_dst = refl; outer = refl; inner = refl; other_src = λ v. refl; other_dst = λ v. refl; same_part = λ u. refl; other_tags = λ u. refl }
+transport-says frame (l4.Icmp at) d port dl_type a b c e source destination t =
+    record { dl_src = refl; dl_dst = refl; outer = refl; inner = refl; other_src = λ v. refl; other_dst = λ v. refl; same_part = λ u. refl; other_tags = λ u. refl }
+transport-says frame (l4.Icmp6 at) d port dl_type a b c e source destination t =
+    record { dl_src = refl; dl_dst = refl; outer = refl; inner = refl; other_src = λ v. refl; other_dst = λ v. refl; same_part = λ u. refl; other_tags = λ u. refl }
 
-pub network-says : (frame : List ℕ) (n : Network) (port dl_type source destination tci : ℕ) → SaysEthernet (keyed frame n port dl_type) source destination tci
+pub network-says : (frame : List ℕ) (n : Network) (port dl_type source destination : ℕ) (t : Tags) → SaysEthernet (keyed frame n port dl_type) source destination t
 unfolding with_network none
-network-says frame Nothing port dl_type source destination tci =
-    record { dl_src = refl; dl_dst = refl; vlan_tci = refl; other_src = λ v. refl; other_dst = λ v. refl; other_tci = λ v. refl }
-network-says frame (Arp at) port dl_type source destination tci =
-    record { dl_src = refl; dl_dst = refl; vlan_tci = refl; other_src = λ v. refl; other_dst = λ v. refl; other_tci = λ v. refl }
-network-says frame (Ipv4 at d) port dl_type source destination tci =
-    transport-says frame (shown d.upper.fragment (transport (Ipv4 at d))) d port dl_type (ipv4.source frame at) (ipv4.destination frame at) 0 0 source destination tci
-network-says frame (Ipv6 at d) port dl_type source destination tci =
-    transport-says frame (shown d.upper.fragment (transport (Ipv6 at d))) d port dl_type 0 0 (ipv6.source frame at) (ipv6.destination frame at) source destination tci
+network-says frame Nothing port dl_type source destination t =
+    record { dl_src = refl; dl_dst = refl; outer = refl; inner = refl; other_src = λ v. refl; other_dst = λ v. refl; same_part = λ u. refl; other_tags = λ u. refl }
+network-says frame (Arp at) port dl_type source destination t =
+    record { dl_src = refl; dl_dst = refl; outer = refl; inner = refl; other_src = λ v. refl; other_dst = λ v. refl; same_part = λ u. refl; other_tags = λ u. refl }
+network-says frame (Ipv4 at d) port dl_type source destination t =
+    transport-says frame (shown d.upper.fragment (transport (Ipv4 at d))) d port dl_type (ipv4.source frame at) (ipv4.destination frame at) 0 0 source destination t
+network-says frame (Ipv6 at d) port dl_type source destination t =
+    transport-says frame (shown d.upper.fragment (transport (Ipv6 at d))) d port dl_type 0 0 (ipv6.source frame at) (ipv6.destination frame at) source destination t
 
 -- ---- bits
 

@@ -22,7 +22,7 @@ use Rattle.exec_laws.proofs.Replacing.{with_number-reads, with_number-before, wi
 use Rattle.exec_laws.proofs.Bytes.{EachByte}
 use Rattle.exec_laws.proofs.Within.{SumsFit, address_sum-fits, l4-fits}
 use Rattle.exec_laws.proofs.Fields.{merged-lt, mask-fits, unit_one}
-use Rattle.exec_laws.proofs.Addresses.{set-whole, shown_tci}
+use Rattle.exec_laws.proofs.Addresses.{set-whole, shown_tags}
 use Rattle.exec_laws.proofs.Ipv4Key.{ipv4_key, header_of, layout-has, has-key, tos-is, ttl-is, same-key}
 use Rattle.exec_laws.proofs.AfterHeaders.{says-ipv4, SumsAfter, address_sum-after, Clear, clear-addresses, clear-none, source_in, destination_in}
 use Rattle.exec_laws.proofs.Ipv4Written.{result-key, result-layout}
@@ -145,7 +145,7 @@ module _ (frame : List ℕ) (at : ℕ) (l3-is : (layout_of frame).l3 ≡ l3.Ipv4
     -- the key of such a frame, by what can be written
     abbrev key_with : (nw_src nw_dst tos ttl : ℕ) → List ℕ
     key_with nw_src nw_dst tos ttl =
-        ipv4_key port (big_endian_at 6 frame 6) (big_endian_at 6 frame 0) ipv4_type (shown_tci frame) nw_src nw_dst header.upper.protocol tos ttl
+        ipv4_key port (big_endian_at 6 frame 6) (big_endian_at 6 frame 0) ipv4_type (shown_tags frame) nw_src nw_dst header.upper.protocol tos ttl
         (ip_frag header.upper.fragment) (source_in frame (header_of header at)) (destination_in frame (header_of header at))
 
     key : key_of port frame ≡ key_with (big_endian_at 4 frame (at + 12)) (big_endian_at 4 frame (at + 16)) header.tos header.ttl

@@ -23,8 +23,8 @@ use Rattle.frame_laws.proofs.HeaderLaws.{carried-least}
 use Rattle.spec_frames.specs.Ethernet.{header_size}
 use Rattle.exec_laws.proofs.Replacing.{number-same, with_number-length, with_number-before, with_number-after}
 use Rattle.exec_laws.proofs.Within.{SumsFit, fit-moved, corrected-length}
-use Rattle.exec_laws.proofs.Addresses.{shown_tci}
-use Rattle.exec_laws.proofs.Ipv4Key.{ipv4_key, HasIpv4, layout-has, network-of, header_of, has-key, kept-has, kept-upper, kept-end, kept-tci, tos-is, ttl-is, same-key}
+use Rattle.exec_laws.proofs.Addresses.{shown_tags}
+use Rattle.exec_laws.proofs.Ipv4Key.{ipv4_key, HasIpv4, layout-has, network-of, header_of, has-key, kept-has, kept-upper, kept-end, kept-tags, tos-is, ttl-is, same-key}
 use Rattle.exec_laws.proofs.LayoutKept.{ipv4-layout}
 use Rattle.exec_laws.proofs.AfterHeaders.{After4, SaysIpv4, says-ipv4, SumsAfter, corrected-before, Clear, shown-clear, shown-after, source_in, destination_in, source-same, destination-same}
 
@@ -132,7 +132,7 @@ module _ (frame : List ℕ) (at : ℕ) (l3-is : (layout_of frame).l3 ≡ l3.Ipv4
     header-after = shown-after (at + 20) _ _ (subst (After4 (at + 20)) l4-is (nearer (layout_of frame).l4 says.1))
 
     pub result-key : (port : ℕ) → key_of port result
-        ≡ ipv4_key port (big_endian_at 6 frame 6) (big_endian_at 6 frame 0) ipv4_type (shown_tci frame) (big_endian_at 4 now (at + 12)) (big_endian_at 4 now (at + 16))
+        ≡ ipv4_key port (big_endian_at 6 frame 6) (big_endian_at 6 frame 0) ipv4_type (shown_tags frame) (big_endian_at 4 now (at + 12)) (big_endian_at 4 now (at + 16))
         (ipv4.ipv4 frame at).upper.protocol (slice_index now (at + 1)) (slice_index now (at + 8)) (ip_frag (ipv4.ipv4 frame at).upper.fragment)
         (source_in frame (header_of (ipv4.ipv4 frame at) at)) (destination_in frame (header_of (ipv4.ipv4 frame at) at))
     result-key port =
@@ -140,7 +140,7 @@ module _ (frame : List ℕ) (at : ℕ) (l3-is : (layout_of frame).l3 ≡ l3.Ipv4
         has-key port result at (kept-has frame result at has result-length low critical protocol)
         ∙ same-key port ipv4_type
         (number-same frame result 6 6 (λ k l m. low k (omega (arith, far, m)))) (number-same frame result 6 0 (λ k l m. low k (omega (arith, far, m))))
-        (kept-tci frame result at has result-length low critical protocol)
+        (kept-tags frame result at has result-length low critical protocol)
         (number-same now result 4 (at + 12) (λ k l m. result-now k (omega arith) (inr (omega arith))))
         (number-same now result 4 (at + 16) (λ k l m. result-now k (omega arith) (inr (omega arith))))
         (ap (λ (u : UpperLayer). u.protocol) upper) (tos-is result at ∙ result-now (at + 1) (omega arith) (inl (omega arith)))

@@ -30,7 +30,7 @@ use Rattle.exec_laws.specs.ReadBack.{ReadsBack}
 use Rattle.exec_laws.proofs.Replacing.{number-same, with_number-length, with_number-reads, with_number-before, with_number-after, with_number-apart, with_number-in}
 use Rattle.exec_laws.proofs.Within.{SumsFit, address_sum-fits, Fits3, l3-fits, l4-fits, corrected-length, fit-moved}
 use Rattle.exec_laws.proofs.Fields.{merged-lt, mask-fits, unit_one, merged-shifted, merged-cut, merged-high}
-use Rattle.exec_laws.proofs.Addresses.{set-whole, shown_tci}
+use Rattle.exec_laws.proofs.Addresses.{set-whole, shown_tags}
 use Rattle.exec_laws.proofs.Ports.{from-some, some-same}
 use Rattle.exec_laws.proofs.AfterHeaders.{After4, SumsAfter, address_sum-after, corrected-before, Clear, clear-addresses, clear-none, shown-clear, shown-after, source_in, destination_in, source-same, destination-same}
 use Rattle.exec_laws.proofs.Ipv6Key.{network-of, Named, layout-has, ipv6_key, header_of, has-key, same-key, from-test, still-key, still-layout, told-after}
@@ -95,7 +95,7 @@ module _ (frame : List ℕ) (at : ℕ) (l3-is : (layout_of frame).l3 ≡ l3.Ipv6
         (λ i l m. before i m) chain
 
     result-key : (port : ℕ) → key_of port result
-        ≡ ipv6_key port (big_endian_at 6 frame 6) (big_endian_at 6 frame 0) ipv6_type (shown_tci frame) (big_endian_at 16 now (at + 8)) (big_endian_at 16 now (at + 24))
+        ≡ ipv6_key port (big_endian_at 6 frame 6) (big_endian_at 6 frame 0) ipv6_type (shown_tags frame) (big_endian_at 16 now (at + 8)) (big_endian_at 16 now (at + 24))
         named.d.upper.protocol (ipv6.traffic_class frame at) (slice_index now (at + 7)) (ip_frag named.d.upper.fragment)
         (source_in frame (header_of named.d at)) (destination_in frame (header_of named.d at))
     result-key port =

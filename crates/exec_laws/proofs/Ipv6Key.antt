@@ -12,7 +12,7 @@ use Rattle.spec_frames.specs.declared.headers.Network.TheVariants as network
 use Rattle.spec_frames.specs.declared.layout.L3.TheVariants as l3
 use Rattle.spec_frames.specs.declared.layout.L4.{L4}
 use Rattle.spec_frames.specs.declared.layout.L4.TheVariants as l4
-use Rattle.spec_frames.specs.Ethernet.{is_tagged, carried, no_type, header_size}
+use Rattle.spec_frames.specs.Ethernet.{tag_count, carried, no_type, header_size}
 use Rattle.spec_frames.specs.Ipv4 as ipv4
 use Rattle.spec_frames.specs.Ipv6 as ipv6
 use Rattle.spec_frames.specs.Ipv6.{upper_layer}
@@ -20,12 +20,12 @@ use Rattle.spec_frames.specs.Network.{network_at, network}
 use Rattle.spec_frames.specs.Transport.{transport}
 use Rattle.spec_frames.specs.Key.{with_value, ip_frag, shown, with_numbers, with_datagram, with_ipv6, with_transport, with_network, key_of}
 use Rattle.spec_frames.specs.Layout.{place_of_network, layout_with, layout_of}
-use Rattle.key_laws.proofs.Forms.{by_length, by_network, ethernet_key, whole-key, whole-layout}
+use Rattle.key_laws.proofs.Forms.{Tags, by_length, by_network, ethernet_key, whole-key, whole-layout}
 use Rattle.frame_laws.proofs.TransportLaws.{Told}
 use Rattle.frame_laws.proofs.HeaderLaws.{IsPlaced, network-IsPlaced, carried-least}
 use Rattle.exec_laws.proofs.Replacing.{number-same}
-use Rattle.exec_laws.proofs.Addresses.{shown_tci}
-use Rattle.exec_laws.proofs.Kept.{is_tagged-kept, carried-kept, tci-kept}
+use Rattle.exec_laws.proofs.Addresses.{shown_tags}
+use Rattle.exec_laws.proofs.Kept.{count-kept, carried-kept, tags-kept}
 use Rattle.exec_laws.proofs.Below.{upper_layer-kept}
 use Rattle.exec_laws.proofs.Ports.{from-some, some-same}
 use Rattle.exec_laws.proofs.AfterHeaders.{After4, source_in, destination_in}
@@ -58,37 +58,37 @@ layout-has frame at =
     }) (network-IsPlaced frame))
 
 -- a key by all numbers of such a frame
-abbrev pub ipv6_key : (port source destination dl_type tci ipv6_src ipv6_dst protocol tos ttl frag tp_src tp_dst : ℕ) → List ℕ
-ipv6_key port source destination dl_type tci ipv6_src ipv6_dst protocol tos ttl frag tp_src tp_dst =
+abbrev pub ipv6_key : (port source destination dl_type : ℕ) → Tags → (ipv6_src ipv6_dst protocol tos ttl frag tp_src tp_dst : ℕ) → List ℕ
+ipv6_key port source destination dl_type t ipv6_src ipv6_dst protocol tos ttl frag tp_src tp_dst =
     with_numbers tp_src tp_dst
     (with_value IpFrag frag (with_value NwTtl ttl (with_value NwTos tos (with_value NwProto protocol
-    (with_value Ipv6Dst ipv6_dst (with_value Ipv6Src ipv6_src (ethernet_key port source destination dl_type tci)))))))
+    (with_value Ipv6Dst ipv6_dst (with_value Ipv6Src ipv6_src (ethernet_key port source destination dl_type t)))))))
 
-pub form : (frame : List ℕ) (h : L4) (d : Datagram) (at port source destination dl_type tci : ℕ)
-    → with_transport frame h (with_datagram d (with_ipv6 frame at (ethernet_key port source destination dl_type tci)))
-    ≡ ipv6_key port source destination dl_type tci (big_endian_at 16 frame (at + 8)) (big_endian_at 16 frame (at + 24)) d.upper.protocol d.tos d.ttl
+pub form : (frame : List ℕ) (h : L4) (d : Datagram) (at port source destination dl_type : ℕ) (t : Tags)
+    → with_transport frame h (with_datagram d (with_ipv6 frame at (ethernet_key port source destination dl_type t)))
+    ≡ ipv6_key port source destination dl_type t (big_endian_at 16 frame (at + 8)) (big_endian_at 16 frame (at + 24)) d.upper.protocol d.tos d.ttl
     (ip_frag d.upper.fragment) (source_in frame h) (destination_in frame h)
 unfolding with_transport none
-form frame l4.None d at port source destination dl_type tci = refl
-form frame (l4.Tcp x) d at port source destination dl_type tci = refl
-form frame (l4.Udp x) d at port source destination dl_type tci = refl
-form frame (l4.Icmp x) d at port source destination dl_type tci = refl
-form frame (l4.Icmp6 x) d at port source destination dl_type tci = refl
+form frame l4.None d at port source destination dl_type t = refl
+form frame (l4.Tcp x) d at port source destination dl_type t = refl
+form frame (l4.Udp x) d at port source destination dl_type t = refl
+form frame (l4.Icmp x) d at port source destination dl_type t = refl
+form frame (l4.Icmp6 x) d at port source destination dl_type t = refl
 
 abbrev pub header_of : Datagram → ℕ → L4
 header_of d at = shown d.upper.fragment (transport (network.Ipv6 at d))
 
 pub has-key : (port : ℕ) (frame : List ℕ) (at : ℕ) (d : Datagram) → HasIpv6 frame at d
     → key_of port frame
-    ≡ ipv6_key port (big_endian_at 6 frame 6) (big_endian_at 6 frame 0) ipv6_type (shown_tci frame) (big_endian_at 16 frame (at + 8)) (big_endian_at 16 frame (at + 24))
+    ≡ ipv6_key port (big_endian_at 6 frame 6) (big_endian_at 6 frame 0) ipv6_type (shown_tags frame) (big_endian_at 16 frame (at + 8)) (big_endian_at 16 frame (at + 24))
     d.upper.protocol d.tos d.ttl (ip_frag d.upper.fragment) (source_in frame (header_of d at)) (destination_in frame (header_of d at))
 unfolding with_network
 has-key port frame at d h =
     whole-key port frame h.whole
-    ∙ ap₂ (λ (c : Carried) (n : Network). with_network frame n (ethernet_key port (big_endian_at 6 frame 6) (big_endian_at 6 frame 0) c.dl_type (shown_tci frame))) h.carries (network-of frame at d h)
-    ∙ form frame (header_of d at) d at port (big_endian_at 6 frame 6) (big_endian_at 6 frame 0) ipv6_type (shown_tci frame)
+    ∙ ap₂ (λ (c : Carried) (n : Network). with_network frame n (ethernet_key port (big_endian_at 6 frame 6) (big_endian_at 6 frame 0) c.dl_type (shown_tags frame))) h.carries (network-of frame at d h)
+    ∙ form frame (header_of d at) d at port (big_endian_at 6 frame 6) (big_endian_at 6 frame 0) ipv6_type (shown_tags frame)
 
-pub same-key : {s t d e c f m n o p q r u v w x y z : ℕ} (port protocol frag : ℕ) → s ≡ t → d ≡ e → c ≡ f → m ≡ n → o ≡ p → q ≡ r → u ≡ v → w ≡ x → y ≡ z
+pub same-key : {s t d e : ℕ} {c f : Tags} {m n o p q r u v w x y z : ℕ} (port protocol frag : ℕ) → s ≡ t → d ≡ e → c ≡ f → m ≡ n → o ≡ p → q ≡ r → u ≡ v → w ≡ x → y ≡ z
     → ipv6_key port s d ipv6_type c m o protocol q u frag w y ≡ ipv6_key port t e ipv6_type f n p protocol r v frag x z
 same-key port protocol frag a b g h i j k l n = rw (a, b, g, h, i, j, k, l, n) refl
 
@@ -124,25 +124,25 @@ module _ (a b : List ℕ) (at : ℕ) (d : Datagram) (has : HasIpv6 a at d) (foll
   still-has =
       let after : (carried a).at ≤ at = omega (arith, ap (λ (c : Carried). c.at) has.carries) in
       let some : (carried a).dl_type ≢ no_type = λ e. absurd (omega (arith, e, ap (λ (c : Carried). c.dl_type) has.carries)) in
-      record { whole = omega (arith, has.whole, sized); carries = carried-kept a b at sized before some after begins ∙ has.carries; is_there = still-there }
+      record { whole = omega (arith, has.whole, sized); carries = carried-kept a b at sized before after begins some ∙ has.carries; is_there = still-there }
 
   pub still-key : (port : ℕ) → source_in b (header_of d at) ≡ source_in a (header_of d at) → destination_in b (header_of d at) ≡ destination_in a (header_of d at)
       → key_of port b
-      ≡ ipv6_key port (big_endian_at 6 a 6) (big_endian_at 6 a 0) ipv6_type (shown_tci a) (big_endian_at 16 b (at + 8)) (big_endian_at 16 b (at + 24))
+      ≡ ipv6_key port (big_endian_at 6 a 6) (big_endian_at 6 a 0) ipv6_type (shown_tags a) (big_endian_at 16 b (at + 8)) (big_endian_at 16 b (at + 24))
       d.upper.protocol (ipv6.traffic_class b at) (slice_index b (at + 7)) (ip_frag d.upper.fragment) (source_in a (header_of d at)) (destination_in a (header_of d at))
   unfolding transport
   still-key port s t =
       has-key port b at other still-has
       ∙ same-key port d.upper.protocol (ip_frag d.upper.fragment)
       (number-same a b 6 6 (λ i m n. before i (omega (arith, begins, n)))) (number-same a b 6 0 (λ i m n. before i (omega (arith, begins, n))))
-      (tci-kept a b at sized before (omega (arith, ap (λ (c : Carried). c.at) has.carries)) begins) refl refl refl refl s t
+      (tags-kept a b at sized before (omega (arith, ap (λ (c : Carried). c.at) has.carries)) begins) refl refl refl refl s t
 
   pub still-layout : layout_of b ≡ layout_of a
   unfolding transport
   still-layout =
       whole-layout b still-has.whole
-      ∙ ap₂ layout_with (is_tagged-kept a b at sized before begins) (network-of b at other still-has)
-      ∙ ap (layout_with (is_tagged a)) (sym (network-of a at d has)) ∙ sym (whole-layout a has.whole)
+      ∙ ap₂ layout_with (count-kept a b at sized before (omega (arith, ap (λ (c : Carried). c.at) has.carries)) begins) (network-of b at other still-has)
+      ∙ ap (layout_with (tag_count a)) (sym (network-of a at d has)) ∙ sym (whole-layout a has.whole)
 
 -- ---- what stands after the chain
 

@@ -4,7 +4,7 @@ use Rattle.spec_frames.specs.declared.headers.Datagram.{Datagram}
 use Rattle.spec_frames.specs.declared.headers.UpperLayer.{UpperLayer}
 use Rattle.spec_frames.specs.declared.headers.Network.{Network}
 use Rattle.spec_frames.specs.declared.headers.Network.TheVariants.{Nothing, Arp, Ipv4, Ipv6}
-use Rattle.spec_frames.specs.Ethernet.{is_tagged, header_size, type_at}
+use Rattle.spec_frames.specs.Ethernet.{tag_count, header_size, type_at}
 use Rattle.spec_frames.specs.Network.{network}
 use Rattle.spec_frames.specs.Transport.{transport}
 use Rattle.spec_frames.specs.Layout.{layout_with, layout_of}
@@ -18,9 +18,8 @@ use Rattle.exec_laws.specs.ReadBack.{AreBytes}
 use Rattle.exec_laws.proofs.Replacing.{with_number-length, with_number-after}
 use Rattle.key_laws.proofs.Forms.{whole-layout}
 use Rattle.exec_laws.proofs.Moved.{upper_on, datagram_on, network_on}
-use Rattle.exec_laws.proofs.Addresses.{set-whole, src-set, dst-set, network-moved, is_tagged-same, carried-same, sized_on, same_on}
-use Rattle.exec_laws.proofs.Kept.{is_tagged-kept}
-use Rattle.exec_laws.proofs.Ipv4Key.{HasIpv4, network-of, kept-has, kept-upper, kept-end}
+use Rattle.exec_laws.proofs.Addresses.{set-whole, src-set, dst-set, network-moved, count-same, carried-same, sized_on, same_on}
+use Rattle.exec_laws.proofs.Ipv4Key.{HasIpv4, network-of, kept-has, kept-count, kept-upper, kept-end}
 
 plus_none : (n : ℕ) → n + 0 ≡ n
 plus_none n = omega arith
@@ -41,7 +40,7 @@ pub addressed-layout : (a b : List ℕ) (sized : length b ≡ length a) (same : 
     → layout_of b ≡ layout_of a
 addressed-layout a b sized same whole =
     let n = network-moved a b 0 (sized_on a b sized same whole) (same_on a b sized same whole) whole (carried-same a b sized same whole) ∙ network-on-none (network a) in
-    whole-layout b (omega (arith, sized, whole)) ∙ ap₂ layout_with (is_tagged-same a b sized same whole) n ∙ sym (whole-layout a whole)
+    whole-layout b (omega (arith, sized, whole)) ∙ ap₂ layout_with (count-same a b sized same whole) n ∙ sym (whole-layout a whole)
 
 module _ (port : ℕ) (frame : List ℕ) (bytes : AreBytes frame) (whole : header_size ≤ length frame) (value mask : ℕ) (fits : mask < 2 ^ 48) where
   pub dl_src-layout : layout_of (after_action (Set DlSrc value mask) frame) ≡ layout_of frame
@@ -63,7 +62,7 @@ pub ipv4-layout : (a b : List ℕ) (at : ℕ) (has : HasIpv4 a at) (sized : leng
 unfolding transport
 ipv4-layout a b at has sized same critical protocol far =
     let now = kept-has a b at has sized same critical protocol in
-    whole-layout b now.whole ∙ ap₂ layout_with (is_tagged-kept a b at sized (λ i l. same i (omega (arith, l))) far) (network-of b at now)
-    ∙ ap₂ (λ (u : UpperLayer) (e : ℕ). layout_with (is_tagged a) (Ipv4 at (record { tos = 0; ttl = 0; end = e; upper = u })))
+    whole-layout b now.whole ∙ ap₂ layout_with (kept-count a b at has sized same critical protocol) (network-of b at now)
+    ∙ ap₂ (λ (u : UpperLayer) (e : ℕ). layout_with (tag_count a) (Ipv4 at (record { tos = 0; ttl = 0; end = e; upper = u })))
     (kept-upper a b at has sized same critical protocol) (kept-end a b at has sized same critical protocol)
-    ∙ ap (layout_with (is_tagged a)) (sym (network-of a at has)) ∙ sym (whole-layout a has.whole)
+    ∙ ap (layout_with (tag_count a)) (sym (network-of a at has)) ∙ sym (whole-layout a has.whole)

@@ -7,6 +7,7 @@ pub mod Below
 pub mod Fields
 pub mod Addresses
 pub mod Tags
+pub mod TagKeys
 pub mod Kept
 pub mod AfterHeaders
 pub mod Ports
@@ -23,7 +24,7 @@ pub mod EachField
 pub mod Sending
 pub mod Shown
 pub mod Uncovered
-pub mod OneTag
+pub mod ThirdTag
 pub mod OnTheWay
 pub mod CommitSteps
 pub mod Turned

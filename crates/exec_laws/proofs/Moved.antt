@@ -3,6 +3,7 @@
 use Rattle.std.proofs.Common.{◌≡◌, ℕ, zero, suc, ◌+◌, ◌*◌, ◌^◌, ◌<◌, ◌≤◌, min, Bool, true, false, ◌&&◌, ◌==◌, nat_le, if◌then◌else◌, List, length, slice_index, Option, Some, None, option_map, ◌⊎◌, inl, inr, refl, sym, ap, ap₂, ◌∙◌, arith}
 use Rattle.std.proofs.lemmas.Bool.{le-leb, lt-leb, cases_lt}
 use Rattle.spec_base.specs.Bytes.{big_endian_at}
+use Rattle.spec_keys.specs.Protocols.{is_tag_type}
 use Rattle.spec_frames.specs.declared.headers.Carried.{Carried}
 use Rattle.spec_frames.specs.declared.headers.Datagram.{Datagram}
 use Rattle.spec_frames.specs.declared.headers.Fragment.{Fragment}
@@ -12,7 +13,7 @@ use Rattle.spec_frames.specs.declared.headers.Network.{Network}
 use Rattle.spec_frames.specs.declared.headers.Network.TheVariants.{Nothing, Arp, Ipv4, Ipv6}
 use Rattle.spec_frames.specs.declared.layout.L4.{L4}
 use Rattle.spec_frames.specs.declared.layout.L4.TheVariants as l4
-use Rattle.spec_frames.specs.Ethernet.{least_type, no_type, is_snap, carried_by, carried}
+use Rattle.spec_frames.specs.Ethernet.{least_type, no_type, is_tag_at, is_snap, carried_by, carried}
 use Rattle.spec_frames.specs.Arp.{is_arp}
 use Rattle.spec_frames.specs.Ipv4 as ipv4
 use Rattle.spec_frames.specs.Ipv6 as ipv6
@@ -65,6 +66,11 @@ module _ (a b : List ℕ) (from s : ℕ) (sized : length b ≡ length a + s)
   size-moved i j e = le-moved s i (length a) j (length b) e sized
 
   -- ---- Ethernet
+
+  pub tag_at-moved : (i j : ℕ) → j ≡ i + s → from ≤ i → is_tag_at b j ≡ is_tag_at a i
+  unfolding is_tag_at
+  tag_at-moved i j e l =
+      ap₂ (λ (t : Bool) (number : ℕ). t && is_tag_type number) (size-moved (i + 4 + 2) (j + 4 + 2) (omega arith)) (number-moved 2 i j e l)
 
   pub carried_by-moved : (i j : ℕ) → j ≡ i + s → from ≤ i → carried_by b j ≡ carried_on s (carried_by a i)
   unfolding carried_by

@@ -7,20 +7,19 @@ use Rattle.spec_keys.specs.Keys.{value_of}
 use Rattle.spec_frames.specs.Key.{key_of}
 use Rattle.spec_actions.specs.declared.action.DpAction.{DpAction}
 use Rattle.spec_actions.specs.declared.action.DpAction.TheVariants.{Output}
-use Rattle.spec_xlate.specs.Tags.{is_tag_field}
 use Rattle.spec_xlate.specs.Commit.{commit}
 use Rattle.spec_exec.specs.Sent.{Piece, sent}
 use Rattle.exec_laws.specs.ReadBack.{shows}
 use Rattle.exec_laws.specs.Sends.{after_actions}
-use Rattle.exec_laws.specs.Become.{has_second_tag, is_register, without_registers, CanBecome, KeyedOutput, outputs_of}
+use Rattle.exec_laws.specs.Become.{is_of_tags, is_register, without_registers, CanBecome, KeyedOutput, outputs_of}
 use Rattle.exec_laws.proofs.Sending.{sent-before}
 use Rattle.exec_laws.proofs.OnTheWay.{OnTheWay}
 use Rattle.exec_laws.proofs.CommitSteps.{map-at, commit-bytes, commit-whole, commit-shows, commit-single}
 use Rattle.exec_laws.proofs.Turned.{key-becomes, commit-registers, commit-silent}
 
-module _ (port : ℕ) (frame : List ℕ) (one : has_second_tag frame ≡ false) where
+module _ (port : ℕ) (frame : List ℕ) where
   abbrev Stays : FieldId → List ℕ → Type 0
-  Stays f key = is_register f ≡ false → is_tag_field f ≡ false → shows port frame f ≡ false → value_of key f ≡ value_of (key_of port frame) f
+  Stays f key = is_register f ≡ false → is_of_tags f ≡ false → shows port frame f ≡ false → value_of key f ≡ value_of (key_of port frame) f
 
   -- A frame that is reached, where this key is the current one.
   record Reached (g base : List ℕ) : Type 0 where
@@ -35,8 +34,9 @@ module _ (port : ℕ) (frame : List ℕ) (one : has_second_tag frame ≡ false) 
       whole = at.there.whole;
       in_port = can.can_turn.in_port;
       is_key = can.can_turn.is_key;
-      has_proper_tag = can.can_turn.has_proper_tag;
-      uncovers_none = λ z. at.there.single one;
+      has_proper_tags = can.can_turn.has_proper_tags;
+      has_tag_types = can.can_turn.has_tag_types;
+      uncovers_none = λ less. at.there.single (can.can_turn.uncovers_none less);
     };
     others_stay = λ f r t s. let hidden = sym (at.there.alike f) ∙ s in can.others_stay f r t hidden ∙ sym (at.stays f r t hidden);
   }
@@ -78,15 +78,15 @@ module _ (port : ℕ) (frame : List ℕ) (one : has_second_tag frame ≡ false) 
       (all-keys after o.key outputs (next-reached g base o.key at here) (All-tail (λ (o : KeyedOutput). CanBecome port frame o.key) o outputs can))
 
 -- each piece has the key of its output
-pub outputs-keys : (port : ℕ) (frame : List ℕ) (outputs : List KeyedOutput) → has_second_tag frame ≡ false → All (λ o. CanBecome port frame o.key) outputs
+pub outputs-keys : (port : ℕ) (frame : List ℕ) (outputs : List KeyedOutput) → All (λ o. CanBecome port frame o.key) outputs
     → map (λ piece. key_of port piece.bytes) (sent (outputs_of (key_of port frame) outputs) frame) ≡ map (λ o. without_registers o.key) outputs
 unfolding sent outputs_of
-outputs-keys port frame [] one can = refl
-outputs-keys port frame (o ∷ outputs) one can =
+outputs-keys port frame [] can = refl
+outputs-keys port frame (o ∷ outputs) can =
     let first = All-head (λ (o : KeyedOutput). CanBecome port frame o.key) o outputs can in
-    all-keys port frame one frame (key_of port frame) (o ∷ outputs)
+    all-keys port frame frame (key_of port frame) (o ∷ outputs)
     (record {
-      there = record { bytes = first.can_turn.bytes; whole = first.can_turn.whole; alike = λ f. refl; single = λ p. p };
+      there = record { bytes = first.can_turn.bytes; whole = first.can_turn.whole; alike = λ f. refl; single = λ first. first };
       commits = λ next. refl;
       stays = λ f r t s. refl;
     }) can

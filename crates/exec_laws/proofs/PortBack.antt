@@ -26,7 +26,7 @@ use Rattle.spec_actions.specs.declared.action.DpAction.TheVariants.{Set}
 use Rattle.spec_exec.specs.Writing.{with_number}
 use Rattle.spec_exec.specs.Places.{Place, Sum, port_at, port_sum}
 use Rattle.spec_exec.specs.Rewriting.{corrected, set_at, set_field, after_action}
-use Rattle.key_laws.proofs.Forms.{ethernet_key, ethernet_of, whole-key, whole-layout}
+use Rattle.key_laws.proofs.Forms.{Tags, ethernet_key, ethernet_of, whole-key, whole-layout}
 use Rattle.frame_laws.proofs.TransportLaws.{Told, transport-tells}
 use Rattle.frame_laws.proofs.PortLaws.{part_of, network-Shows, ports_of_whole}
 use Rattle.frame_laws.proofs.HeaderLaws.{IsPlaced, network-IsPlaced}
@@ -35,8 +35,8 @@ use Rattle.exec_laws.specs.ReadBack.{ReadsBack}
 use Rattle.exec_laws.proofs.Replacing.{number-same, with_number-length, with_number-reads, with_number-before, with_number-apart}
 use Rattle.exec_laws.proofs.Within.{SumsFit, port_sum-fits, l4-fits, Fits4, corrected-length, fit-moved}
 use Rattle.exec_laws.proofs.Fields.{merged-lt, mask-fits, unit_one}
-use Rattle.exec_laws.proofs.Addresses.{set-whole, shown_tci}
-use Rattle.exec_laws.proofs.Kept.{is_tagged-kept, tci-kept}
+use Rattle.exec_laws.proofs.Addresses.{set-whole, shown_tags}
+use Rattle.exec_laws.proofs.Kept.{count-kept, tags-kept}
 use Rattle.exec_laws.proofs.Bytes.{EachByte, word-lt}
 use Rattle.exec_laws.proofs.AfterHeaders.{SumsAfter, corrected-before}
 use Rattle.exec_laws.proofs.Ports.{limit, IsIp, network-kept}
@@ -221,18 +221,18 @@ module _ (frame : List ℕ) (large : header_size ≤ length frame) (x : ℕ) (na
     ported-layout : layout_of (ported off) ≡ layout_of frame
     ported-layout =
         whole-layout (ported off) (omega (arith, sized, large))
-        ∙ ap₂ layout_with (is_tagged-kept frame (ported off) (limit (network frame)) sized same network-same.2) network-same.0 ∙ sym (whole-layout frame large)
+        ∙ ap₂ layout_with (count-kept frame (ported off) (limit (network frame)) sized same network-same.3 network-same.2) network-same.0 ∙ sym (whole-layout frame large)
 
     -- ---- the key
 
     module _ (port : ℕ) where
       ethernet-same : ethernet_of port (ported off) ≡ ethernet_of port frame
       ethernet-same =
-          let t = tci-kept frame (ported off) (limit (network frame)) sized same network-same.3 network-same.2 in
+          let t = tags-kept frame (ported off) (limit (network frame)) sized same network-same.3 network-same.2 in
           let source = number-same frame (ported off) 6 6 (λ i m n. same i (omega (arith, network-same.2, n))) in
           let destination = number-same frame (ported off) 6 0 (λ i m n. same i (omega (arith, network-same.2, n))) in
-          ap₂ (λ (y z : ℕ). ethernet_key port y z (carried (ported off)).dl_type (shown_tci (ported off))) source destination
-          ∙ ap₂ (λ (c : Carried) (z : ℕ). ethernet_key port (big_endian_at 6 frame 6) (big_endian_at 6 frame 0) c.dl_type z) network-same.1 t
+          ap₂ (λ (y z : ℕ). ethernet_key port y z (carried (ported off)).dl_type (shown_tags (ported off))) source destination
+          ∙ ap₂ (λ (c : Carried) (z : Tags). ethernet_key port (big_endian_at 6 frame 6) (big_endian_at 6 frame 0) c.dl_type z) network-same.1 t
 
       abbrev before_ports : List ℕ
       before_ports = base frame (network frame) (ethernet_of port frame)

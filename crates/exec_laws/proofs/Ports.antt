@@ -103,5 +103,5 @@ module _ (a b : List ℕ) (sized : length b ≡ length a) where
   network-kept ip same =
       let k = kept ip same in
       let after = k.type_after in
-      let c = carried-kept a b (limit (network a)) sized same k.some_type after (omega (arith, carried-least a)) in
+      let c = carried-kept a b (limit (network a)) sized same after (omega (arith, carried-least a)) k.some_type in
       (ap (λ (c : Carried). network_at b c.dl_type c.at) c ∙ k.network_at-same, c, omega (arith, carried-least a), after)

@@ -15,7 +15,7 @@ silent-first : (action : DpAction) (actions : List DpAction) (frame : List ℕ) 
 unfolding sent
 silent-first (Output port) actions frame e = absurd cc
 silent-first PopVlan actions frame e = refl
-silent-first (PushVlan tci) actions frame e = refl
+silent-first (PushVlan tpid tci) actions frame e = refl
 silent-first (Set f value mask) actions frame e = refl
 
 pub sent-before : (actions others : List DpAction) (frame : List ℕ) → AreSilent actions → sent (actions ++ others) frame ≡ sent others (after_actions actions frame)

@@ -8,7 +8,7 @@ use Rattle.spec_frames.specs.declared.headers.Network.TheVariants.{Nothing, Arp,
 use Rattle.spec_frames.specs.declared.layout.Layout.{Layout}
 use Rattle.spec_frames.specs.declared.layout.L4.{L4}
 use Rattle.spec_frames.specs.declared.layout.L4.TheVariants as l4
-use Rattle.spec_frames.specs.Ethernet.{is_tagged, carried, header_size}
+use Rattle.spec_frames.specs.Ethernet.{tag_count, carried, header_size}
 use Rattle.spec_frames.specs.Network.{network}
 use Rattle.spec_frames.specs.Transport.{transport}
 use Rattle.spec_frames.specs.Layout.{place_of_network, layout_with, layout_of}
@@ -58,7 +58,7 @@ module _ (a b : List ℕ) (from s : ℕ) (sized : length b ≡ length a + s) (sa
   port-places offset (l4.Icmp at) = refl
   port-places offset (l4.Icmp6 at) = refl
 
-  layouts : (t u : Bool) → SamePlaces (layout_with u (network a)) (layout_with t (network_on s (network a)))
+  layouts : (t u : ℕ) → SamePlaces (layout_with u (network a)) (layout_with t (network_on s (network a)))
   layouts t u DlSrc = refl
   layouts t u DlDst = refl
   layouts t u TpSrc = ap (λ (h : L4). is_some (port_at 0 h)) (transport-on a b from s sized same (network a)) ∙ port-places 0 (transport (network a))
@@ -67,5 +67,5 @@ module _ (a b : List ℕ) (from s : ℕ) (sized : length b ≡ length a + s) (sa
 
   pub moved-places : SamePlaces (layout_of a) (layout_of b)
   moved-places f =
-      let b-is = whole-layout b (omega (arith, sized, whole)) ∙ ap (layout_with (is_tagged b)) (network-from a b from s sized same whole begins carries) in
-      ap (λ (l : Layout). is_some (place_in l f)) b-is ∙ layouts (is_tagged b) (is_tagged a) f ∙ ap (λ (l : Layout). is_some (place_in l f)) (sym (whole-layout a whole))
+      let b-is = whole-layout b (omega (arith, sized, whole)) ∙ ap (layout_with (tag_count b)) (network-from a b from s sized same whole begins carries) in
+      ap (λ (l : Layout). is_some (place_in l f)) b-is ∙ layouts (tag_count b) (tag_count a) f ∙ ap (λ (l : Layout). is_some (place_in l f)) (sym (whole-layout a whole))

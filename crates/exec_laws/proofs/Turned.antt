@@ -1,11 +1,11 @@
 -- The key of a frame after a commit, field by field and whole, and what an output then sends.
 use Rattle.std.proofs.Common.{◌≡◌, ℕ, ◌==◌, ◌||◌, Bool, true, false, if◌then◌else◌, is_some, List, [], ◌∷◌, ◌++◌, map, length, refl, sym, ap, ap₂, ◌∙◌}
 use Rattle.std.specs.List.{list_any, list_all}
-use Rattle.std.proofs.lemmas.Bool.{cond_both, cond-true, cond-false, eqb-true, eq-eqb, and_parts}
+use Rattle.std.proofs.lemmas.Bool.{cond_both, cond-true, cond-false, eqb-true, eq-eqb, and_parts, and_from}
 use Rattle.std.proofs.lemmas.List.FromFn.{fill_by_all}
 use Rattle.std.proofs.lemmas.List.Elements.{All-append, All-cons, All-nil}
 use Rattle.spec_keys.specs.declared.field_id.FieldId.{FieldId}
-use Rattle.spec_keys.specs.declared.field_id.FieldId.TheVariants.{DlSrc, DlDst, VlanTci, NwSrc, NwDst, Ipv6Src, Ipv6Dst, NwTos, NwTtl, ArpSha, ArpTha, TpSrc, TpDst}
+use Rattle.spec_keys.specs.declared.field_id.FieldId.TheVariants.{DlSrc, DlDst, VlanTci, VlanTpid, VlanTci2, VlanTpid2, NwSrc, NwDst, Ipv6Src, Ipv6Dst, NwTos, NwTtl, ArpSha, ArpTha, TpSrc, TpDst}
 use Rattle.spec_keys.specs.Fields.{place_of, fields, field_count, register_fields}
 use Rattle.spec_keys.specs.Keys.{number_at, value_of}
 use Rattle.spec_frames.specs.declared.layout.L3.{L3}
@@ -14,7 +14,7 @@ use Rattle.spec_frames.specs.Layout.{layout_of}
 use Rattle.spec_frames.specs.Key.{key_of}
 use Rattle.spec_actions.specs.declared.action.DpAction.{DpAction}
 use Rattle.spec_actions.specs.declared.action.DpAction.TheVariants.{Output, PopVlan, PushVlan}
-use Rattle.spec_xlate.specs.Tags.{VlanTag, is_tag, is_tag_field, tags_of, outer_tags, commit_tags}
+use Rattle.spec_xlate.specs.Tags.{VlanTag, is_same_tag, tags_of, outer_tags, commit_tags}
 use Rattle.spec_xlate.specs.Commit.{fields_before_tags, fields_after_tags, commit, commit_field, commit_fields}
 use Rattle.translation_laws.specs.Applied.{applied, is_frame_field, is_proper}
 use Rattle.translation_laws.proofs.CommitLaws.{commit-Turns}
@@ -23,10 +23,10 @@ use Rattle.spec_exec.specs.Sent.{Piece, is_output, sent}
 use Rattle.key_laws.proofs.KeyLaws.{key_of-IsClean}
 use Rattle.exec_laws.specs.ReadBack.{shows}
 use Rattle.exec_laws.specs.Sends.{after_actions}
-use Rattle.exec_laws.specs.Become.{turned, CanTurn, is_register, without_registers, CanBecome}
+use Rattle.exec_laws.specs.Become.{is_of_tags, turned, CanTurn, is_register, without_registers, CanBecome}
 use Rattle.exec_laws.proofs.Sending.{AreSilent, sent-before}
-use Rattle.exec_laws.proofs.CommitSteps.{no-change, map-at, base-is, base-tci, commit-leads}
-use Rattle.exec_laws.proofs.Tags.{shown-proper}
+use Rattle.exec_laws.proofs.CommitSteps.{no-change, map-at, base-is, base-tags, commit-leads}
+use Rattle.exec_laws.proofs.Tags.{are_proper, shown-proper}
 
 -- ---- keys, field by field
 
@@ -56,10 +56,13 @@ network-unframed (l3.Ipv6 at) NwTos e = absurd cc
 network-unframed (l3.Ipv6 at) NwTtl e = absurd cc
 network-unframed (l3.Ipv6 at) f e = refl
 
-unframed : (port : ℕ) (frame : List ℕ) (f : FieldId) → is_frame_field f ≡ false → (is_tag_field f || shows port frame f) ≡ false
+unframed : (port : ℕ) (frame : List ℕ) (f : FieldId) → is_frame_field f ≡ false → (is_of_tags f || shows port frame f) ≡ false
 unframed port frame DlSrc e = absurd cc
 unframed port frame DlDst e = absurd cc
 unframed port frame VlanTci e = absurd cc
+unframed port frame VlanTpid e = absurd cc
+unframed port frame VlanTci2 e = absurd cc
+unframed port frame VlanTpid2 e = absurd cc
 unframed port frame TpSrc e = absurd cc
 unframed port frame TpDst e = absurd cc
 unframed port frame f e = network-unframed (layout_of frame).l3 f e
@@ -69,6 +72,9 @@ register-unframed : (f : FieldId) → is_register f ≡ true → is_frame_field 
 register-unframed DlSrc e = absurd cc
 register-unframed DlDst e = absurd cc
 register-unframed VlanTci e = absurd cc
+register-unframed VlanTpid e = absurd cc
+register-unframed VlanTci2 e = absurd cc
+register-unframed VlanTpid2 e = absurd cc
 register-unframed NwSrc e = absurd cc
 register-unframed NwDst e = absurd cc
 register-unframed Ipv6Src e = absurd cc
@@ -102,14 +108,16 @@ module _ (port : ℕ) (frame key : List ℕ) (can : CanTurn port frame key) wher
   aim = turned port frame key
 
   abbrev aimed : FieldId → ℕ
-  aimed f = if is_tag_field f || shows port frame f then value_of key f else value_of base f
+  aimed f = if is_of_tags f || shows port frame f then value_of key f else value_of base f
 
-  -- the key of a frame has a proper tag
+  -- the key of a frame has proper tags
   base-proper : is_proper base ≡ true
-  base-proper = ap (λ (z : ℕ). (z == 0) || is_tag z) (base-tci port frame key can) ∙ shown-proper frame
+  base-proper = let tags = base-tags port frame key can in ap₂ are_proper tags.0 tags.1 ∙ shown-proper frame
 
   aim-proper : is_proper aim ≡ true
-  aim-proper = ap (λ (z : ℕ). (z == 0) || is_tag z) (map-at aimed VlanTci) ∙ can.has_proper_tag
+  aim-proper =
+      ap₂ are_proper (ap₂ (λ (p c : ℕ). record { tpid = p; tci = c }) (map-at aimed VlanTpid) (map-at aimed VlanTci))
+      (ap₂ (λ (p c : ℕ). record { tpid = p; tci = c }) (map-at aimed VlanTpid2) (map-at aimed VlanTci2)) ∙ can.has_proper_tags
 
   pub key-turned : key_of port (after_actions (commit base key) frame) ≡ aim
   key-turned =
@@ -120,22 +128,22 @@ module _ (port : ℕ) (frame key : List ℕ) (can : CanTurn port frame key) wher
     where
       by : {v : ℕ} (f : FieldId) (t : Bool) → is_frame_field f ≡ t → (is_frame_field f ≡ true → v ≡ value_of aim f) → (is_frame_field f ≡ false → v ≡ value_of base f) → v ≡ aimed f
       by f true e those others = those e ∙ map-at aimed f
-      by f false e those others = others e ∙ sym (cond-false (is_tag_field f || shows port frame f) (value_of key f) (value_of base f) (unframed port frame f e))
+      by f false e those others = others e ∙ sym (cond-false (is_of_tags f || shows port frame f) (value_of key f) (value_of base f) (unframed port frame f e))
 
 -- registers aside it is the whole key, where that differs in what the frame shows alone
 pub key-becomes : (port : ℕ) (frame key : List ℕ) → CanBecome port frame key → key_of port (after_actions (commit (key_of port frame) key) frame) ≡ without_registers key
 key-becomes port frame key can =
     key-turned port frame key can.can_turn
-    ∙ map-same (λ f. if is_tag_field f || shows port frame f then value_of key f else value_of (key_of port frame) f) (λ f. if is_register f then 0 else value_of key f)
-    (λ f. by f (is_register f) refl (is_tag_field f) refl (shows port frame f) refl) fields
+    ∙ map-same (λ f. if is_of_tags f || shows port frame f then value_of key f else value_of (key_of port frame) f) (λ f. if is_register f then 0 else value_of key f)
+    (λ f. by f (is_register f) refl (is_of_tags f) refl (shows port frame f) refl) fields
   where
     zero : (f : FieldId) → is_register f ≡ true → value_of (key_of port frame) f ≡ 0
     zero f r = zero-in (key_of port frame) f register_fields (key_of-IsClean port frame) r
 
-    by : (f : FieldId) (r : Bool) → is_register f ≡ r → (t : Bool) → is_tag_field f ≡ t → (s : Bool) → shows port frame f ≡ s
-        → (if is_tag_field f || shows port frame f then value_of key f else value_of (key_of port frame) f) ≡ (if is_register f then 0 else value_of key f)
+    by : (f : FieldId) (r : Bool) → is_register f ≡ r → (t : Bool) → is_of_tags f ≡ t → (s : Bool) → shows port frame f ≡ s
+        → (if is_of_tags f || shows port frame f then value_of key f else value_of (key_of port frame) f) ≡ (if is_register f then 0 else value_of key f)
     by f true r t e s h =
-        cond-false (is_tag_field f || shows port frame f) (value_of key f) (value_of (key_of port frame) f) (unframed port frame f (register-unframed f r))
+        cond-false (is_of_tags f || shows port frame f) (value_of key f) (value_of (key_of port frame) f) (unframed port frame f (register-unframed f r))
         ∙ zero f r ∙ sym (cond-true (is_register f) 0 (value_of key f) r)
     by f false r true e s h = rw (r, e) refl
     by f false r false e true h = rw (r, e, h) refl
@@ -156,13 +164,13 @@ same-fields (f ∷ fs) key = ap₂ (λ (xs ys : List DpAction). xs ++ ys) (no-ch
 same-tags : (ts : List VlanTag) → outer_tags ts ts ≡ []
 unfolding outer_tags
 same-tags [] = refl
-same-tags (t ∷ ts) = cond-true (t.tci == t.tci) (outer_tags ts ts) (t ∷ ts) (eq-eqb t.tci t.tci refl) ∙ same-tags ts
+same-tags (t ∷ ts) = cond-true (is_same_tag t t) (outer_tags ts ts) (t ∷ ts) (and_from (t.tci == t.tci) (t.tpid == t.tpid) (eq-eqb t.tci t.tci refl) (eq-eqb t.tpid t.tpid refl)) ∙ same-tags ts
 
 pub commit-same : (key : List ℕ) → commit key key ≡ []
 unfolding commit commit_tags
 commit-same key =
     ap₂ (λ (xs ys : List DpAction). xs ++ ys) (same-fields fields_before_tags key)
-    (ap₂ (λ (ts : List VlanTag) (ys : List DpAction). (map (λ t. PopVlan) ts ++ map (λ t. PushVlan t.tci) ts) ++ ys) (same-tags (tags_of key)) (same-fields fields_after_tags key))
+    (ap₂ (λ (ts : List VlanTag) (ys : List DpAction). (map (λ t. PopVlan) ts ++ map (λ t. PushVlan t.tpid t.tci) ts) ++ ys) (same-tags (tags_of key)) (same-fields fields_after_tags key))
 
 -- ---- what an output sends
 
@@ -182,14 +190,14 @@ pops-silent : (ts : List VlanTag) → AreSilent (map (λ t. PopVlan) ts)
 pops-silent [] = All-nil (λ a. is_output a ≡ false)
 pops-silent (t ∷ ts) = All-cons (λ a. is_output a ≡ false) PopVlan (map (λ t. PopVlan) ts) refl (pops-silent ts)
 
-pushes-silent : (ts : List VlanTag) → AreSilent (map (λ t. PushVlan t.tci) ts)
+pushes-silent : (ts : List VlanTag) → AreSilent (map (λ t. PushVlan t.tpid t.tci) ts)
 pushes-silent [] = All-nil (λ a. is_output a ≡ false)
-pushes-silent (t ∷ ts) = All-cons (λ a. is_output a ≡ false) (PushVlan t.tci) (map (λ u. PushVlan u.tci) ts) refl (pushes-silent ts)
+pushes-silent (t ∷ ts) = All-cons (λ a. is_output a ≡ false) (PushVlan t.tpid t.tci) (map (λ u. PushVlan u.tpid u.tci) ts) refl (pushes-silent ts)
 
 tags-silent : (before after : List VlanTag) → AreSilent (commit_tags before after)
 unfolding commit_tags
 tags-silent before after =
-    All-append (λ a. is_output a ≡ false) (map (λ t. PopVlan) (outer_tags before after)) (map (λ t. PushVlan t.tci) (outer_tags after before))
+    All-append (λ a. is_output a ≡ false) (map (λ t. PopVlan) (outer_tags before after)) (map (λ t. PushVlan t.tpid t.tci) (outer_tags after before))
     (pops-silent (outer_tags before after)) (pushes-silent (outer_tags after before))
 
 pub commit-silent : (base key : List ℕ) → AreSilent (commit base key)

@@ -1,15 +1,13 @@
--- Writes to the addresses leave all bytes after them, and so what comes to stand there when a tag goes.
-use Rattle.std.proofs.Common.{◌≡◌, ℕ, ◌+◌, ◌≤◌, ◌==◌, Bool, true, false, if◌then◌else◌, List, [], ◌∷◌, length, slice_index, bit_and, bit_xor, inr, refl, sym, ◌∙◌, arith}
+-- Writes to the addresses leave all bytes after them, and so the tags.
+use Rattle.std.proofs.Common.{◌≡◌, ℕ, ◌≤◌, ◌==◌, ◌&&◌, Bool, true, false, if◌then◌else◌, List, [], ◌∷◌, length, slice_index, bit_and, bit_xor, inr, refl, ap₂, ◌∙◌, arith}
 use Rattle.spec_keys.specs.declared.field_id.FieldId.TheVariants.{DlSrc, DlDst}
-use Rattle.spec_frames.specs.Ethernet.{header_size, is_tagged, type_at}
+use Rattle.spec_frames.specs.Ethernet.{header_size, type_at}
 use Rattle.spec_actions.specs.declared.action.DpAction.TheVariants.{Set}
-use Rattle.spec_xlate.specs.Tags.{tagged}
 use Rattle.spec_xlate.specs.Commit.{commit_field}
-use Rattle.spec_exec.specs.Rewriting.{pop_tag}
 use Rattle.exec_laws.specs.Sends.{after_actions}
-use Rattle.exec_laws.proofs.Within.{set-length, tagged-size}
-use Rattle.exec_laws.proofs.Addresses.{is_tagged-same}
-use Rattle.exec_laws.proofs.Tags.{popped-length, pop-after, least}
+use Rattle.exec_laws.specs.Become.{has_third_tag}
+use Rattle.exec_laws.proofs.Within.{set-length}
+use Rattle.exec_laws.proofs.Addresses.{count-same, tag_at-same}
 use Rattle.exec_laws.proofs.Untouched.{set-untouched}
 
 -- two frames with the same bytes after the addresses
@@ -35,13 +33,7 @@ destination-same_after before after g whole = by (before == after)
     by true = (refl, λ i l. refl)
     by false = (set-length DlDst _ _ g, λ i l. set-untouched DlDst _ _ g i whole (inr (omega arith)) tt)
 
--- what comes to stand after the addresses when the tag goes
-pub uncovered-same : (a b : List ℕ) → header_size ≤ length a → SameAfter a b → is_tagged a ≡ true → is_tagged (pop_tag b) ≡ is_tagged (pop_tag a)
-uncovered-same a b whole same tagged =
-    let there = is_tagged-same a b same.0 same.1 whole ∙ tagged in
-    let size = tagged-size a tagged in
-    let now_size = tagged-size b there in
-    let popped = popped-length a tagged size in
-    let now_popped = popped-length b there now_size in
-    is_tagged-same (pop_tag a) (pop_tag b) (omega (arith, popped, now_popped, same.0))
-    (λ i l. sym (pop-after b there now_size i l) ∙ same.1 (i + 4) (omega arith) ∙ pop-after a tagged size i l) (least a tagged size)
+-- so have they a third tag
+pub third-same : (a b : List ℕ) → header_size ≤ length a → SameAfter a b → has_third_tag b ≡ has_third_tag a
+third-same a b whole same =
+    ap₂ (λ (z : ℕ) (t : Bool). (z == 2) && t) (count-same a b same.0 same.1 whole) (tag_at-same a b same.0 same.1 whole 20 (omega arith))

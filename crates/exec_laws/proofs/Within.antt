@@ -1,11 +1,11 @@
 -- Fields and checksums stand within a frame, so that a write keeps its length.
-use Rattle.std.proofs.Common.{◌≡◌, ℕ, ◌+◌, ◌≤◌, true, nat_le, nat_lt, List, [], ◌∷◌, ◌++◌, length, take, drop, Option, Some, None, bit_and, refl, ap, ◌∙◌, arith}
+use Rattle.std.proofs.Common.{◌≡◌, ℕ, ◌+◌, ◌≤◌, Bool, true, false, nat_le, nat_lt, if◌then◌else◌, List, [], ◌∷◌, ◌++◌, length, take, drop, Option, Some, None, bit_and, refl, ap, ◌∙◌, arith}
 use Rattle.std.proofs.lemmas.Bool.{cond_both, cond-true, cond-false, ltb-false, le-ltb, leb-true, and_parts}
 use Rattle.std.proofs.lemmas.List.{length-append, length-drop, length-take-le}
 use Rattle.spec_base.specs.Bytes.{big_endian, big_endian_at}
 use Rattle.spec_keys.specs.declared.field_id.FieldId.{FieldId}
 use Rattle.spec_keys.specs.declared.field_id.FieldId.TheVariants.{DlSrc, DlDst, NwSrc, NwDst, Ipv6Src, Ipv6Dst, NwTos, NwTtl, ArpSha, ArpTha, TpSrc, TpDst}
-use Rattle.spec_frames.specs.Ethernet.{header_size, tag_size, customer_tag, is_tagged}
+use Rattle.spec_frames.specs.Ethernet.{header_size, tag_size, type_at, inner_at, is_tag_at, tag_count}
 use Rattle.spec_frames.specs.declared.layout.Layout.{Layout}
 use Rattle.spec_frames.specs.declared.layout.L3.{L3}
 use Rattle.spec_frames.specs.declared.layout.L3.TheVariants as l3
@@ -175,26 +175,17 @@ set-length f value mask frame =
     cond_both (nat_lt (length frame) header_size) frame _ (λ (z : List ℕ). length z ≡ length frame) (λ e. refl)
     (λ e. set_at-length frame _ _ value _ (place-fits frame f (ltb-false (length frame) header_size e)) (sums-fit frame f))
 
-pub push-length : (tci : ℕ) (frame : List ℕ) → header_size ≤ length frame → length (push_tag tci frame) ≡ length frame + tag_size
+pub push-length : (tpid tci : ℕ) (frame : List ℕ) → header_size ≤ length frame → length (push_tag tpid tci frame) ≡ length frame + tag_size
 unfolding push_tag
-push-length tci frame l =
-    let a = length-append (take 12 frame) (big_endian 2 customer_tag ++ (big_endian 2 (bit_and tci content_bits) ++ drop 12 frame)) in
-    let b = length-append (big_endian 2 customer_tag) (big_endian 2 (bit_and tci content_bits) ++ drop 12 frame) in
+push-length tpid tci frame l =
+    let a = length-append (take 12 frame) (big_endian 2 tpid ++ (big_endian 2 (bit_and tci content_bits) ++ drop 12 frame)) in
+    let b = length-append (big_endian 2 tpid) (big_endian 2 (bit_and tci content_bits) ++ drop 12 frame) in
     let c = length-append (big_endian 2 (bit_and tci content_bits)) (drop 12 frame) in
     let d = length-drop 12 frame in
     let e = length-take-le 12 frame (omega arith) in
-    let f = big_endian-length 2 customer_tag in
+    let f = big_endian-length 2 tpid in
     let g = big_endian-length 2 (bit_and tci content_bits) in
     omega arith
-
-pub pop-length : (frame : List ℕ) → header_size + tag_size ≤ length frame → (layout_of frame).tagged ≡ true → length (pop_tag frame) + tag_size ≡ length frame
-unfolding pop_tag
-pop-length frame l t =
-    let a = length-append (take 12 frame) (drop 16 frame) in
-    let b = length-drop 16 frame in
-    let c = length-take-le 12 frame (omega arith) in
-    let e = cond-true (layout_of frame).tagged (take 12 frame ++ drop 16 frame) frame t in
-    ap (λ (z : List ℕ). length z + 4) e ∙ omega arith
 
 -- ---- in a frame with a whole Ethernet header
 
@@ -202,9 +193,51 @@ pub act-whole : (action : DpAction) (frame : List ℕ) → header_size ≤ lengt
 unfolding after_action
 act-whole action frame l = cond-false (nat_lt (length frame) header_size) frame (changed action frame) (le-ltb (length frame) header_size l)
 
-pub tagged-layout : (frame : List ℕ) → header_size ≤ length frame → is_tagged frame ≡ true → (layout_of frame).tagged ≡ true
-tagged-layout frame whole tagged = ap (λ (l : Layout). l.tagged) (whole-layout frame whole) ∙ tagged
+-- how many tags there are, by whether one stands after the addresses and another after that
+abbrev pub count_of : (outer inner : Bool) → ℕ
+count_of outer inner = if outer then (if inner then 2 else 1) else 0
 
-pub tagged-size : (frame : List ℕ) → is_tagged frame ≡ true → header_size + tag_size ≤ length frame
-unfolding is_tagged
+pub tagged-layout : (frame : List ℕ) → header_size ≤ length frame → is_tag_at frame type_at ≡ true → nat_lt 0 (layout_of frame).tags ≡ true
+unfolding tag_count
+tagged-layout frame whole tagged = ap (λ (l : Layout). nat_lt 0 l.tags) (whole-layout frame whole) ∙ at (is_tag_at frame inner_at) (is_tag_at frame type_at) tagged
+  where
+    at : (inner outer : Bool) → outer ≡ true → nat_lt 0 (count_of outer inner) ≡ true
+    at true true e = refl
+    at false true e = refl
+    at inner false e = absurd cc
+
+-- a tag that is counted stands after the addresses
+pub counted-tagged : (frame : List ℕ) → 1 ≤ tag_count frame → is_tag_at frame type_at ≡ true
+unfolding tag_count
+counted-tagged frame some = at (is_tag_at frame type_at) some
+  where
+    at : (outer : Bool) → 1 ≤ count_of outer (is_tag_at frame inner_at) → outer ≡ true
+    at true l = refl
+    at false l = absurd (omega arith)
+
+pub uncounted-untagged : (frame : List ℕ) → tag_count frame ≡ 0 → is_tag_at frame type_at ≡ false
+unfolding tag_count
+uncounted-untagged frame none = at (is_tag_at frame type_at) (is_tag_at frame inner_at) none
+  where
+    at : (outer inner : Bool) → count_of outer inner ≡ 0 → outer ≡ false
+    at true true e = absurd (omega arith)
+    at true false e = absurd (omega arith)
+    at false inner e = refl
+
+pub tagged-size : (frame : List ℕ) → is_tag_at frame type_at ≡ true → header_size + tag_size ≤ length frame
+unfolding is_tag_at
 tagged-size frame tagged = leb-true (header_size + tag_size) (length frame) (and_parts (nat_le (header_size + tag_size) (length frame)) _ tagged).0
+
+pub popped-form : (frame : List ℕ) → is_tag_at frame type_at ≡ true → pop_tag frame ≡ take 12 frame ++ drop 16 frame
+unfolding pop_tag
+popped-form frame tagged =
+    let size = tagged-size frame tagged in
+    cond-true (nat_lt 0 (layout_of frame).tags) (take 12 frame ++ drop 16 frame) frame (tagged-layout frame (omega (arith, size)) tagged)
+
+pub pop-length : (frame : List ℕ) → is_tag_at frame type_at ≡ true → length (pop_tag frame) + tag_size ≡ length frame
+pop-length frame tagged =
+    let size = tagged-size frame tagged in
+    let a = length-append (take 12 frame) (drop 16 frame) in
+    let b = length-drop 16 frame in
+    let c = length-take-le 12 frame (omega arith) in
+    ap (λ (z : List ℕ). length z + 4) (popped-form frame tagged) ∙ omega arith

@@ -1,29 +1,37 @@
 -- The keys that a frame can come to have by datapath actions.
-use Rattle.std.specs.Prelude.{◌≡◌, ℕ, ◌<◌, ◌≤◌, ◌^◌, ◌==◌, Bool, false, ◌||◌, if◌then◌else◌, IsTrue, List, [], ◌∷◌, ◌++◌, length, map}
+use Rattle.std.specs.Prelude.{◌≡◌, ℕ, ◌<◌, ◌≤◌, ◌+◌, ◌^◌, ◌==◌, Bool, false, ◌&&◌, ◌||◌, if◌then◌else◌, IsTrue, List, [], ◌∷◌, ◌++◌, length, map, All}
 use Rattle.std.specs.List.{list_any}
 use Rattle.spec_keys.specs.declared.field_id.FieldId.{FieldId}
-use Rattle.spec_keys.specs.declared.field_id.FieldId.TheVariants.{InPort, VlanTci}
+use Rattle.spec_keys.specs.declared.field_id.FieldId.TheVariants.{InPort}
 use Rattle.spec_keys.specs.Fields.{place_of, width_of, fields, register_fields}
 use Rattle.spec_keys.specs.Keys.{value_of, IsKey}
-use Rattle.spec_frames.specs.Ethernet.{header_size, is_tagged}
+use Rattle.spec_keys.specs.Protocols.{is_tag_type}
+use Rattle.spec_frames.specs.Ethernet.{header_size, inner_at, tag_size, is_tag_at, tag_count}
 use Rattle.spec_frames.specs.Key.{key_of}
 use Rattle.spec_actions.specs.declared.action.DpAction.{DpAction}
 use Rattle.spec_actions.specs.declared.action.DpAction.TheVariants.{Output}
-use Rattle.spec_xlate.specs.Tags.{is_tag_field}
+use Rattle.spec_xlate.specs.Tags.{tag_fields, tags_of, is_full}
 use Rattle.spec_xlate.specs.Commit.{commit}
 use Rattle.translation_laws.specs.Applied.{is_proper}
-use Rattle.spec_exec.specs.Rewriting.{pop_tag}
 use Rattle.exec_laws.specs.ReadBack.{AreBytes, shows}
 
--- whether a second tag stands after the first one: the frame has a tag, 22 bytes at least, and the type of a tag at byte 16
-abbrev pub has_second_tag : List ℕ → Bool
-has_second_tag frame = is_tagged (pop_tag frame)
+-- whether a third tag stands after the first two: no key shows it
+abbrev pub has_third_tag : List ℕ → Bool
+has_third_tag frame = (tag_count frame == 2) && is_tag_at frame (inner_at + tag_size)
 
--- The key that a frame comes to have when its key is to turn into another: it has the tag of that, and its value in each
+-- whether a field is one of those that hold tags
+abbrev pub is_of_tags : FieldId → Bool
+is_of_tags f = list_any (λ g. place_of f == place_of g) tag_fields
+
+-- The key that a frame comes to have when its key is to turn into another: it has the tags of that, and its value in each
 -- field that the frame shows, whose header is there. In the others the key is as it was.
 abbrev pub turned : ℕ → List ℕ → List ℕ → List ℕ
 turned port frame key =
-    map (λ f. if is_tag_field f || shows port frame f then value_of key f else value_of (key_of port frame) f) fields
+    map (λ f. if is_of_tags f || shows port frame f then value_of key f else value_of (key_of port frame) f) fields
+
+-- The tags of a key are of types by which a frame shows that they are tags.
+abbrev pub HasTagTypes : List ℕ → Type 0
+HasTagTypes key = All (λ t. IsTrue (is_tag_type t.tpid)) (tags_of key)
 
 -- The key of a frame of bytes with a whole Ethernet header, which came in at this port, can turn into that.
 pub record CanTurn (port : ℕ) (frame key : List ℕ) : Type 0 where
@@ -31,10 +39,11 @@ pub record CanTurn (port : ℕ) (frame key : List ℕ) : Type 0 where
   pub whole : header_size ≤ length frame
   pub in_port : port < 2 ^ width_of InPort
   pub is_key : IsKey key
-  -- Its vlan_tci is 0 or that of a tag.
-  pub has_proper_tag : IsTrue (is_proper key)
-  -- Where it has no tag, no second tag of the frame comes to stand where the first one was.
-  pub uncovers_none : value_of key VlanTci ≡ 0 → has_second_tag frame ≡ false
+  -- Each of its tags is one, or all of it is 0, and there is an inner one only within an outer one.
+  pub has_proper_tags : IsTrue (is_proper key)
+  pub has_tag_types : HasTagTypes key
+  -- Where it has less than two tags, no third tag of the frame comes to stand where the second one was.
+  pub uncovers_none : is_full key ≡ false → has_third_tag frame ≡ false
 
 -- ---- the whole key
 
@@ -46,11 +55,11 @@ is_register f = list_any (λ g. place_of f == place_of g) register_fields
 abbrev pub without_registers : List ℕ → List ℕ
 without_registers key = map (λ f. if is_register f then 0 else value_of key f) fields
 
--- A frame can come to have this key, registers aside: beside these and the tag it differs from the frame's key only in
+-- A frame can come to have this key, registers aside: beside these and the tags it differs from the frame's key only in
 -- fields that the frame shows. So do the keys of a translation whose writes found the headers that they need.
 pub record CanBecome (port : ℕ) (frame key : List ℕ) : Type 0 where
   pub can_turn : CanTurn port frame key
-  pub others_stay : (f : FieldId) → is_register f ≡ false → is_tag_field f ≡ false → shows port frame f ≡ false
+  pub others_stay : (f : FieldId) → is_register f ≡ false → is_of_tags f ≡ false → shows port frame f ≡ false
       → value_of key f ≡ value_of (key_of port frame) f
 
 -- ---- a translation

@@ -7,9 +7,9 @@ ghost use Rattle.spec_xlate.specs.Commit.{commit};
 ghost use Rattle.spec_exec.specs.Sent.{Piece, sent};
 ghost use Rattle.exec_laws.specs.ReadBack.{shows};
 ghost use Rattle.exec_laws.specs.Sends.{after_actions};
-ghost use Rattle.exec_laws.specs.Become.{has_second_tag, turned, CanTurn, without_registers, CanBecome, KeyedOutput, outputs_of};
+ghost use Rattle.exec_laws.specs.Become.{has_third_tag, turned, CanTurn, without_registers, CanBecome, KeyedOutput, outputs_of};
 
-/// The actions that commit appends turn a frame of the base key into one of the current key. In its tag, and in each
+/// The actions that commit appends turn a frame of the base key into one of the current key. In its tags, and in each
 /// field whose header is there, the frame's key is then the current one, and in the others it is as it was. Where
 /// those are the same, metadata and registers aside, it is the current key as a whole.
 pub fn commits_turn_the_frame()
@@ -20,15 +20,15 @@ pub fn commits_turn_the_frame()
 {}
 
 /// What a second commit needs of the frame that a first one leaves: a whole Ethernet header, the fields that the frame
-/// showed, and no second tag if it had none. Its base is the key of that frame, since commit reads no registers. A commit
+/// showed, and no third tag if it had none. Its base is the key of that frame, since commit reads no registers. A commit
 /// to its base, as between two outputs at once, is no action.
 pub fn commits_follow_each_other()
     ensures whole { (port : ℕ) (frame key : List ℕ) → CanTurn port frame key
         → header_size ≤ length (after_actions (commit (key_of port frame) key) frame) }
     ensures shown { (port : ℕ) (frame key : List ℕ) → CanTurn port frame key → (f : FieldId)
         → shows port (after_actions (commit (key_of port frame) key) frame) f ≡ shows port frame f }
-    ensures one_tag { (port : ℕ) (frame key : List ℕ) → CanTurn port frame key → has_second_tag frame ≡ false
-        → has_second_tag (after_actions (commit (key_of port frame) key) frame) ≡ false }
+    ensures two_tags { (port : ℕ) (frame key : List ℕ) → CanTurn port frame key → has_third_tag frame ≡ false
+        → has_third_tag (after_actions (commit (key_of port frame) key) frame) ≡ false }
     ensures base { (key next : List ℕ) → commit (without_registers key) next ≡ commit key next }
     ensures same { (key : List ℕ) → commit key key ≡ [] }
 {}
@@ -44,12 +44,12 @@ pub fn an_output_sends_the_current_key()
 {}
 
 /// The outputs of a translation, each after a commit, go out at their ports in order, and each with the key that was the
-/// current one when it came. The frame has no second tag.
+/// current one when it came. Of a frame with a third tag that is said where each of these keys has two.
 pub fn each_output_sends_its_key()
     ensures ports { (base frame : List ℕ) (outputs : List KeyedOutput)
         → map (λ piece. piece.port) (sent (outputs_of base outputs) frame) ≡ map (λ o. o.port) outputs }
     ensures keys { (port : ℕ) (frame : List ℕ) (outputs : List KeyedOutput)
-        → has_second_tag frame ≡ false → All (λ o. CanBecome port frame o.key) outputs
+        → All (λ o. CanBecome port frame o.key) outputs
         → map (λ piece. key_of port piece.bytes) (sent (outputs_of (key_of port frame) outputs) frame)
         ≡ map (λ o. without_registers o.key) outputs }
 {}

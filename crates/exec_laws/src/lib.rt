@@ -12,18 +12,20 @@
 //!   as before (`fields_read_back`). A field whose header isn't there isn't written, and a write to ports of a
 //!   fragment, which its key doesn't show, leaves the key as it is (`other_fields_stay`). No action changes a frame
 //!   without a whole Ethernet header, and no pop one without a tag (`frames_without_the_header_stay`).
-//! - Tags read back: one that is pushed, one that takes the place of another, and one that is popped, unless a second
-//!   one comes to stand where the first one was (`tags_read_back`).
+//! - Tags read back, the outer and the inner one: one that is pushed onto a frame with at most one, one that takes the
+//!   place of another, and one that is popped, unless a third one comes to stand where the second one was
+//!   (`tags_read_back`).
 //! - A write leaves the headers where they stand (`writes_keep_the_layout`), keeps the length
 //!   (`only_tags_change_the_length`), and changes no byte but those of its field and of the checksums that cover it
-//!   (`other_bytes_stay`). A tag stands after the addresses, and moves the bytes after them by four
+//!   (`other_bytes_stay`). The outer tag stands after the addresses, and moves the bytes after them by four
 //!   (`tags_stand_after_the_addresses`). Bytes stay bytes (`bytes_stay_bytes`).
 //! - *A commit turns the key* (`commits_turn_the_frame`): the datapath actions by which a translation makes a frame of
 //!   its base key into one of its current key do just that. The frame's key is then the current one, metadata and
-//!   registers aside, if that differs from the base key only in its tag and in fields whose headers are there. A
+//!   registers aside, if that differs from the base key only in its tags and in fields whose headers are there. A
 //!   translation writes a field only where the key has what ovs-fields(7) asks for ("Prerequisites"); a frame may have
-//!   that and no such header, as one that was cut short, and then the key stays as it was in that field. A further
-//!   commit begins where that one ended (`commits_follow_each_other`).
+//!   that and no such header, as one that was cut short, and then the key stays as it was in that field. Of a frame
+//!   with a third tag, which no key shows, the current key has to have two: a tag that goes would bring the third one in
+//!   view. A further commit begins where that one ended (`commits_follow_each_other`).
 //! - What is sent is what outputs send, each the frame as the actions before it have made it (`outputs_alone_send`). So
 //!   an output after a commit sends a frame that has the current key (`an_output_sends_the_current_key`), and so does
 //!   each of a translation's outputs (`each_output_sends_its_key`).
@@ -38,8 +40,9 @@
 //!
 //! The commit goes action by action (`OnTheWay`): each frame on the way shows the fields that the first one shows, and
 //! each action does to its key what `translation_laws` says of keys (`applied`). There it is proved that the actions of
-//! a commit turn one key into the other. A write to a field that the frame doesn't show does nothing to the key, so
-//! such a commit is that to another key, which has these fields as before (`CommitSteps`).
+//! a commit turn one key into the other. Tags in front of a third one are changed in one step, since the frames between
+//! would show that. A write to a field that the frame doesn't show does nothing to the key, so such a commit is that to
+//! another key, which has these fields as before (`CommitSteps`).
 //!
 //! # What is left to others
 //!

@@ -1,15 +1,16 @@
 ghost use Rattle.std.specs.Prelude.{◌≡◌, ℕ, ◌<◌, ◌≤◌, ◌^◌, true, false, List, length, bit_or};
 ghost use Rattle.spec_keys.specs.declared.field_id.FieldId.{FieldId};
-ghost use Rattle.spec_keys.specs.declared.field_id.FieldId.TheVariants.{VlanTci};
 ghost use Rattle.spec_keys.specs.Fields.{width_of};
-ghost use Rattle.spec_keys.specs.Protocols.{tag_bit};
-ghost use Rattle.spec_frames.specs.Ethernet.{header_size, is_tagged};
+ghost use Rattle.spec_keys.specs.Protocols.{tag_bit, is_tag_type};
+ghost use Rattle.spec_frames.specs.Ethernet.{header_size, tag_count};
 ghost use Rattle.spec_frames.specs.Layout.{layout_of};
-ghost use Rattle.spec_frames.specs.Key.{with_value, key_of};
+ghost use Rattle.spec_frames.specs.Key.{key_of};
 ghost use Rattle.spec_actions.specs.declared.action.DpAction.{DpAction};
 ghost use Rattle.spec_actions.specs.declared.action.DpAction.TheVariants.{PopVlan, PushVlan, Set};
 ghost use Rattle.spec_exec.specs.Places.{place_in};
 ghost use Rattle.spec_exec.specs.Rewriting.{after_action};
+ghost use Rattle.spec_xlate.specs.Tags.{VlanTag, outer_tag, inner_tag, with_tags, popped};
+ghost use Rattle.exec_laws.specs.Become.{has_third_tag};
 ghost use Rattle.exec_laws.specs.ReadBack.{AreBytes, shows, ReadsBack};
 
 /// A field whose header is there reads back: the frame's key has the bits that were written, and all other bits as
@@ -37,21 +38,23 @@ pub fn frames_without_the_header_stay()
     ensures short { (action : DpAction) (frame : List ℕ)
         → length frame < header_size → after_action action frame ≡ frame }
     ensures untagged { (frame : List ℕ)
-        → is_tagged frame ≡ false → after_action PopVlan frame ≡ frame }
+        → tag_count frame ≡ 0 → after_action PopVlan frame ≡ frame }
 {}
 
-/// A tag that is pushed onto a frame without one is the tag of the key, and so is one that takes the place of another. A
-/// tag that is popped is gone, if no second one then stands after the addresses (IEEE 802.1Q, 9.3). All other fields of
-/// the key stay.
+/// A tag of a type that tags have reads back (IEEE 802.1Q, 9.3). One that is pushed onto a frame with at most one is the outer
+/// tag of the key, and the one that was outside is the inner one. One that takes the place of another is the outer tag, and
+/// the inner one stays. Of a tag that is popped the place is taken by the inner one, if no third one comes to stand where that
+/// was. All other fields of the key stay.
 pub fn tags_read_back()
-    ensures push { (port tci : ℕ) (frame : List ℕ)
-        → header_size ≤ length frame → is_tagged frame ≡ false → tci < 2 ^ 16
-        → key_of port (after_action (PushVlan tci) frame) ≡ with_value VlanTci (bit_or tci tag_bit) (key_of port frame) }
-    ensures replace { (port tci : ℕ) (frame : List ℕ)
-        → header_size ≤ length frame → is_tagged frame ≡ true → tci < 2 ^ 16
-        → key_of port (after_action (PushVlan tci) (after_action PopVlan frame))
-        ≡ with_value VlanTci (bit_or tci tag_bit) (key_of port frame) }
+    ensures push { (port tpid tci : ℕ) (frame : List ℕ)
+        → header_size ≤ length frame → tag_count frame ≤ 1 → is_tag_type tpid ≡ true → tci < 2 ^ 16
+        → key_of port (after_action (PushVlan tpid tci) frame)
+        ≡ with_tags (record { tpid = tpid; tci = bit_or tci tag_bit }) (outer_tag (key_of port frame)) (key_of port frame) }
+    ensures replace { (port tpid tci : ℕ) (frame : List ℕ)
+        → header_size ≤ length frame → 1 ≤ tag_count frame → is_tag_type tpid ≡ true → tci < 2 ^ 16
+        → key_of port (after_action (PushVlan tpid tci) (after_action PopVlan frame))
+        ≡ with_tags (record { tpid = tpid; tci = bit_or tci tag_bit }) (inner_tag (key_of port frame)) (key_of port frame) }
     ensures pop { (port : ℕ) (frame : List ℕ)
-        → header_size ≤ length frame → is_tagged frame ≡ true → is_tagged (after_action PopVlan frame) ≡ false
-        → key_of port (after_action PopVlan frame) ≡ with_value VlanTci 0 (key_of port frame) }
+        → header_size ≤ length frame → 1 ≤ tag_count frame → has_third_tag frame ≡ false
+        → key_of port (after_action PopVlan frame) ≡ popped (key_of port frame) }
 {}

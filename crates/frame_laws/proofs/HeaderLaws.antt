@@ -1,5 +1,5 @@
 -- Where the headers of a frame stand.
-use Rattle.std.proofs.Common.{◌≡◌, ◌≢◌, ℕ, ◌+◌, ◌-◌, ◌≤◌, Bool, true, false, ◌&&◌, ◌==◌, nat_le, if◌then◌else◌, List, length, slice_index, Option, Some, None, option_map, IfSome, refl, sym, ap, ◌∙◌, subst, arith}
+use Rattle.std.proofs.Common.{◌≡◌, ◌≢◌, ℕ, ◌+◌, ◌*◌, ◌-◌, ◌≤◌, Bool, true, false, ◌&&◌, ◌==◌, nat_le, if◌then◌else◌, List, length, slice_index, Option, Some, None, option_map, IfSome, refl, sym, ap, ◌∙◌, subst, arith}
 use Rattle.std.proofs.lemmas.Bool.{cond_both, eqb-true, leb-true, and_parts}
 use Rattle.spec_base.specs.Bytes.{big_endian_at}
 use Rattle.spec_keys.specs.Protocols.{arp_type, ipv4_type, ipv6_type, tcp_protocol, udp_protocol, icmp_protocol, icmp6_protocol}
@@ -13,7 +13,7 @@ use Rattle.spec_frames.specs.declared.layout.L3.{L3}
 use Rattle.spec_frames.specs.declared.layout.L3.TheVariants as l3
 use Rattle.spec_frames.specs.declared.layout.L4.{L4}
 use Rattle.spec_frames.specs.declared.layout.L4.TheVariants as l4
-use Rattle.spec_frames.specs.Ethernet.{header_size, tag_size, type_size, type_at, no_type, least_type, is_tagged, is_snap, carried_by, carried}
+use Rattle.spec_frames.specs.Ethernet.{header_size, tag_size, type_size, type_at, no_type, inner_at, least_type, is_tag_at, tag_count, is_snap, carried_by, carried}
 use Rattle.spec_frames.specs.Arp.{is_arp, packet_size}
 use Rattle.spec_frames.specs.Ipv4 as ipv4
 use Rattle.spec_frames.specs.Ipv6 as ipv6
@@ -41,20 +41,23 @@ carried_by-IsTyped frame at =
     (λ s. record { begins = omega arith; after_type = λ ne. ap (big_endian_at type_size frame) (omega arith) })
     (λ s. record { begins = omega arith; after_type = λ ne. absurd (ne refl) }))
 
-pub carried-IsTyped : (frame : List ℕ) → IsTyped frame (if is_tagged frame then header_size + tag_size else header_size) (carried frame)
-unfolding carried
-carried-IsTyped frame = at (is_tagged frame)
+pub tag_count-few : (frame : List ℕ) → tag_count frame ≤ 2
+unfolding tag_count
+tag_count-few frame = at (is_tag_at frame type_at) (is_tag_at frame inner_at)
   where
-    at : (t : Bool) → IsTyped frame (if t then header_size + tag_size else header_size) (if t then carried_by frame (type_at + tag_size) else carried_by frame type_at)
-    at true = carried_by-IsTyped frame (type_at + tag_size)
-    at false = carried_by-IsTyped frame type_at
+    at : (outer inner : Bool) → (if outer then (if inner then 2 else 1) else 0) ≤ 2
+    at true true = omega arith
+    at true false = omega arith
+    at false inner = omega arith
+
+pub carried-IsTyped : (frame : List ℕ) → IsTyped frame (header_size + tag_count frame * tag_size) (carried frame)
+unfolding carried
+carried-IsTyped frame =
+    let c = carried_by-IsTyped frame (type_at + tag_count frame * tag_size) in
+    record { begins = omega (arith, c.begins); after_type = c.after_type }
 
 pub carried-least : (frame : List ℕ) → header_size ≤ (carried frame).at
-carried-least frame = by (is_tagged frame) (carried-IsTyped frame).begins
-  where
-    by : (t : Bool) → (if t then header_size + tag_size else header_size) ≤ (carried frame).at → header_size ≤ (carried frame).at
-    by true l = omega arith
-    by false l = l
+carried-least frame = let c = carried-IsTyped frame in omega (arith, c.begins)
 
 -- ---- network headers
 
@@ -135,17 +138,16 @@ NetworkFollows frame layout (l3.Ipv4 at) = FollowsType frame layout ipv4_type ip
 NetworkFollows frame layout (l3.Ipv6 at) = FollowsType frame layout ipv6_type ipv6.header_size at
 
 to_FollowsType : (frame : List ℕ) (n : Network) (number size at : ℕ) → number ≢ no_type → (at ≡ (carried frame).at) × ((carried frame).dl_type ≡ number)
-    → at + size ≤ length frame → FollowsType frame (layout_with (is_tagged frame) n) number size at
+    → at + size ≤ length frame → FollowsType frame (layout_with (tag_count frame) n) number size at
 to_FollowsType frame n number size at some same within =
     let c = carried-IsTyped frame in
     record {
-      after_ethernet = subst (λ (z : ℕ). header_size ≤ z) (sym same.0) (carried-least frame);
-      after_tag = λ t. subst (λ (z : ℕ). header_size + tag_size ≤ z) (sym same.0) (subst (λ (b : Bool). (if b then header_size + tag_size else header_size) ≤ (carried frame).at) t c.begins);
+      after_tags = subst (λ (z : ℕ). header_size + tag_count frame * tag_size ≤ z) (sym same.0) c.begins;
       after_type = ap (λ (z : ℕ). big_endian_at type_size frame (z - type_size)) same.0 ∙ c.after_type (λ e. some (sym same.1 ∙ e)) ∙ same.1;
       is_within = within;
     }
 
-to_NetworkFollows : (frame : List ℕ) (n : Network) → IsOfType frame n → IsPlaced frame n → NetworkFollows frame (layout_with (is_tagged frame) n) (place_of_network n)
+to_NetworkFollows : (frame : List ℕ) (n : Network) → IsOfType frame n → IsPlaced frame n → NetworkFollows frame (layout_with (tag_count frame) n) (place_of_network n)
 to_NetworkFollows frame Nothing t h = tt
 to_NetworkFollows frame (Arp at) t h = to_FollowsType frame (Arp at) arp_type packet_size at (omega arith) t h
 to_NetworkFollows frame (Ipv4 at d) t h = to_FollowsType frame (Ipv4 at d) ipv4_type ipv4.least_header_size at (omega arith) t h.0
@@ -166,7 +168,7 @@ TransportFollows frame layout (l4.Icmp at) = FollowsIp frame layout icmp_size at
 TransportFollows frame layout (l4.Icmp6 at) = FollowsIp frame layout icmp6_size at
 
 -- in a packet with such a network header
-module _ (frame : List ℕ) (t : Bool) where
+module _ (frame : List ℕ) (t : ℕ) where
   to_FollowsIp : (n : Network) → IsPlaced frame n → (number size at : ℕ) → 1 ≤ size → Fits frame n number size at
       → FollowsIp frame (layout_with t n) size at
   to_FollowsIp Nothing h number size at some f = let there = f.is_there in absurd (omega arith)
@@ -188,4 +190,4 @@ unfolding transport
 transport_follows frame header e =
     subst (TransportFollows frame (layout_of frame)) e
     (by_length 0 frame (λ key layout. TransportFollows frame layout layout.l4) (λ short. tt)
-    (λ whole. to_TransportFollows frame (is_tagged frame) (network frame) (network-IsPlaced frame) (transport (network frame)) (transport-tells frame (network frame))))
+    (λ whole. to_TransportFollows frame (tag_count frame) (network frame) (network-IsPlaced frame) (transport (network frame)) (transport-tells frame (network frame))))

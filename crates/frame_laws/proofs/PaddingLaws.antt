@@ -3,12 +3,12 @@ use Rattle.std.proofs.Common.{◌≡◌, ◌≢◌, ℕ, zero, suc, ◌+◌, ◌
 use Rattle.std.proofs.lemmas.Bool.{le-leb, leb-true, and_from, cond_both, cases_lt}
 use Rattle.std.proofs.lemmas.List.{get_or_append_left, get_or-take, length-append, length-take-le}
 use Rattle.spec_base.specs.Bytes.{big_endian_at}
-use Rattle.spec_frames.specs.Ethernet.{header_size, is_tag_type, is_tagged, tci_of, carried_by, carried}
+use Rattle.spec_frames.specs.Ethernet.{header_size, is_tag_at, tag_count, tci_at, carried_by, carried}
 use Rattle.spec_frames.specs.Arp.{packet_size, is_arp}
 use Rattle.spec_frames.specs.Ipv4 as ipv4
 use Rattle.spec_frames.specs.Ipv6 as ipv6
 use Rattle.spec_frames.specs.Ipv6.{extension_size, upper_layer}
-use Rattle.spec_keys.specs.Protocols.{arp_type, ipv4_type, ipv6_type, tcp_protocol, udp_protocol, icmp_protocol, icmp6_protocol}
+use Rattle.spec_keys.specs.Protocols.{is_tag_type, arp_type, ipv4_type, ipv6_type, tcp_protocol, udp_protocol, icmp_protocol, icmp6_protocol}
 use Rattle.spec_frames.specs.declared.headers.Datagram.{Datagram}
 use Rattle.spec_frames.specs.declared.headers.Fragment.{Fragment}
 use Rattle.spec_frames.specs.declared.headers.Fragment.TheVariants.{Whole, First, Later}
@@ -27,7 +27,7 @@ use Rattle.spec_frames.specs.Layout.{place_of_network, layout_with, layout_of}
 use Rattle.frame_laws.specs.Headers.{end_by, packet_end}
 use Rattle.key_laws.proofs.Forms.{by_network, ethernet_of, short-layout, whole-key, whole-layout}
 use Rattle.frame_laws.proofs.TransportLaws.{Fits, Told, transport-tells}
-use Rattle.frame_laws.proofs.HeaderLaws.{carried-least, HasSizes, is_ipv4-HasSizes}
+use Rattle.frame_laws.proofs.HeaderLaws.{tag_count-few, carried-least, HasSizes, is_ipv4-HasSizes}
 
 -- ---- a network header, by what shows it
 
@@ -101,9 +101,13 @@ module _ (a b : List ℕ) (end : ℕ) (same : (i : ℕ) → i < end → slice_in
   size-same : (at : ℕ) → at ≤ end → nat_le at (length b) ≡ nat_le at (length a)
   size-same at l = le-leb at (length b) (omega arith) ∙ sym (le-leb at (length a) (omega arith))
 
-  is_tagged-same : 18 ≤ end → is_tagged b ≡ is_tagged a
-  unfolding is_tagged
-  is_tagged-same l = ap₂ (λ (t : Bool) (number : ℕ). t && is_tag_type number) (size-same 18 l) (big_endian_at-same 2 12 (omega arith))
+  is_tag_at-same : (at : ℕ) → at + 6 ≤ end → is_tag_at b at ≡ is_tag_at a at
+  unfolding is_tag_at
+  is_tag_at-same at l = ap₂ (λ (t : Bool) (number : ℕ). t && is_tag_type number) (size-same (at + 4 + 2) (omega arith)) (big_endian_at-same 2 at (omega arith))
+
+  tag_count-same : 22 ≤ end → tag_count b ≡ tag_count a
+  unfolding tag_count
+  tag_count-same l = rw (is_tag_at-same 12 (omega arith), is_tag_at-same 16 l) refl
 
   carried_by-same : (at : ℕ) → at + 10 ≤ end → carried_by b at ≡ carried_by a at
   unfolding carried_by
@@ -115,14 +119,23 @@ module _ (a b : List ℕ) (end : ℕ) (same : (i : ℕ) → i < end → slice_in
         big_endian_at-same 2 (at + 2 + 6) (omega arith),
       ) refl
 
-  carried-same : 26 ≤ end → carried b ≡ carried a
+  carried-same : 30 ≤ end → carried b ≡ carried a
   unfolding carried
-  carried-same l = rw (is_tagged-same (omega arith), carried_by-same 12 (omega arith), carried_by-same 16 (omega arith)) refl
+  carried-same l = rw (tag_count-same (omega arith)) (carried_by-same (12 + tag_count a * 4) (let few = tag_count-few a in omega arith))
 
-  ethernet_of-same : 26 ≤ end → (port : ℕ) → ethernet_of port b ≡ ethernet_of port a
-  unfolding tci_of
+  ethernet_of-same : 30 ≤ end → (port : ℕ) → ethernet_of port b ≡ ethernet_of port a
+  unfolding tci_at
   ethernet_of-same l port =
-      rw (big_endian_at-same 6 0 (omega arith), big_endian_at-same 6 6 (omega arith), carried-same l, is_tagged-same (omega arith), big_endian_at-same 2 14 (omega arith)) refl
+      rw (
+        big_endian_at-same 6 0 (omega arith),
+        big_endian_at-same 6 6 (omega arith),
+        carried-same l,
+        tag_count-same (omega arith),
+        big_endian_at-same 2 12 (omega arith),
+        big_endian_at-same 2 14 (omega arith),
+        big_endian_at-same 2 16 (omega arith),
+        big_endian_at-same 2 18 (omega arith),
+      ) refl
 
   -- ---- network headers
 
@@ -274,7 +287,7 @@ module _ (a b : List ℕ) (end : ℕ) (same : (i : ℕ) → i < end → slice_in
 
     layout-same : layout_of b ≡ layout_of a
     layout-same =
-        whole-layout b (omega (arith, least)) ∙ (ap₂ layout_with (is_tagged-same (omega (arith, least))) network-same ∙ sym (whole-layout a (omega (arith, least))))
+        whole-layout b (omega (arith, least)) ∙ (ap₂ layout_with (tag_count-same (omega (arith, least))) network-same ∙ sym (whole-layout a (omega (arith, least))))
 
 -- ---- padding
 

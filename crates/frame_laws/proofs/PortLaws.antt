@@ -19,7 +19,7 @@ use Rattle.spec_frames.specs.Transport.{unless_later, transport}
 use Rattle.spec_frames.specs.Layout.{layout_of}
 use Rattle.spec_frames.specs.Key.{port_size, ip_frag, shown, with_datagram, with_transport, with_network, key_of}
 use Rattle.frame_laws.specs.Numbers.{HasPorts}
-use Rattle.key_laws.proofs.Forms.{ethernet_key, with_addresses, by_length}
+use Rattle.key_laws.proofs.Forms.{Tags, no_tags, tags_of, ethernet_key, with_addresses, by_length}
 
 -- ---- the fields of a key by its network header
 
@@ -57,34 +57,34 @@ pub record Shows (frame : List ℕ) (part : Fragment) (number : ℕ) (header : L
   pub protocol : value_of key NwProto ≡ number
   pub ports : HasPorts key (source_in frame header) (destination_in frame header)
 
-with_transport-Shows : (frame : List ℕ) (h : L4) (d : Datagram) (port source destination dl_type tci nw_src nw_dst ipv6_src ipv6_dst : ℕ)
+with_transport-Shows : (frame : List ℕ) (h : L4) (d : Datagram) (port source destination dl_type : ℕ) (t : Tags) (nw_src nw_dst ipv6_src ipv6_dst : ℕ)
     → Shows frame d.upper.fragment d.upper.protocol h
-    (with_transport frame h (with_datagram d (with_addresses nw_src nw_dst ipv6_src ipv6_dst (ethernet_key port source destination dl_type tci))))
+    (with_transport frame h (with_datagram d (with_addresses nw_src nw_dst ipv6_src ipv6_dst (ethernet_key port source destination dl_type t))))
 unfolding with_transport none
-with_transport-Shows frame transport.None d port source destination dl_type tci nw_src nw_dst ipv6_src ipv6_dst =
+with_transport-Shows frame transport.None d port source destination dl_type t nw_src nw_dst ipv6_src ipv6_dst =
     record { fragment = refl; protocol = refl; ports = record { tp_src = refl; tp_dst = refl } }
-with_transport-Shows frame (transport.Tcp at) d port source destination dl_type tci nw_src nw_dst ipv6_src ipv6_dst =
+with_transport-Shows frame (transport.Tcp at) d port source destination dl_type t nw_src nw_dst ipv6_src ipv6_dst =
     record { fragment = refl; protocol = refl; ports = record { tp_src = refl; tp_dst = refl } }
-with_transport-Shows frame (transport.Udp at) d port source destination dl_type tci nw_src nw_dst ipv6_src ipv6_dst =
+with_transport-Shows frame (transport.Udp at) d port source destination dl_type t nw_src nw_dst ipv6_src ipv6_dst =
     record { fragment = refl; protocol = refl; ports = record { tp_src = refl; tp_dst = refl } }
-with_transport-Shows frame (transport.Icmp at) d port source destination dl_type tci nw_src nw_dst ipv6_src ipv6_dst =
+with_transport-Shows frame (transport.Icmp at) d port source destination dl_type t nw_src nw_dst ipv6_src ipv6_dst =
     record { fragment = refl; protocol = refl; ports = record { tp_src = refl; tp_dst = refl } }
-with_transport-Shows frame (transport.Icmp6 at) d port source destination dl_type tci nw_src nw_dst ipv6_src ipv6_dst =
+with_transport-Shows frame (transport.Icmp6 at) d port source destination dl_type t nw_src nw_dst ipv6_src ipv6_dst =
     record { fragment = refl; protocol = refl; ports = record { tp_src = refl; tp_dst = refl } }
 
 -- the transport header that a key shows
 abbrev header_in : Network → L4
 header_in n = shown (part_of n) (transport n)
 
-pub network-Shows : (frame : List ℕ) (n : Network) (port source destination dl_type tci : ℕ)
-    → Shows frame (part_of n) (protocol_in frame n) (header_in n) (with_network frame n (ethernet_key port source destination dl_type tci))
+pub network-Shows : (frame : List ℕ) (n : Network) (port source destination dl_type : ℕ) (t : Tags)
+    → Shows frame (part_of n) (protocol_in frame n) (header_in n) (with_network frame n (ethernet_key port source destination dl_type t))
 unfolding with_network none transport
-network-Shows frame Nothing port source destination dl_type tci = record { fragment = refl; protocol = refl; ports = record { tp_src = refl; tp_dst = refl } }
-network-Shows frame (Arp at) port source destination dl_type tci = record { fragment = refl; protocol = refl; ports = record { tp_src = refl; tp_dst = refl } }
-network-Shows frame (Ipv4 at d) port source destination dl_type tci =
-    with_transport-Shows frame (header_in (Ipv4 at d)) d port source destination dl_type tci (ipv4.source frame at) (ipv4.destination frame at) 0 0
-network-Shows frame (Ipv6 at d) port source destination dl_type tci =
-    with_transport-Shows frame (header_in (Ipv6 at d)) d port source destination dl_type tci 0 0 (ipv6.source frame at) (ipv6.destination frame at)
+network-Shows frame Nothing port source destination dl_type t = record { fragment = refl; protocol = refl; ports = record { tp_src = refl; tp_dst = refl } }
+network-Shows frame (Arp at) port source destination dl_type t = record { fragment = refl; protocol = refl; ports = record { tp_src = refl; tp_dst = refl } }
+network-Shows frame (Ipv4 at d) port source destination dl_type t =
+    with_transport-Shows frame (header_in (Ipv4 at d)) d port source destination dl_type t (ipv4.source frame at) (ipv4.destination frame at) 0 0
+network-Shows frame (Ipv6 at d) port source destination dl_type t =
+    with_transport-Shows frame (header_in (Ipv6 at d)) d port source destination dl_type t 0 0 (ipv6.source frame at) (ipv6.destination frame at)
 
 -- ---- the laws
 
@@ -97,8 +97,8 @@ record Seen (frame key : List ℕ) (layout : Layout) : Type 0 where
 seen : (port : ℕ) (frame : List ℕ) → Seen frame (key_of port frame) (layout_of frame)
 seen port frame =
     by_length port frame (Seen frame)
-    (λ l. record { n = Nothing; shows = network-Shows frame Nothing port 0 0 0 0; named = refl })
-    (λ l. record { n = network frame; shows = network-Shows frame (network frame) port _ _ _ _; named = refl })
+    (λ l. record { n = Nothing; shows = network-Shows frame Nothing port 0 0 0 no_tags; named = refl })
+    (λ l. record { n = network frame; shows = network-Shows frame (network frame) port _ _ _ (tags_of frame); named = refl })
 
 -- the header that is named is shown in a packet that is no fragment
 whole-header : (n : Network) → ip_frag (part_of n) ≡ ip_frag Whole → header_in n ≡ transport n

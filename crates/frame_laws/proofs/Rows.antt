@@ -5,7 +5,7 @@ use Rattle.spec_keys.specs.declared.field_id.FieldId.TheVariants.{IpFrag}
 use Rattle.spec_keys.specs.Keys.{none, value_of}
 use Rattle.spec_frames.specs.declared.layout.L3.TheVariants.{Arp, Ipv4, Ipv6}
 use Rattle.spec_frames.specs.declared.layout.L4.TheVariants.{None, Udp}
-use Rattle.spec_frames.specs.Ethernet.{is_tagged, tci_of, carried, carried_by}
+use Rattle.spec_frames.specs.Ethernet.{is_tag_at, tag_count, tci_at, carried, carried_by}
 use Rattle.spec_frames.specs.Arp.{is_arp}
 use Rattle.spec_frames.specs.Ipv4.{is_ipv4, ipv4}
 use Rattle.spec_frames.specs.Ipv6.{ipv6, upper_layer}
@@ -31,25 +31,25 @@ udp_over_ipv4 high low =
 
 a_padded_frame_ends_after_its_packet :
     ((layout_of (udp_over_ipv4 0 0)).l3 ≡ Ipv4 14) × (packet_end (udp_over_ipv4 0 0) ≡ 42) × (length (udp_over_ipv4 0 0) ≡ 60)
-unfolding layout_of big_endian_at is_tagged carried carried_by network_at is_ipv4 ipv4
+unfolding layout_of big_endian_at is_tag_at tag_count carried carried_by network_at is_ipv4 ipv4
 a_padded_frame_ends_after_its_packet = (refl, refl, refl)
 
 a_whole_packet_shows_its_ports :
     ((layout_of (udp_over_ipv4 0 0)).l4 ≡ Udp 34)
     × (value_of (key_of 7 (udp_over_ipv4 0 0)) IpFrag ≡ 0)
     × HasPorts (key_of 7 (udp_over_ipv4 0 0)) 1000 53
-unfolding layout_of key_of none big_endian_at is_tagged tci_of carried carried_by network_at is_ipv4 ipv4 transport with_transport with_network
+unfolding layout_of key_of none big_endian_at is_tag_at tag_count tci_at carried carried_by network_at is_ipv4 ipv4 transport with_transport with_network
 a_whole_packet_shows_its_ports = (refl, refl, record { tp_src = refl; tp_dst = refl })
 
 a_first_fragment_has_a_header_and_no_ports :
     ((layout_of (udp_over_ipv4 0x20 0)).l4 ≡ Udp 34)
     × (value_of (key_of 7 (udp_over_ipv4 0x20 0)) IpFrag ≡ 1)
     × HasPorts (key_of 7 (udp_over_ipv4 0x20 0)) 0 0
-unfolding layout_of key_of none big_endian_at is_tagged tci_of carried carried_by network_at is_ipv4 ipv4 transport with_transport with_network
+unfolding layout_of key_of none big_endian_at is_tag_at tag_count tci_at carried carried_by network_at is_ipv4 ipv4 transport with_transport with_network
 a_first_fragment_has_a_header_and_no_ports = (refl, refl, record { tp_src = refl; tp_dst = refl })
 
 a_later_fragment_has_no_header : ((layout_of (udp_over_ipv4 0 1)).l4 ≡ None) × (value_of (key_of 7 (udp_over_ipv4 0 1)) IpFrag ≡ 3)
-unfolding layout_of key_of none big_endian_at is_tagged tci_of carried carried_by network_at is_ipv4 ipv4 transport with_transport with_network
+unfolding layout_of key_of none big_endian_at is_tag_at tag_count tci_at carried carried_by network_at is_ipv4 ipv4 transport with_transport with_network
 a_later_fragment_has_no_header = (refl, refl)
 
 -- over IPv6, after options for the destination, in a frame of 72 bytes
@@ -64,7 +64,7 @@ an_upper_layer_begins_after_extension_headers :
     × (upper_at (network udp_over_ipv6) ≡ 62)
     × (upper_size (network udp_over_ipv6) ≡ 8)
     × (packet_end udp_over_ipv6 ≡ 70)
-unfolding layout_of big_endian_at is_tagged carried carried_by network_at ipv6 upper_layer transport
+unfolding layout_of big_endian_at is_tag_at tag_count carried carried_by network_at ipv6 upper_layer transport
 an_upper_layer_begins_after_extension_headers = (refl, refl, refl, refl, refl)
 
 -- a request after a tag
@@ -73,5 +73,5 @@ arp_after_a_tag =
     addresses ++ ((0x81 ∷ 0 ∷ 0 ∷ 5 ∷ 8 ∷ 6 ∷ 0 ∷ 1 ∷ 8 ∷ 0 ∷ 6 ∷ 4 ∷ 0 ∷ 1 ∷ []) ++ replicate 34 0)
 
 a_header_after_a_tag_begins_at_18 : ((layout_of arp_after_a_tag).l3 ≡ Arp 18) × (packet_end arp_after_a_tag ≡ 46) × (length arp_after_a_tag ≡ 60)
-unfolding layout_of big_endian_at is_tagged carried carried_by network_at is_arp
+unfolding layout_of big_endian_at is_tag_at tag_count carried carried_by network_at is_arp
 a_header_after_a_tag_begins_at_18 = (refl, refl, refl)

@@ -1,5 +1,5 @@
 -- Where the headers of a frame stand, and where they end.
-use Rattle.std.specs.Prelude.{◌≡◌, ℕ, ◌+◌, ◌-◌, ◌≤◌, Bool, true, false, ◌||◌, List, length, IsTrue}
+use Rattle.std.specs.Prelude.{◌≡◌, ℕ, ◌+◌, ◌*◌, ◌-◌, ◌≤◌, Bool, true, false, ◌||◌, List, length}
 use Rattle.spec_base.specs.Bytes.{big_endian_at}
 use Rattle.spec_frames.specs.declared.headers.Network.{Network}
 use Rattle.spec_frames.specs.declared.headers.Network.TheVariants as network
@@ -46,11 +46,10 @@ upper_size (network.Ipv4 at d) = d.end - d.upper.at
 upper_size (network.Ipv6 at d) = d.end - d.upper.at
 upper_size other = 0
 
--- A network header of this type begins after the type field that says so, and after the tag where there is one. So
--- many bytes of it at least lie in the frame.
+-- A network header of this type begins after the type field that says so, which stands after the tags. So many bytes of
+-- it at least lie in the frame.
 pub record FollowsType (frame : List ℕ) (layout : Layout) (dl_type size at : ℕ) : Type 0 where
-  pub after_ethernet : header_size ≤ at
-  pub after_tag : IsTrue layout.tagged → header_size + tag_size ≤ at
+  pub after_tags : header_size + layout.tags * tag_size ≤ at
   pub after_type : big_endian_at type_size frame (at - type_size) ≡ dl_type
   pub is_within : at + size ≤ length frame
 

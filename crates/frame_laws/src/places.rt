@@ -28,7 +28,7 @@ pub fn transport_is_named_where_it_stands()
 {}
 
 /// The headers that the layout names follow each other and lie in the frame. A network header begins after its type
-/// field, so at 14 or later, and at 18 or later after a tag; of ARP there are 28 bytes, of IPv4 20 and of IPv6 40. A
+/// field, so at 14 or later, and four bytes later for each tag; of ARP there are 28 bytes, of IPv4 20 and of IPv6 40. A
 /// transport header begins after these bytes of an IP header; of TCP there are 20 bytes, of UDP and ICMP 8 and of
 /// ICMPv6 4.
 pub fn headers_follow_each_other()

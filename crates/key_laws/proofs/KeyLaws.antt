@@ -1,5 +1,5 @@
 -- What every key of a frame has in common.
-use Rattle.std.proofs.Common.{◌≡◌, ◌≢◌, ℕ, zero, suc, ◌+◌, ◌/◌, ◌^◌, ◌<◌, ◌≤◌, ◌&&◌, ◌==◌, nat_le, nat_lt, if◌then◌else◌, List, ◌∷◌, length, get_or, take, replicate, slice_index, Option, Some, None, option_map, IfSome, All, ◌⊎◌, inl, inr, refl, sym, ap, ◌∙◌, subst, arith}
+use Rattle.std.proofs.Common.{◌≡◌, ◌≢◌, ℕ, zero, suc, ◌+◌, ◌*◌, ◌/◌, ◌^◌, ◌<◌, ◌≤◌, ◌&&◌, ◌==◌, nat_le, nat_lt, Bool, if◌then◌else◌, List, ◌∷◌, length, get_or, take, replicate, slice_index, Option, Some, None, option_map, IfSome, All, ◌⊎◌, inl, inr, refl, sym, ap, ◌∙◌, subst, arith}
 use Rattle.std.proofs.Math.Nat.{mul-le-mul_right, pow-succ', mod-lt}
 use Rattle.std.proofs.lemmas.Nat.{pow_pos, or_lt}
 use Rattle.std.proofs.lemmas.Bool.{cases_lt, cases_eq, cond_both, ltb-true}
@@ -7,7 +7,7 @@ use Rattle.std.proofs.lemmas.List.{get_or-take, get_or-replicate, get_or_past, g
 use Rattle.std.proofs.lemmas.List.Elements.{All-get_or}
 use Rattle.spec_base.specs.Bytes.{big_endian_at}
 use Rattle.spec_keys.specs.declared.field_id.FieldId.{FieldId}
-use Rattle.spec_keys.specs.declared.field_id.FieldId.TheVariants.{InPort, DlSrc, DlDst, DlType, VlanTci, NwSrc, NwDst, Ipv6Src, Ipv6Dst, NwProto, NwTos, NwTtl, IpFrag, ArpSha, ArpTha, TpSrc, TpDst}
+use Rattle.spec_keys.specs.declared.field_id.FieldId.TheVariants.{InPort, DlSrc, DlDst, DlType, VlanTci, VlanTpid, VlanTci2, VlanTpid2, NwSrc, NwDst, Ipv6Src, Ipv6Dst, NwProto, NwTos, NwTtl, IpFrag, ArpSha, ArpTha, TpSrc, TpDst}
 use Rattle.spec_keys.specs.Fields.{place_of, width_of, widths, field_count}
 use Rattle.spec_keys.specs.Keys.{number_at, none, IsKey, IsClean}
 use Rattle.spec_frames.specs.declared.headers.Carried.{Carried}
@@ -19,38 +19,38 @@ use Rattle.spec_frames.specs.declared.headers.Network.{Network}
 use Rattle.spec_frames.specs.declared.headers.Network.TheVariants.{Nothing, Arp, Ipv4, Ipv6}
 use Rattle.spec_frames.specs.declared.layout.L4.{L4}
 use Rattle.spec_frames.specs.declared.layout.L4.TheVariants as transport
-use Rattle.spec_frames.specs.Ethernet.{type_at, type_size, tag_size, least_type, is_snap, is_tagged, tci_of, carried_by, carried}
+use Rattle.spec_frames.specs.Ethernet.{type_at, type_size, tag_size, inner_at, least_type, is_snap, tag_count, tci_at, carried_by, carried}
 use Rattle.spec_frames.specs.Arp as arp
 use Rattle.spec_frames.specs.Ipv4 as ipv4
 use Rattle.spec_frames.specs.Ipv6 as ipv6
 use Rattle.spec_frames.specs.Network.{network}
 use Rattle.spec_frames.specs.Key.{with_value, ip_frag, with_numbers, with_arp, with_datagram, with_transport, with_network, key_of}
-use Rattle.key_laws.proofs.Forms.{by_network, ethernet_key, with_addresses, by_length}
+use Rattle.key_laws.proofs.Forms.{Tags, no_tags, tags_of, by_network, ethernet_key, with_addresses, by_length}
 use Rattle.key_laws.proofs.Chains.{upper_layer-keeps}
 
 -- ---- metadata and registers
 
-with_transport-IsClean : (frame : List ℕ) (h : L4) (d : Datagram) (port source destination dl_type tci nw_src nw_dst ipv6_src ipv6_dst : ℕ)
-    → IsClean (with_transport frame h (with_datagram d (with_addresses nw_src nw_dst ipv6_src ipv6_dst (ethernet_key port source destination dl_type tci))))
+with_transport-IsClean : (frame : List ℕ) (h : L4) (d : Datagram) (port source destination dl_type : ℕ) (t : Tags) (nw_src nw_dst ipv6_src ipv6_dst : ℕ)
+    → IsClean (with_transport frame h (with_datagram d (with_addresses nw_src nw_dst ipv6_src ipv6_dst (ethernet_key port source destination dl_type t))))
 unfolding with_transport none
-with_transport-IsClean frame transport.None d port source destination dl_type tci nw_src nw_dst ipv6_src ipv6_dst = refl
-with_transport-IsClean frame (transport.Tcp at) d port source destination dl_type tci nw_src nw_dst ipv6_src ipv6_dst = refl
-with_transport-IsClean frame (transport.Udp at) d port source destination dl_type tci nw_src nw_dst ipv6_src ipv6_dst = refl
-with_transport-IsClean frame (transport.Icmp at) d port source destination dl_type tci nw_src nw_dst ipv6_src ipv6_dst = refl
-with_transport-IsClean frame (transport.Icmp6 at) d port source destination dl_type tci nw_src nw_dst ipv6_src ipv6_dst = refl
+with_transport-IsClean frame transport.None d port source destination dl_type t nw_src nw_dst ipv6_src ipv6_dst = refl
+with_transport-IsClean frame (transport.Tcp at) d port source destination dl_type t nw_src nw_dst ipv6_src ipv6_dst = refl
+with_transport-IsClean frame (transport.Udp at) d port source destination dl_type t nw_src nw_dst ipv6_src ipv6_dst = refl
+with_transport-IsClean frame (transport.Icmp at) d port source destination dl_type t nw_src nw_dst ipv6_src ipv6_dst = refl
+with_transport-IsClean frame (transport.Icmp6 at) d port source destination dl_type t nw_src nw_dst ipv6_src ipv6_dst = refl
 
-with_network-IsClean : (frame : List ℕ) (n : Network) (port source destination dl_type tci : ℕ)
-    → IsClean (with_network frame n (ethernet_key port source destination dl_type tci))
+with_network-IsClean : (frame : List ℕ) (n : Network) (port source destination dl_type : ℕ) (t : Tags)
+    → IsClean (with_network frame n (ethernet_key port source destination dl_type t))
 unfolding with_network none
-with_network-IsClean frame Nothing port source destination dl_type tci = refl
-with_network-IsClean frame (Arp at) port source destination dl_type tci = refl
-with_network-IsClean frame (Ipv4 at d) port source destination dl_type tci = with_transport-IsClean frame _ d port source destination dl_type tci _ _ 0 0
-with_network-IsClean frame (Ipv6 at d) port source destination dl_type tci = with_transport-IsClean frame _ d port source destination dl_type tci 0 0 _ _
+with_network-IsClean frame Nothing port source destination dl_type t = refl
+with_network-IsClean frame (Arp at) port source destination dl_type t = refl
+with_network-IsClean frame (Ipv4 at d) port source destination dl_type t = with_transport-IsClean frame _ d port source destination dl_type t _ _ 0 0
+with_network-IsClean frame (Ipv6 at d) port source destination dl_type t = with_transport-IsClean frame _ d port source destination dl_type t 0 0 _ _
 
 pub key_of-IsClean : (port : ℕ) (frame : List ℕ) → IsClean (key_of port frame)
 key_of-IsClean port frame =
-    by_length port frame (λ key layout. IsClean key) (λ short. with_network-IsClean frame Nothing port 0 0 0 0)
-    (λ whole. with_network-IsClean frame (network frame) port _ _ _ _)
+    by_length port frame (λ key layout. IsClean key) (λ short. with_network-IsClean frame Nothing port 0 0 0 no_tags)
+    (λ whole. with_network-IsClean frame (network frame) port _ _ _ (tags_of frame))
 
 -- ---- widths
 
@@ -87,10 +87,22 @@ with_value-IsKey f value key l k =
         (rw (get_or-set_same key (place_of f) value 0 within, widths-at f) l)
     at place (inr ne) = rw (get_or-set_other key (place_of f) place value 0 ne) (k.fit place)
 
-ethernet_key-IsKey : (port source destination dl_type tci : ℕ) → port < 2 ^ 16 → source < 2 ^ 48 → destination < 2 ^ 48 → dl_type < 2 ^ 16 → tci < 2 ^ 16
-    → IsKey (ethernet_key port source destination dl_type tci)
-ethernet_key-IsKey port source destination dl_type tci a b c d e =
-    with_value-IsKey DlType dl_type _ d (with_value-IsKey VlanTci tci _ e (with_value-IsKey DlSrc source _ b (with_value-IsKey DlDst destination _ c (with_value-IsKey InPort port none a none-IsKey))))
+-- the numbers of tags are within their fields
+record AreTagNumbers (t : Tags) : Type 0 where
+  tci : t.tci < 2 ^ 16
+  tpid : t.tpid < 2 ^ 16
+  tci2 : t.tci2 < 2 ^ 16
+  tpid2 : t.tpid2 < 2 ^ 16
+
+no_tags-numbers : AreTagNumbers no_tags
+no_tags-numbers = record { tci = omega arith; tpid = omega arith; tci2 = omega arith; tpid2 = omega arith }
+
+ethernet_key-IsKey : (port source destination dl_type : ℕ) (t : Tags) → port < 2 ^ 16 → source < 2 ^ 48 → destination < 2 ^ 48 → dl_type < 2 ^ 16 → AreTagNumbers t
+    → IsKey (ethernet_key port source destination dl_type t)
+ethernet_key-IsKey port source destination dl_type t a b c d e =
+    with_value-IsKey DlType dl_type _ d (with_value-IsKey VlanTci2 t.tci2 _ e.tci2 (with_value-IsKey VlanTpid2 t.tpid2 _ e.tpid2
+    (with_value-IsKey VlanTci t.tci _ e.tci (with_value-IsKey VlanTpid t.tpid _ e.tpid
+    (with_value-IsKey DlSrc source _ b (with_value-IsKey DlDst destination _ c (with_value-IsKey InPort port none a none-IsKey)))))))
 
 -- ---- frames of bytes
 
@@ -124,12 +136,26 @@ module _ (frame : List ℕ) (bytes : All (λ byte. byte < 256) frame) where
 
   carried-type : (carried frame).dl_type < 2 ^ 16
   unfolding carried
-  carried-type =
-      cond_both (is_tagged frame) _ _ (λ (c : Carried). c.dl_type < 2 ^ 16) (λ t. carried_by-type (type_at + tag_size)) (λ t. carried_by-type type_at)
+  carried-type = carried_by-type (type_at + tag_count frame * tag_size)
 
-  tci-lt : (if is_tagged frame then tci_of frame else 0) < 2 ^ 16
-  unfolding tci_of
-  tci-lt = cond_both (is_tagged frame) _ _ (λ (z : ℕ). z < 2 ^ 16) (λ t. or_lt 16 _ _ (big_endian_at-lt 2 (type_at + type_size)) (omega arith)) (λ t. omega arith)
+  tci_at-lt : (at : ℕ) → tci_at frame at < 2 ^ 16
+  unfolding tci_at
+  tci_at-lt at = or_lt 16 _ _ (big_endian_at-lt 2 (at + type_size)) (omega arith)
+
+  -- a number of the outer tag, and one of the inner tag, where there are these
+  of_outer : (n : Bool) (number : ℕ) → number < 2 ^ 16 → (if n then 0 else number) < 2 ^ 16
+  of_outer n number l = cond_both n 0 number (λ (z : ℕ). z < 2 ^ 16) (λ t. omega arith) (λ t. l)
+
+  of_inner : (n o : Bool) (number : ℕ) → number < 2 ^ 16 → (if n then 0 else (if o then 0 else number)) < 2 ^ 16
+  of_inner n o number l = of_outer n _ (of_outer o number l)
+
+  tags-numbers : AreTagNumbers (tags_of frame)
+  tags-numbers = record {
+    tci = of_outer (tag_count frame == 0) _ (tci_at-lt type_at);
+    tpid = of_outer (tag_count frame == 0) _ (big_endian_at-lt 2 type_at);
+    tci2 = of_inner (tag_count frame == 0) (tag_count frame == 1) _ (tci_at-lt inner_at);
+    tpid2 = of_inner (tag_count frame == 0) (tag_count frame == 1) _ (big_endian_at-lt 2 inner_at);
+  }
 
   -- ---- IP
 
@@ -210,5 +236,5 @@ module _ (frame : List ℕ) (bytes : All (λ byte. byte < 256) frame) where
   pub key_of-IsKey : (port : ℕ) → port < 2 ^ 16 → IsKey (key_of port frame)
   key_of-IsKey port l =
       by_length port frame (λ key layout. IsKey key)
-      (λ short. with_network-IsKey Nothing _ tt (ethernet_key-IsKey port 0 0 0 0 l (omega arith) (omega arith) (omega arith) (omega arith)))
-      (λ whole. with_network-IsKey (network frame) _ network-Fit (ethernet_key-IsKey port _ _ _ _ l (big_endian_at-lt 6 _) (big_endian_at-lt 6 _) carried-type tci-lt))
+      (λ short. with_network-IsKey Nothing _ tt (ethernet_key-IsKey port 0 0 0 no_tags l (omega arith) (omega arith) (omega arith) no_tags-numbers))
+      (λ whole. with_network-IsKey (network frame) _ network-Fit (ethernet_key-IsKey port _ _ _ (tags_of frame) l (big_endian_at-lt 6 _) (big_endian_at-lt 6 _) carried-type tags-numbers))

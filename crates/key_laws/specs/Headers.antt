@@ -6,4 +6,4 @@ use Rattle.spec_frames.specs.declared.layout.L4.TheVariants as transport
 
 -- where no header stands
 abbrev pub no_headers : Layout
-no_headers = record { tagged = false; l3 = None; l4 = transport.None; routed = false }
+no_headers = record { tags = 0; l3 = None; l4 = transport.None; routed = false }

@@ -2,6 +2,7 @@
 use Rattle.std.proofs.Common.{◌≡◌, ℕ, ◌+◌, false, List, [], ◌∷◌, ◌++◌, length, refl, ap, ◌∙◌, append_assoc, Option, Some, None, Ok}
 use Rattle.std.specs.Prelude.{◌==◌}
 use Rattle.std.specs.List.{list_any}
+use Rattle.std.proofs.lemmas.Bool.{both_ways}
 use Rattle.spec_actions.specs.declared.named_field.NamedField.{NamedField}
 use Rattle.spec_actions.specs.declared.named_field.NamedField.TheVariants as field
 use Rattle.spec_actions.specs.Named.{named}
@@ -17,7 +18,7 @@ use Rattle.spec_flow_text.specs.Values.{Bits, value_of, bits_stated, needs_of, t
 use Rattle.spec_flow_text.specs.Items.{Sofar, repeats, with_part, with_shorthand, with_valued, with_bare, with_item, list_start}
 use Rattle.spec_flow_text.specs.Printed.{value_in_text, Value, shown_text}
 use Rattle.text_laws.proofs.Cuts.{split_once-front}
-use Rattle.text_laws.proofs.ItemTexts.{quiet_lacks, name_quiet, item_at}
+use Rattle.text_laws.proofs.ItemTexts.{IsInText, quiet_lacks, name_quiet, item_at}
 
 -- what was stated by parts alone
 abbrev pub holding : List Part → Sofar
@@ -66,21 +67,23 @@ short_states h word at before f = rw (short_cut h, short_named h) (with_type (at
 
 -- ---- named fields
 
-name_means : (f : NamedField) → item_named (name_of f) ≡ Some (item.Field f)
+name_means : (f : NamedField) → IsInText f → item_named (name_of f) ≡ Some (item.Field f)
 unfolding item_named field_named
-name_means field.InPort = refl
-name_means f = refl
+name_means field.VlanTpid h = absurd (both_ways false refl h)
+name_means field.VlanTci2 h = absurd (both_ways false refl h)
+name_means field.VlanTpid2 h = absurd (both_ways false refl h)
+name_means f h = refl
 
-valued : (word : EditWord) (at : ℕ) (f : NamedField) (text : List ℕ) (p : Part) (before : List Part) → (length text == 0) ≡ false → field_stated f text ≡ Some p
+valued : (word : EditWord) (at : ℕ) (f : NamedField) (text : List ℕ) (p : Part) (before : List Part) → IsInText f → (length text == 0) ≡ false → field_stated f text ≡ Some p
     → list_any (repeats p) before ≡ false → with_item word (item_at at (name_of f ++ equals_sign ∷ text)) (holding before) ≡ Ok (holding (before ++ p ∷ []))
 unfolding with_item with_valued
-valued word at f text p before there stated new =
-    rw (split_once-front equals_sign (name_of f) text (quiet_lacks equals_sign (name_of f) refl (name_quiet f)), name_means f, there, stated) (with_part-new (at + 1) p before new)
+valued word at f text p before in_text there stated new =
+    rw (split_once-front equals_sign (name_of f) text (quiet_lacks equals_sign (name_of f) refl (name_quiet f)), name_means f in_text, there, stated) (with_part-new (at + 1) p before new)
 
-pub value_states : (f : NamedField) (b s : Bits) → (length (value_in_text f b) == 0) ≡ false → value_of f (value_in_text f b) ≡ Some b → bits_stated f b ≡ Some s
+pub value_states : (f : NamedField) (b s : Bits) → IsInText f → (length (value_in_text f b) == 0) ≡ false → value_of f (value_in_text f b) ≡ Some b → bits_stated f b ≡ Some s
     → States (shown_text (Value f b)) (part (named f).field s (needs_of f) (tag_part_of f) ∷ [])
 unfolding field_stated
-value_states f b s there back stated word at before h = valued word at f (value_in_text f b) (part (named f).field s (needs_of f) (tag_part_of f)) before there (rw (back, stated) refl) h.0
+value_states f b s in_text there back stated word at before h = valued word at f (value_in_text f b) (part (named f).field s (needs_of f) (tag_part_of f)) before in_text there (rw (back, stated) refl) h.0
 
 -- no item begins a list of actions
 pub short_no_list : (at : ℕ) (h : Shorthand) → list_start (item_at at (word_of h)) ≡ None

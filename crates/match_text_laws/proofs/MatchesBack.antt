@@ -140,7 +140,7 @@ shown_readable r m s = fields_readable (shown_field m (shorthand_of m)) (readabl
 abbrev early : List FieldId
 early =
     key.InPort ∷ key.Metadata ∷ key.Reg0 ∷ key.Reg1 ∷ key.Reg2 ∷ key.Reg3 ∷ key.Reg4 ∷ key.Reg5 ∷ key.Reg6 ∷ key.Reg7 ∷ key.Reg8 ∷ key.Reg9 ∷ key.Reg10 ∷ key.Reg11 ∷ key.Reg12 ∷ key.Reg13 ∷ key.Reg14 ∷ key.Reg15 ∷
-    key.DlSrc ∷ key.DlDst ∷ key.DlType ∷ key.NwProto ∷ key.VlanTci ∷ key.NwSrc ∷ key.NwDst ∷ key.Ipv6Src ∷ key.Ipv6Dst ∷ key.NwTos ∷ key.NwTtl ∷ key.IpFrag ∷ key.ArpSha ∷ key.ArpTha ∷ key.TpSrc ∷ key.TpDst ∷ []
+    key.DlSrc ∷ key.DlDst ∷ key.DlType ∷ key.NwProto ∷ key.VlanTci ∷ key.NwSrc ∷ key.NwDst ∷ key.Ipv6Src ∷ key.Ipv6Dst ∷ key.NwTos ∷ key.NwTtl ∷ key.IpFrag ∷ key.ArpSha ∷ key.ArpTha ∷ key.TpSrc ∷ key.TpDst ∷ key.VlanTpid ∷ key.VlanTci2 ∷ key.VlanTpid2 ∷ []
 
 abbrev IsComplete : List FieldId → Type 0
 IsComplete fs = (f : FieldId) → is_in (place_of f) (seen_after [] fs) ≡ true

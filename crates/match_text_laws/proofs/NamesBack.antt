@@ -8,7 +8,7 @@ use Rattle.std.proofs.lemmas.Bool.Decides.{nat_tests}
 use Rattle.spec_base.specs.Bits.{all_bits}
 use Rattle.spec_actions.specs.declared.named_field.NamedField.{NamedField}
 use Rattle.spec_actions.specs.declared.named_field.NamedField.TheVariants as field
-use Rattle.spec_actions.specs.Named.{named}
+use Rattle.spec_actions.specs.Named.{named, is_printed_alone}
 use Rattle.spec_numbers.specs.Characters.{slash, equals_sign, is_value_character}
 use Rattle.spec_numbers.specs.Numbers.{last_port}
 use Rattle.spec_flow_text.specs.declared.shorthand.Shorthand.{Shorthand}
@@ -20,7 +20,7 @@ use Rattle.spec_flow_text.specs.Printed.{printed_form, fragment_word, value_in_t
 use Rattle.text_laws.proofs.Cuts.{lacks_by, split_once-lacks}
 use Rattle.text_laws.specs.Texts.{is_plain_character}
 use Rattle.text_laws.proofs.PlainValues.{IsPlain, plain_append, name_plain}
-use Rattle.text_laws.proofs.ItemTexts.{IsQuiet, is_quiet_character, name_quiet, decimal_quiet, decimal_there}
+use Rattle.text_laws.proofs.ItemTexts.{IsInText, IsQuiet, is_quiet_character, name_quiet, decimal_quiet, decimal_there}
 use Rattle.text_laws.proofs.ValuesBack.{ReadValues, AreAlike, IsSpelled, bits_back}
 use Rattle.text_laws.proofs.ActionsBack.{fits_written, value_quiet, value_there}
 use Rattle.match_text_laws.specs.SpelledMatches.{is_in_range, can_state}
@@ -29,6 +29,7 @@ use Rattle.match_text_laws.proofs.WordsBack.{IsWhole, IsReadable}
 
 -- the text of bits is read as these bits
 pub record IsBack (f : NamedField) (b : Bits) : Type 0 where
+  pub in_text : IsInText f
   pub back : value_of f (value_in_text f b) ≡ Some b
   pub quiet : IsQuiet (value_in_text f b)
   pub there : (length (value_in_text f b) == 0) ≡ false
@@ -69,10 +70,10 @@ spelled f b alike h =
       maskable = p.0;
     }
 
-pub in_range_back : ReadValues → (f : NamedField) (b : Bits) → AreAlike (form_of f) (printed_form f) → is_in_range f b ≡ true → IsBack f b
-in_range_back r f b alike h =
+pub in_range_back : ReadValues → (f : NamedField) (b : Bits) → AreAlike (form_of f) (printed_form f) → IsInText f → is_in_range f b ≡ true → IsBack f b
+in_range_back r f b alike in_text h =
     let s = spelled f b alike h in
-    record { back = bits_back r f b s; quiet = value_quiet r f b s; there = value_there f b alike (value_in_text f b) (bits_back r f b s) }
+    record { in_text = in_text; back = bits_back r f b s; quiet = value_quiet r f b s; there = value_there f b alike (value_in_text f b) (bits_back r f b s) }
 
 -- ---- ports
 
@@ -89,6 +90,7 @@ port_value r v some le =
 
 port_back : ReadValues → (v : ℕ) → 0 < v → v ≤ last_port → IsBack field.InPort (bits v (all_bits 16))
 port_back r v some le = record {
+  in_text = refl;
   back = ap (value_of field.InPort) (port_text v) ∙ port_value r v some le;
   quiet = ap (list_all is_quiet_character) (port_text v) ∙ decimal_quiet v;
   there = ap (λ text. length text == 0) (port_text v) ∙ decimal_there v;
@@ -119,11 +121,11 @@ fragment_back : (v m : ℕ) → is_some (fragment_word (bits v m)) ≡ true → 
 unfolding value_of value_in_text
 fragment_back v m h =
     fragment_bits (IsBack field.IpFrag)
-    (record { back = refl; quiet = refl; there = refl })
-    (record { back = refl; quiet = refl; there = refl })
-    (record { back = refl; quiet = refl; there = refl })
-    (record { back = refl; quiet = refl; there = refl })
-    (record { back = refl; quiet = refl; there = refl })
+    (record { in_text = refl; back = refl; quiet = refl; there = refl })
+    (record { in_text = refl; back = refl; quiet = refl; there = refl })
+    (record { in_text = refl; back = refl; quiet = refl; there = refl })
+    (record { in_text = refl; back = refl; quiet = refl; there = refl })
+    (record { in_text = refl; back = refl; quiet = refl; there = refl })
     v m h
 
 -- ---- all names but the two parts of a service
@@ -139,7 +141,9 @@ name_back r field.InPort other v m h =
     subst (λ mask. IsBack field.InPort (bits v mask)) (sym (eqb-true m (all_bits 16) p.0)) (port_back r v (ltb-true 0 v q.0) (leb-true v last_port q.1))
 name_back r field.IpFrag other v m h = fragment_back v m h
 name_back r field.NwTos other v m h = absurd other
-name_back r f other v m h = in_range_back r f (bits v m) tt h
+name_back r f other v m h =
+    let p = and_parts (not (is_printed_alone f)) (is_in_range f (bits v m)) h in
+    in_range_back r f (bits v m) tt p.0 p.1
 
 -- ---- items
 
@@ -176,7 +180,7 @@ value_readable f b s back stated = record {
   there = item_there (name_of f) (value_in_text f b);
   whole = whole_append (name_of f) (equals_sign ∷ value_in_text f b) (quiet_whole (name_of f) (name_quiet f)) (quiet_whole (value_in_text f b) back.quiet);
   plain = plain_append (name_of f) (equals_sign ∷ value_in_text f b) (name_plain f) (quiet_plain (value_in_text f b) back.quiet);
-  states = rw stated (value_states f b s back.there back.back stated);
+  states = rw stated (value_states f b s back.in_text back.there back.back stated);
   no_list = λ at. value_no_list at f (equals_sign ∷ value_in_text f b);
 }
 

@@ -85,11 +85,11 @@ ecn_stated v = ap Some (raised_none v ecn_bits)
 
 tos_readable : ReadValues → (v : ℕ) → v ≤ 255 → bit_and v dscp_bits ≡ v → IsReadable (Value field.NwTos (bits v (all_bits 8)))
 tos_readable r v le within =
-    value_readable field.NwTos (bits v (all_bits 8)) (bits v dscp_bits) (in_range_back r field.NwTos (bits v (all_bits 8)) tt (rw (le-leb v 255 le) refl)) (tos_stated v within)
+    value_readable field.NwTos (bits v (all_bits 8)) (bits v dscp_bits) (in_range_back r field.NwTos (bits v (all_bits 8)) tt refl (rw (le-leb v 255 le) refl)) (tos_stated v within)
 
 ecn_readable : ReadValues → (v : ℕ) → v ≤ 3 → IsReadable (Value field.NwEcn (bits v ecn_bits))
 ecn_readable r v le =
-    value_readable field.NwEcn (bits v ecn_bits) (bits v ecn_bits) (in_range_back r field.NwEcn (bits v ecn_bits) tt (rw (le-leb v 3 le) refl)) (ecn_stated v)
+    value_readable field.NwEcn (bits v ecn_bits) (bits v ecn_bits) (in_range_back r field.NwEcn (bits v ecn_bits) tt refl (rw (le-leb v 3 le) refl)) (ecn_stated v)
 
 -- what is known of the items of a service of which so much is stated
 abbrev IsService : ℕ → Type 0

@@ -1,5 +1,5 @@
 -- Matches that the flow text spells.
-use Rattle.std.specs.Prelude.{◌≡◌, ℕ, Bool, ◌&&◌, ◌||◌, ◌==◌, nat_lt, nat_le, if◌then◌else◌, is_some, length, Option, Some, None, IsTrue, bit_and}
+use Rattle.std.specs.Prelude.{◌≡◌, ℕ, Bool, not, ◌&&◌, ◌||◌, ◌==◌, nat_lt, nat_le, if◌then◌else◌, is_some, length, Option, Some, None, IsTrue, bit_and}
 use Rattle.spec_base.specs.Bits.{all_bits}
 use Rattle.spec_keys.specs.declared.field_id.FieldId.{FieldId}
 use Rattle.spec_keys.specs.declared.field_id.FieldId.TheVariants.{DlType, NwProto}
@@ -7,7 +7,7 @@ use Rattle.spec_keys.specs.Fields.{field_count}
 use Rattle.spec_keys.specs.Keys.{value_of}
 use Rattle.spec_actions.specs.declared.named_field.NamedField.{NamedField}
 use Rattle.spec_actions.specs.declared.named_field.NamedField.TheVariants.{InPort, NwTos, IpFrag}
-use Rattle.spec_actions.specs.Named.{named, dscp_bits}
+use Rattle.spec_actions.specs.Named.{named, dscp_bits, is_printed_alone}
 use Rattle.spec_tables.specs.Rules.{Match}
 use Rattle.spec_numbers.specs.Numbers.{last_port}
 use Rattle.spec_flow_text.specs.Values.{Bits, most_of, needs_of, is_met}
@@ -20,12 +20,12 @@ is_in_range f b =
     ((named f).maskable || (b.mask == all_bits (named f).bits)) && (nat_le b.value (most_of f) && nat_le b.mask (all_bits (named f).bits))
 
 -- Whether values of a named field state these bits. Those of in_port number a port, of ip_frag there are five, and
--- nw_tos and nw_ecn are stated whole, each by itself.
+-- nw_tos and nw_ecn are stated whole, each by itself. Under a name that is printed alone nothing is stated.
 abbrev pub can_state : NamedField → Bits → Bool
 can_state InPort b = (b.mask == all_bits 16) && (nat_lt 0 b.value && nat_le b.value last_port)
 can_state IpFrag b = is_some (fragment_word b)
 can_state NwTos b = nat_le b.mask (all_bits 8) && (none_or_all dscp_bits b.mask && none_or_all ecn_bits b.mask)
-can_state f b = is_in_range f b
+can_state f b = not (is_printed_alone f) && is_in_range f b
 
 -- none is outside its mask
 abbrev pub is_stated : NamedField → Bits → Bool

@@ -3,7 +3,7 @@
 //!
 //! The grammar says twice what the text of a match is: which texts spell it, and which of them is printed. Not each pair
 //! of a key and a mask has a text: no value states some bits of `dl_type`, or a port of TCP where the protocol isn't
-//! stated.
+//! stated; none states the type of a VLAN tag, or an inner tag.
 //!
 //! # What is promised
 //!

@@ -1,6 +1,6 @@
 -- An action that is read can be spelled, but for a write whose bits no value names.
 use Rattle.std.proofs.Common.{◌≡◌, ℕ, ◌+◌, ◌-◌, ◌*◌, ◌%◌, ◌<◌, ◌≤◌, ◌^◌, Bool, true, false, cond, List, [], ◌∷◌, length, drop, refl, sym, subst, ap, ◌∙◌, arith, bit_and, Option, Some, None, Result, Ok, Err, eqb-true, eq-eqb, le-leb, lt-ltb, pow_pos, pow_mono}
-use Rattle.std.specs.Prelude.{◌==◌, nat_le, nat_lt}
+use Rattle.std.specs.Prelude.{not, ◌==◌, nat_le, nat_lt}
 use Rattle.std.specs.List.{slice_split}
 use Rattle.std.specs.Option.{option_map, option_and_then, ok_or}
 use Rattle.std.proofs.lemmas.Bool.{and_parts, both_ways, leb-true, ltb-true}
@@ -13,23 +13,26 @@ use Rattle.spec_actions.specs.declared.named_field.NamedField.TheVariants as fie
 use Rattle.spec_actions.specs.declared.action.Slice.{Slice}
 use Rattle.spec_actions.specs.declared.action.OfAction.{OfAction}
 use Rattle.spec_actions.specs.declared.action.OfAction.TheVariants.{Output, OutputField, Resubmit, Goto, Set, Move, PushVlan, SetVid, SetPcp}
-use Rattle.spec_actions.specs.Named.{named}
+use Rattle.spec_actions.specs.Named.{named, is_printed_alone}
 use Rattle.spec_actions.specs.Sound.{is_written, is_sound, is_sound_slice, last_table, last_vid, last_pcp}
+use Rattle.spec_keys.specs.Protocols.{is_tag_type}
 use Rattle.spec_numbers.specs.Characters.{dot, comma, right_bracket}
 use Rattle.spec_numbers.specs.Numbers.{where_found, split_once, strip_prefix, number_upto, last_port, nonzero}
 use Rattle.spec_flow_text.specs.declared.names.ActionName.{ActionName}
 use Rattle.spec_flow_text.specs.declared.names.ActionName.TheVariants as action
 use Rattle.spec_flow_text.specs.declared.fault.TextFault.{TextFault}
 use Rattle.spec_flow_text.specs.declared.fault.TextFault.TheVariants as fault
-use Rattle.spec_flow_text.specs.Names.{reserved_port_named, begins_with_digit}
+use Rattle.spec_flow_text.specs.Names.{field_named, reserved_port_named, begins_with_digit}
 use Rattle.spec_flow_text.specs.Values.{Bits, value_of, whole_value}
 use Rattle.spec_flow_text.specs.Items.{◌>>=◌, Word, column, unless}
-use Rattle.spec_flow_text.specs.Actions.{argument, argument_of, alone, arrow_argument, field_in, written_field, slice_name, value_or_fault, greatest_number, slice, whole_slice, bits_in, bracketed, bits_between, bit_number, sound_slice, slice_after, slice_of, slice_width, load_of, port_of, load, has_tag_bit, set_of, set_field, move, modify, number_argument, tag_type, service_tag_type, pushed, push_vlan, reserved, output_field, output_to, output, table_of_arguments, inside_brackets, with_port, resubmit, after_name, skipping, is_respellable, goto_item}
+use Rattle.spec_flow_text.specs.Actions.{argument, argument_of, alone, arrow_argument, no_field, field_in, written_field, slice_name, value_or_fault, greatest_number, slice, whole_slice, bits_in, bracketed, bits_between, bit_number, sound_slice, slice_after, slice_of, slice_width, load_of, port_of, load, has_tag_bit, set_of, set_field, move, modify, number_argument, tag_type, push_vlan, reserved, output_field, output_to, output, table_of_arguments, inside_brackets, with_port, resubmit, after_name, skipping, is_respellable, goto_item}
 use Rattle.text_laws.specs.Spelled.{is_spellable, is_goto}
+use Rattle.text_laws.proofs.ItemTexts.{IsInText}
 use Rattle.value_laws.proofs.WithinLaws.{chained, mapped}
 use Rattle.round_trip_laws.proofs.PartsRead.{ReadRanges, IsValue, IsNoFragment, value_read, whole_read}
 use Rattle.round_trip_laws.proofs.StatableParts.{and_twice}
 use Rattle.round_trip_laws.proofs.LinesRead.{ok_chained}
+use Rattle.round_trip_laws.proofs.TextNames.{named_in_text}
 
 -- an action other than `goto_table` that can be spelled where a value of its field can name its bits
 abbrev pub IsWellMade : OfAction → Type 0
@@ -135,12 +138,28 @@ found_field w name f h =
     by_test g true e h = let same : g ≡ f = cc in subst (λ x. is_written x ≡ true) same e
     by_test g false e h = cc
 
+field_in_text : (w name : Word) (f : NamedField) → field_in w name ≡ Ok f → IsInText f
+unfolding field_in
+field_in_text w name f h = named_in_text name.text f (some_ok (field_named name.text) (no_field w name) f h)
+
+written_in_text : (w name : Word) (f : NamedField) → written_field w name ≡ Ok f → IsInText f
+unfolding written_field
+written_in_text w name f h =
+    let g = ok_chained (field_in w name) _ f h in
+    by_test g.0 (is_written g.0) (field_in_text w name g.0 g.1) g.2
+  where
+    by_test : (g : NamedField) (t : Bool) → IsInText g → cond t (Ok g) (Err (fault.Unsupported (column w))) ≡ Ok f → IsInText f
+    by_test g true i h = let same : g ≡ f = cc in subst IsInText same i
+    by_test g false i h = cc
+
 abbrev IsSlice : NamedField → Slice → Type 0
 IsSlice f s = (is_sound_slice s ≡ true) × (s.name ≡ f)
 
-whole_sound : (f : NamedField) → is_sound_slice (whole_slice f) ≡ true
-whole_sound field.InPort = refl
-whole_sound f = refl
+whole_sound : (f : NamedField) → IsInText f → is_sound_slice (whole_slice f) ≡ true
+whole_sound field.VlanTpid h = h
+whole_sound field.VlanTci2 h = h
+whole_sound field.VlanTpid2 h = h
+whole_sound f h = refl
 
 between_name : (f : NamedField) (parts : List ℕ × List ℕ) (s : Slice) → bits_between f parts ≡ Some s → s.name ≡ f
 unfolding bits_between
@@ -173,18 +192,18 @@ kept_sound s u h = by_test (is_sound_slice s) refl h
     by_test true e h = let same : s ≡ u = cc in (subst (λ x. is_sound_slice x ≡ true) same e, same)
     by_test false e h = cc
 
-after_sound : (f : NamedField) (text : List ℕ) (s : Slice) → slice_after f text ≡ Some s → IsSlice f s
+after_sound : (f : NamedField) (text : List ℕ) (s : Slice) → IsInText f → slice_after f text ≡ Some s → IsSlice f s
 unfolding slice_after
-after_sound f [] s h = let same : whole_slice f ≡ s = cc in subst (IsSlice f) same (whole_sound f, refl)
-after_sound f (c ∷ cs) s h =
+after_sound f [] s in_text h = let same : whole_slice f ≡ s = cc in subst (IsSlice f) same (whole_sound f in_text, refl)
+after_sound f (c ∷ cs) s in_text h =
     let u = chained (option_and_then (bracketed f) (split_once right_bracket cs)) sound_slice s h in
     let parts = chained (split_once right_bracket cs) (bracketed f) u.0 u.1 in
     let k = kept_sound u.0 s u.2 in
     (k.0, subst (λ (x : Slice). x.name ≡ f) k.1 (bracketed_name f parts.0 u.0 parts.2))
 
-slice_read : (f : NamedField) (w : Word) (s : Slice) → slice_of f w ≡ Ok s → IsSlice f s
+slice_read : (f : NamedField) (w : Word) (s : Slice) → IsInText f → slice_of f w ≡ Ok s → IsSlice f s
 unfolding slice_of
-slice_read f w s h = after_sound f (drop (length (slice_name w).text) w.text) s (some_ok (slice_after f (drop (length (slice_name w).text) w.text)) (fault.BadValue (column w)) s h)
+slice_read f w s in_text h = after_sound f (drop (length (slice_name w).text) w.text) s in_text (some_ok (slice_after f (drop (length (slice_name w).text) w.text)) (fault.BadValue (column w)) s h)
 
 -- ---- writes
 
@@ -233,7 +252,7 @@ shifted_within n w l lt =
 
 load_bits : (f : NamedField) (s : Slice) (n : ℕ) → is_sound_slice s ≡ true → n < 2 ^ slice_width s → n * 2 ^ s.low < 2 ^ (named s.name).bits
 load_bits f s n sound lt =
-    let p = and_parts (nat_le s.low s.high) (nat_lt s.high (named s.name).bits) sound in
+    let p = and_parts (nat_le s.low s.high) (nat_lt s.high (named s.name).bits) (and_parts (not (is_printed_alone s.name)) _ sound).1 in
     let ordered = leb-true s.low s.high p.0 in
     let within = ltb-true s.high (named s.name).bits p.1 in
     let below : n * 2 ^ s.low < 2 ^ (slice_width s + s.low) = shl_below n (slice_width s) s.low lt in
@@ -258,7 +277,7 @@ load_made w a h =
     let fits = ok_chained (unless (nat_lt n.0 (2 ^ slice_width s.0)) (fault.BadValue (column ends.0.0))) (λ t. Ok (load_of s.0 n.0)) a s.2 in
     let lt = ltb-true n.0 (2 ^ slice_width s.0) (passes (nat_lt n.0 (2 ^ slice_width s.0)) (fault.BadValue (column ends.0.0)) fits.0 fits.1) in
     let same : load_of s.0 n.0 ≡ a = cc in
-    subst IsWellMade same (load_well f.0 s.0 n.0 (found_field w (slice_name ends.0.1) f.0 f.1) (slice_read f.0 ends.0.1 s.0 s.1) lt)
+    subst IsWellMade same (load_well f.0 s.0 n.0 (found_field w (slice_name ends.0.1) f.0 f.1) (slice_read f.0 ends.0.1 s.0 (written_in_text w (slice_name ends.0.1) f.0 f.1) s.1) lt)
 
 less_width : (a b c d : ℕ) → (a - b + 1 == c - d + 1) ≡ true → (a - b == c - d) ≡ true
 less_width a b c d h =
@@ -276,8 +295,8 @@ move_made w a h =
     let t = ok_chained (slice_of g.0 ends.0.1) _ a s.2 in
     let equal = ok_chained (unless (slice_width s.0 == slice_width t.0) (fault.BadValue (column ends.0.1))) (λ x. Ok (Move s.0 t.0)) a t.2 in
     let widths = less_width s.0.high s.0.low t.0.high t.0.low (passes (slice_width s.0 == slice_width t.0) (fault.BadValue (column ends.0.1)) equal.0 equal.1) in
-    let source = slice_read f.0 ends.0.0 s.0 s.1 in
-    let target = slice_read g.0 ends.0.1 t.0 t.1 in
+    let source = slice_read f.0 ends.0.0 s.0 (field_in_text w (slice_name ends.0.0) f.0 f.1) s.1 in
+    let target = slice_read g.0 ends.0.1 t.0 (written_in_text w (slice_name ends.0.1) g.0 g.1) t.1 in
     let written : is_written t.0.name ≡ true = subst (λ x. is_written x ≡ true) (sym target.1) (found_field w (slice_name ends.0.1) g.0 g.1) in
     let same : Move s.0 t.0 ≡ a = cc in
     subst IsWellMade same (rw (source.0, target.0, written) widths)
@@ -289,7 +308,7 @@ output_field_made w x a h =
     let f = ok_chained (field_in w (slice_name x)) (λ f. slice_of f x >>= (λ s. Ok (OutputField s))) a h in
     let s = ok_chained (slice_of f.0 x) (λ s. Ok (OutputField s)) a f.2 in
     let same : OutputField s.0 ≡ a = cc in
-    subst IsWellMade same (slice_read f.0 x s.0 s.1).0
+    subst IsWellMade same (slice_read f.0 x s.0 (field_in_text w (slice_name x) f.0 f.1) s.1).0
 
 reserved_made : (name : ActionName) → IsWellMade (reserved name)
 reserved_made action.All = refl
@@ -314,17 +333,21 @@ output_made r w a h = let x = ok_chained (argument w) (output_to w) a h in outpu
 pub port_item_made : ReadRanges → (w : Word) → MakesWell (value_or_fault w (port_of w.text))
 port_item_made r w a h = port_made r w.text a (some_ok (port_of w.text) (fault.BadValue (column w)) a h)
 
+tag_type_made : (n tpid : ℕ) → tag_type n ≡ Some tpid → is_tag_type tpid ≡ true
+tag_type_made n tpid h = by_test (is_tag_type n) refl h
+  where
+    by_test : (t : Bool) → is_tag_type n ≡ t → cond t (Some n) None ≡ Some tpid → is_tag_type tpid ≡ true
+    by_test true e h = let same : n ≡ tpid = cc in subst (λ k. is_tag_type k ≡ true) same e
+    by_test false e h = cc
+
 pub push_made : (w : Word) → MakesWell (push_vlan w)
 unfolding push_vlan
 push_made w a h =
     let x = ok_chained (argument w) _ a h in
-    let n = ok_chained (value_or_fault x.0 (number_upto (all_bits 16) x.0.text)) (pushed w x.0) a x.2 in
-    by_tests (n.0 == tag_type) (n.0 == service_tag_type) (fault.BadValue (column x.0)) n.2
-  where
-    by_tests : (t u : Bool) (e : TextFault) → cond t (Ok PushVlan) (cond u (Err (fault.Unsupported (column w))) (Err e)) ≡ Ok a → IsWellMade a
-    by_tests true u e h = let same : PushVlan ≡ a = cc in subst IsWellMade same refl
-    by_tests false true e h = cc
-    by_tests false false e h = cc
+    let found = option_and_then tag_type (number_upto (all_bits 16) x.0.text) in
+    let tpid = mapped found (λ tpid. PushVlan tpid) a (some_ok (option_map (λ tpid. PushVlan tpid) found) (fault.BadValue (column x.0)) a x.2) in
+    let n = chained (number_upto (all_bits 16) x.0.text) tag_type tpid.0 tpid.1 in
+    subst IsWellMade tpid.2 (tag_type_made n.0 tpid.0 n.2)
 
 pub alone_made : (w : Word) (x : OfAction) → IsWellMade x → MakesWell (alone w x)
 alone_made w x well a h = by_test (length (after_name w).text == 0) h

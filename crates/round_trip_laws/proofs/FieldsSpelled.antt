@@ -127,6 +127,9 @@ IsMaskedField key.NwTtl = ⊥
 IsMaskedField key.IpFrag = ⊥
 IsMaskedField key.TpSrc = ⊥
 IsMaskedField key.TpDst = ⊥
+IsMaskedField key.VlanTpid = ⊥
+IsMaskedField key.VlanTci2 = ⊥
+IsMaskedField key.VlanTpid2 = ⊥
 IsMaskedField f = Unit {0}
 
 own_masked : (f : FieldId) → IsMaskedField f → IsMaskable (own_name f) (width_of f)
@@ -138,6 +141,9 @@ own_masked key.NwTtl h = absurd h
 own_masked key.IpFrag h = absurd h
 own_masked key.TpSrc h = absurd h
 own_masked key.TpDst h = absurd h
+own_masked key.VlanTpid h = absurd h
+own_masked key.VlanTci2 h = absurd h
+own_masked key.VlanTpid2 h = absurd h
 own_masked f h = record { maskable = refl; width = refl; most = refl; can = λ b. refl }
 
 arp_masked : (f : FieldId) → IsMaskedField f → IsMaskable (name_after_arp f) (width_of f)
@@ -253,6 +259,11 @@ fragment_stated t p ps all =
     fragment_spelled v k (inl none) = rw (none.0, none.1) refl
     fragment_spelled v k (inr some) = fragment_bits (λ (b : Bits). is_stated field.IpFrag b ≡ true) refl refl refl refl refl v k some
 
+-- ---- fields that are never stated
+
+never_stated : (f : FieldId) (n : NamedField) (t p : Option ℕ) (ps : List Part) → ((q : Part) → IsKept t p q → q.field ≡ f → ⊥) → AllOf (IsKept t p) ps → AreApart ps → IsStated n f ps
+never_stated f n t p ps never all apart = exact_spelled f n (all_bits 16) t p ps refl refl (λ q g e. absurd (never q g e)) (λ q g e. absurd (never q g e)) all apart
+
 -- ---- all fields
 
 by_own_name : (s : Option Shorthand) (f : FieldId) (ps : List Part) → HasOneName f → IsStated (own_name f) f ps → IsStated (name_after s f) f ps
@@ -281,4 +292,7 @@ stated_together s t p ps said all apart key.NwTos = by_own_name s key.NwTos ps t
 stated_together s t p ps said all apart key.IpFrag = by_own_name s key.IpFrag ps tt (fragment_stated t p ps all)
 stated_together s t p ps said all apart key.TpSrc = source_stated s t p ps said all apart
 stated_together s t p ps said all apart key.TpDst = target_stated s t p ps said all apart
+stated_together s t p ps said all apart key.VlanTpid = never_stated key.VlanTpid (name_after s key.VlanTpid) t p ps (λ q g e. suits_of key.VlanTpid q g.0 e) all apart
+stated_together s t p ps said all apart key.VlanTci2 = never_stated key.VlanTci2 (name_after s key.VlanTci2) t p ps (λ q g e. suits_of key.VlanTci2 q g.0 e) all apart
+stated_together s t p ps said all apart key.VlanTpid2 = never_stated key.VlanTpid2 (name_after s key.VlanTpid2) t p ps (λ q g e. suits_of key.VlanTpid2 q g.0 e) all apart
 stated_together s t p ps said all apart f = masked_spelled f (name_after s f) (width_of f) t p ps (masked_name s f tt) (λ q g e. suits_of f q g.0 e) all

@@ -1,3 +1,4 @@
+pub mod TextNames
 pub mod PartsRead
 pub mod StatableParts
 pub mod LinesRead

@@ -18,6 +18,7 @@ use Rattle.spec_actions.specs.Sound.{last_table}
 use Rattle.match_text_laws.proofs.ItemsBack.{FollowEachOther}
 use Rattle.match_text_laws.proofs.Together.{follow_join}
 use Rattle.round_trip_laws.proofs.PartsRead.{ReadRanges, IsStatable}
+use Rattle.round_trip_laws.proofs.TextNames.{NamesText, item_in_text}
 use Rattle.round_trip_laws.proofs.StatableParts.{field_statable, vlan_statable, type_statable, protocol_statable}
 
 -- a chain of results that ends in a value
@@ -66,48 +67,48 @@ value_read col value_col (Some p) s t statable r h = part_read col p s t (statab
 same_parts : (s t : Sofar) → s.parts ≡ t.parts → IsRead s → IsRead t
 same_parts s t e r = record { each = subst AreStatable e r.each; apart = subst (FollowEachOther []) e r.apart }
 
-valued_read : ReadRanges → (word : EditWord) (col value_col : ℕ) (name : Option ItemName) (value : List ℕ) (s t : Sofar) → IsRead s → with_valued word col value_col name value s ≡ Ok t → IsRead t
+valued_read : ReadRanges → (word : EditWord) (col value_col : ℕ) (name : Option ItemName) (value : List ℕ) (s t : Sofar) → NamesText name → IsRead s → with_valued word col value_col name value s ≡ Ok t → IsRead t
 unfolding with_valued
-valued_read k word col value_col None value s t r h = cc
-valued_read k word col value_col (Some item.Unsupported) value s t r h = cc
-valued_read k word col value_col (Some (item.Shorthand x)) value s t r h = cc
-valued_read k word col value_col (Some item.Actions) value s t r h = cc
-valued_read k word col value_col (Some (item.Field f)) value s t r h =
+valued_read k word col value_col None value s t names r h = cc
+valued_read k word col value_col (Some item.Unsupported) value s t names r h = cc
+valued_read k word col value_col (Some (item.Shorthand x)) value s t names r h = cc
+valued_read k word col value_col (Some item.Actions) value s t names r h = cc
+valued_read k word col value_col (Some (item.Field f)) value s t names r h =
     let there = ok_chained (given col value) (λ x. with_value col value_col (field_stated f value) s) t h in
-    value_read col value_col (field_stated f value) s t (field_statable k f value) r there.2
-valued_read k word col value_col (Some item.DlVlan) value s t r h =
+    value_read col value_col (field_stated f value) s t (λ p. field_statable k f value p names) r there.2
+valued_read k word col value_col (Some item.DlVlan) value s t names r h =
     let there = ok_chained (given col value) (λ x. with_value col value_col (vlan_stated value) s) t h in
     value_read col value_col (vlan_stated value) s t (vlan_statable value) r there.2
-valued_read k word col value_col (Some item.Statistic) value s t r h =
+valued_read k word col value_col (Some item.Statistic) value s t names r h =
     let there = ok_chained (given col value) (λ x. Ok s) t h in
     let same : s ≡ t = cc in
     subst IsRead same r
-valued_read k word col value_col (Some item.Table) value s t r h =
+valued_read k word col value_col (Some item.Table) value s t names r h =
     let n = ok_chained (number_once col value_col s.table last_table value) (λ n. Ok (record s { table = Some n })) t h in
     let same : record s { table = Some n.0 } ≡ t = cc in
     same_parts s t (ap (λ (x : Sofar). x.parts) same) r
-valued_read k word col value_col (Some item.Priority) value s t r h =
+valued_read k word col value_col (Some item.Priority) value s t names r h =
     let n = ok_chained (number_once col value_col s.priority last_priority value) (λ n. Ok (record s { priority = Some n })) t h in
     let same : record s { priority = Some n.0 } ≡ t = cc in
     same_parts s t (ap (λ (x : Sofar). x.parts) same) r
-valued_read k word col value_col (Some item.Cookie) value s t r h =
+valued_read k word col value_col (Some item.Cookie) value s t names r h =
     let plain = ok_chained (unless (is_plain_cookie word value) (fault.Unsupported col)) (λ x. number_once col value_col s.cookie greatest_cookie value >>= (λ n. Ok (record s { cookie = Some n }))) t h in
     let n = ok_chained (number_once col value_col s.cookie greatest_cookie value) (λ n. Ok (record s { cookie = Some n })) t plain.2 in
     let same : record s { cookie = Some n.0 } ≡ t = cc in
     same_parts s t (ap (λ (x : Sofar). x.parts) same) r
 
-bare_read : ReadRanges → (word : EditWord) (col : ℕ) (name : Option ItemName) (s t : Sofar) → IsRead s → with_bare word col name s ≡ Ok t → IsRead t
+bare_read : ReadRanges → (word : EditWord) (col : ℕ) (name : Option ItemName) (s t : Sofar) → NamesText name → IsRead s → with_bare word col name s ≡ Ok t → IsRead t
 unfolding with_bare
-bare_read k word col (Some (item.Shorthand x)) s t r h = shorthand_read col x s t r h
-bare_read k word col name s t r h = valued_read k word col col name [] s t r h
+bare_read k word col (Some (item.Shorthand x)) s t names r h = shorthand_read col x s t r h
+bare_read k word col name s t names r h = valued_read k word col col name [] s t names r h
 
 item_read : ReadRanges → (word : EditWord) (w : Word) (s t : Sofar) → IsRead s → with_item word w s ≡ Ok t → IsRead t
 unfolding with_item
 item_read k word w s t r h = by_cut (split_once equals_sign w.text) h
   where
     by_cut : (o : Option (List ℕ × List ℕ)) → with_cut word (column w) w.text o s ≡ Ok t → IsRead t
-    by_cut None h = bare_read k word (column w) (item_named w.text) s t r h
-    by_cut (Some parts) h = valued_read k word (column w) (column w + length parts.0 + 1) (item_named parts.0) parts.1 s t r h
+    by_cut None h = bare_read k word (column w) (item_named w.text) s t (item_in_text w.text) r h
+    by_cut (Some parts) h = valued_read k word (column w) (column w + length parts.0 + 1) (item_named parts.0) parts.1 s t (item_in_text parts.0) r h
 
 pub items_read : ReadRanges → (word : EditWord) (ws : List Word) (s : Sofar) (t : Stated) → IsRead s → read_items word ws s ≡ Ok t → IsRead t.sofar
 unfolding read_items

@@ -70,7 +70,7 @@ SuitsPort needs.AnyIcmp value mask = (mask ≡ all_bits 16) × (value ≤ 255)
 SuitsPort needs.Icmp6 value mask = (mask ≡ all_bits 16) × (value ≤ 255)
 SuitsPort n value mask = mask ≤ all_bits 16
 
--- how much of a field is stated at once
+-- how much of a field is stated at once: of the type of a tag, and of an inner tag, nothing
 abbrev pub Suits : FieldId → MatchPrerequisite → (value mask : ℕ) → Type 0
 Suits key.InPort n value mask = (mask ≡ all_bits 16) × ((0 < value) × (value ≤ last_port))
 Suits key.DlType n value mask = mask ≡ all_bits 16
@@ -80,6 +80,9 @@ Suits key.NwTos n value mask = (mask ≡ 252) ⊎ (mask ≡ 3)
 Suits key.IpFrag n value mask = is_some (fragment_word (bits value mask)) ≡ true
 Suits key.TpSrc n value mask = SuitsPort n value mask
 Suits key.TpDst n value mask = SuitsPort n value mask
+Suits key.VlanTpid n value mask = ⊥
+Suits key.VlanTci2 n value mask = ⊥
+Suits key.VlanTpid2 n value mask = ⊥
 Suits f n value mask = mask ≤ all_bits (width_of f)
 
 abbrev pub IsTagged : FieldId → TagPart → Type 0

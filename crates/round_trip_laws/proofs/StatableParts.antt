@@ -3,6 +3,7 @@ use Rattle.std.proofs.Common.{◌≡◌, ℕ, ◌*◌, ◌%◌, ◌<◌, ◌≤�
 use Rattle.std.specs.Prelude.{◌==◌, codes, bytes_eq}
 use Rattle.std.specs.Option.{option_map, option_or, option_and_then}
 use Rattle.std.specs.Int.Bits.{and_self}
+use Rattle.std.proofs.lemmas.Bool.{both_ways}
 use Rattle.std.proofs.lemmas.Nat.{and_assoc, and_le_l, and_mask}
 use Rattle.spec_base.specs.Bits.{all_bits}
 use Rattle.spec_keys.specs.declared.field_id.FieldId.TheVariants as key
@@ -18,6 +19,7 @@ use Rattle.spec_flow_text.specs.declared.shorthand.Shorthand.{Shorthand}
 use Rattle.spec_flow_text.specs.Names.{type_stated}
 use Rattle.spec_flow_text.specs.Values.{Bits, bits, most_of, value_of, needs_of, tag_part_of, part, raised, with_tag, dscp_of, bits_stated, field_stated, vlan_bits, vlan_stated, no_vlan, type_part, protocol_part}
 use Rattle.value_laws.proofs.WithinLaws.{chained, mapped}
+use Rattle.text_laws.proofs.ItemTexts.{IsInText}
 use Rattle.match_text_laws.proofs.Blocks.{raised_none}
 use Rattle.round_trip_laws.proofs.PartsRead.{ReadRanges, IsStatable, IsValue, value_read, in_port_read}
 
@@ -29,7 +31,7 @@ and_twice v m = and_assoc m v m ∙ ap (bit_and v) (and_self m)
 same_port : (v : ℕ) → v ≤ last_port → bit_and v (all_bits 16) ≡ v
 same_port v le = let small : v % 2 ^ 16 ≡ v = omega arith in and_mask v 16 ∙ small
 
--- ---- names that stand for all of a field
+-- ---- names of flow text that stand for all of a field
 
 abbrev IsWholeName : NamedField → Type 0
 IsWholeName field.VlanPcp = ⊥
@@ -38,6 +40,9 @@ IsWholeName field.IpDscp = ⊥
 IsWholeName field.NwEcn = ⊥
 IsWholeName field.IpFrag = ⊥
 IsWholeName field.InPort = ⊥
+IsWholeName field.VlanTpid = ⊥
+IsWholeName field.VlanTci2 = ⊥
+IsWholeName field.VlanTpid2 = ⊥
 IsWholeName a = Unit {0}
 
 abbrev part_of : NamedField → Bits → Part
@@ -56,6 +61,9 @@ whole_name field.IpDscp b other h = absurd other
 whole_name field.NwEcn b other h = absurd other
 whole_name field.IpFrag b other h = absurd other
 whole_name field.InPort b other h = absurd other
+whole_name field.VlanTpid b other h = absurd other
+whole_name field.VlanTci2 b other h = absurd other
+whole_name field.VlanTpid2 b other h = absurd other
 whole_name field.DlType b other h = record { within = and_twice b.value b.mask; suits = h.exact refl; needed = refl; tagged = refl }
 whole_name field.NwProto b other h = record { within = and_twice b.value b.mask; suits = h.exact refl; needed = tt; tagged = refl }
 whole_name field.ArpOp b other h = record { within = and_twice b.value b.mask; suits = h.exact refl; needed = tt; tagged = refl }
@@ -87,6 +95,9 @@ whole_stated field.IpDscp b s other h = absurd other
 whole_stated field.NwEcn b s other h = absurd other
 whole_stated field.IpFrag b s other h = absurd other
 whole_stated field.InPort b s other h = absurd other
+whole_stated field.VlanTpid b s other h = absurd other
+whole_stated field.VlanTci2 b s other h = absurd other
+whole_stated field.VlanTpid2 b s other h = absurd other
 whole_stated a b s other h = let same : raised 0 b ≡ s = cc in sym (raised_none b.value b.mask) ∙ same
 
 -- ---- other names
@@ -147,33 +158,36 @@ fragment_part text b h =
 
 -- ---- items
 
-stated_part : ReadRanges → (a : NamedField) (text : List ℕ) (b s : Bits) → value_of a text ≡ Some b → bits_stated a b ≡ Some s → IsStatable (part_of a s)
+stated_part : ReadRanges → (a : NamedField) (text : List ℕ) (b s : Bits) → IsInText a → value_of a text ≡ Some b → bits_stated a b ≡ Some s → IsStatable (part_of a s)
 unfolding bits_stated
-stated_part r field.InPort text b s v h =
+stated_part r field.InPort text b s in_text v h =
     let same : raised 0 b ≡ s = cc in
     subst (λ x. IsStatable (part_of field.InPort x)) (sym (raised_none b.value b.mask) ∙ same) (in_port_part b (value_read r field.InPort text b tt v) (in_port_read r text b v))
-stated_part r field.VlanPcp text b s v h =
+stated_part r field.VlanPcp text b s in_text v h =
     let same : with_tag (raised 13 b) ≡ s = cc in
     subst (λ x. IsStatable (part_of field.VlanPcp x)) same (priority_part b (value_read r field.VlanPcp text b tt v))
-stated_part r field.NwTos text b s v h = service_part b s h
-stated_part r field.IpDscp text b s v h =
+stated_part r field.NwTos text b s in_text v h = service_part b s h
+stated_part r field.IpDscp text b s in_text v h =
     let same : raised 2 b ≡ s = cc in
     subst (λ x. IsStatable (part_of field.IpDscp x)) same (dscp_part b (value_read r field.IpDscp text b tt v))
-stated_part r field.NwEcn text b s v h =
+stated_part r field.NwEcn text b s in_text v h =
     let same : raised 0 b ≡ s = cc in
     subst (λ x. IsStatable (part_of field.NwEcn x)) same (ecn_part b (value_read r field.NwEcn text b tt v))
-stated_part r field.IpFrag text b s v h =
+stated_part r field.IpFrag text b s in_text v h =
     let same : raised 0 b ≡ s = cc in
     subst (λ x. IsStatable (part_of field.IpFrag x)) same (fragment_part text b v)
-stated_part r a text b s v h = subst (λ x. IsStatable (part_of a x)) (whole_stated a b s tt h) (whole_name a b tt (value_read r a text b tt v))
+stated_part r field.VlanTpid text b s in_text v h = absurd (both_ways false refl in_text)
+stated_part r field.VlanTci2 text b s in_text v h = absurd (both_ways false refl in_text)
+stated_part r field.VlanTpid2 text b s in_text v h = absurd (both_ways false refl in_text)
+stated_part r a text b s in_text v h = subst (λ x. IsStatable (part_of a x)) (whole_stated a b s tt h) (whole_name a b tt (value_read r a text b tt v))
 
-pub field_statable : ReadRanges → (a : NamedField) (text : List ℕ) (p : Part) → field_stated a text ≡ Some p → IsStatable p
+pub field_statable : ReadRanges → (a : NamedField) (text : List ℕ) (p : Part) → IsInText a → field_stated a text ≡ Some p → IsStatable p
 unfolding field_stated
-field_statable r a text p h =
+field_statable r a text p in_text h =
     let b = chained (value_of a text) _ p h in
     let s = chained (bits_stated a b.0) (λ s. Some (part_of a s)) p b.2 in
     let same : part_of a s.0 ≡ p = cc in
-    subst IsStatable same (stated_part r a text b.0 s.0 b.1 s.1)
+    subst IsStatable same (stated_part r a text b.0 s.0 in_text b.1 s.1)
 
 -- ---- VLANs and shorthands
 

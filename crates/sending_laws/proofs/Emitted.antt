@@ -215,8 +215,8 @@ act-emits sw sub below emits DecTtl s =
     let lowered = with_current (set s.current (place_of field.NwTtl) (value_of s.current field.NwTtl - 1)) s in
     none-emits (is_met needs.Ip s.current) s (lower_ttl s) s
     (none-emits (nat_le (value_of s.current field.NwTtl) 1) s ended lowered (still s ended refl refl) (still s lowered refl refl)) (still s s refl refl)
-act-emits sw sub below emits PushVlan s =
-    let more = with_current (pushed s.current) s in
+act-emits sw sub below emits (PushVlan tpid) s =
+    let more = with_current (pushed tpid s.current) s in
     none-emits (is_full s.current) s (stopped s) more (still s (stopped s) refl refl) (still s more refl refl)
 act-emits sw sub below emits PopVlan s = still s (with_current (popped s.current) s) refl refl
 act-emits sw sub below emits (SetVid vid) s = still s (write_tag vid vid_bits s) refl refl

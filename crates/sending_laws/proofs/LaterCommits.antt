@@ -1,5 +1,5 @@
 -- A commit whose base key isn't the frame's in fields that the frame doesn't show. Such is one that comes after a write which
--- found no header. It begins as a commit of the frame's own key does, with the addresses and the tag; of the fields after
+-- found no header. It begins as a commit of the frame's own key does, with the addresses and the tags; of the fields after
 -- those it writes the ones that the frame shows alike, and the others change no key.
 use Rattle.std.proofs.Common.{◌≡◌, ◌≢◌, ℕ, ◌^◌, ◌<◌, ◌==◌, ◌||◌, ◌&&◌, not, Bool, true, false, if◌then◌else◌, List, [], ◌∷◌, ◌++◌, map, zero, suc, get_or, bit_and, bit_xor, refl, sym, ap, ap₂, ◌∙◌, subst, append_assoc, arith}
 use Rattle.std.specs.List.{list_all, list_any}
@@ -7,18 +7,18 @@ use Rattle.std.proofs.lemmas.Bool.{eqb-false, and_parts}
 use Rattle.std.proofs.lemmas.List.{append-nil}
 use Rattle.std.proofs.lemmas.Nat.{xor_lt}
 use Rattle.spec_keys.specs.declared.field_id.FieldId.{FieldId}
-use Rattle.spec_keys.specs.declared.field_id.FieldId.TheVariants.{DlSrc, DlDst, VlanTci, IpFrag}
+use Rattle.spec_keys.specs.declared.field_id.FieldId.TheVariants.{DlSrc, DlDst, VlanTci, VlanTpid, VlanTci2, VlanTpid2, IpFrag}
 use Rattle.spec_keys.specs.Fields.{place_of, width_of, widths, fields}
 use Rattle.spec_keys.specs.Keys.{value_of, IsKey}
 use Rattle.spec_frames.specs.Key.{key_of}
 use Rattle.spec_actions.specs.declared.action.DpAction.{DpAction}
 use Rattle.spec_actions.specs.declared.action.DpAction.TheVariants.{Set}
-use Rattle.spec_xlate.specs.Tags.{VlanTag, is_tag, is_tag_field, tags_of, commit_tags}
+use Rattle.spec_xlate.specs.Tags.{VlanTag, is_tag, tags_of, commit_tags}
 use Rattle.spec_xlate.specs.Commit.{fields_before_tags, fields_after_tags, commit, commit_field, commit_fields}
 use Rattle.key_laws.proofs.KeyLaws.{key_of-IsKey}
 use Rattle.exec_laws.specs.ReadBack.{shows}
 use Rattle.exec_laws.specs.Sends.{after_actions}
-use Rattle.exec_laws.specs.Become.{turned, CanTurn}
+use Rattle.exec_laws.specs.Become.{is_of_tags, turned, CanTurn}
 use Rattle.exec_laws.proofs.OnTheWay.{OnTheWay, Lead, no-actions, join, shown-leads, hidden-leads}
 use Rattle.exec_laws.proofs.CommitSteps.{no-change, map-at, commit-leads, commit-bytes, commit-whole, commit-shows, commit-single}
 use Rattle.exec_laws.proofs.Turned.{key-turned}
@@ -32,7 +32,7 @@ is_after f = list_any (λ g. place_of f == place_of g) fields_after_tags
 
 -- whether a field is written in place, and doesn't say what the packet has
 abbrev is_in_place : FieldId → Bool
-is_in_place f = not (place_of f == place_of IpFrag) && not (is_tag_field f)
+is_in_place f = not (place_of f == place_of IpFrag) && not (is_of_tags f)
 
 not-true : (t : Bool) → not t ≡ true → t ≡ false
 not-true true e = absurd cc
@@ -62,12 +62,12 @@ unfolding widths
 numbers-key value fit = record { fields = refl; fit = numbers-fit value fit fields }
 
 module _ (port : ℕ) (frame base next : List ℕ) (can : CanTurn port frame next) (is_base : IsKey base)
-    (same : (f : FieldId) → (is_tag_field f || shows port frame f) ≡ true → value_of base f ≡ value_of (key_of port frame) f) where
+    (same : (f : FieldId) → (is_of_tags f || shows port frame f) ≡ true → value_of base f ≡ value_of (key_of port frame) f) where
   abbrev here : List ℕ
   here = key_of port frame
 
   abbrev aimed : FieldId → ℕ
-  aimed f = if is_tag_field f || shows port frame f then value_of next f else value_of here f
+  aimed f = if is_of_tags f || shows port frame f then value_of next f else value_of here f
 
   abbrev aim : List ℕ
   aim = turned port frame next
@@ -102,19 +102,19 @@ module _ (port : ℕ) (frame base next : List ℕ) (can : CanTurn port frame nex
       actions : List DpAction
       actions = commit_field f (value_of base f) (value_of next f)
 
-      parts : (not (place_of f == place_of IpFrag) ≡ true) × (not (is_tag_field f) ≡ true)
-      parts = and_parts (not (place_of f == place_of IpFrag)) (not (is_tag_field f)) place
+      parts : (not (place_of f == place_of IpFrag) ≡ true) × (not (is_of_tags f) ≡ true)
+      parts = and_parts (not (place_of f == place_of IpFrag)) (not (is_of_tags f)) place
 
       apart : place_of f ≢ place_of IpFrag
       apart = eqb-false (place_of f) (place_of IpFrag) (not-true (place_of f == place_of IpFrag) parts.0)
 
       aim-is : (u : Bool) → shows port frame f ≡ u → value_of aim f ≡ (if u then value_of next f else value_of here f)
-      aim-is u s = map-at aimed f ∙ ap₂ (λ (t v : Bool). if t || v then value_of next f else value_of here f) (not-true (is_tag_field f) parts.1) s
+      aim-is u s = map-at aimed f ∙ ap₂ (λ (t v : Bool). if t || v then value_of next f else value_of here f) (not-true (is_of_tags f) parts.1) s
 
       by : (u : Bool) → shows port frame f ≡ u → Lead port frame actions (commit_field f (value_of here f) (value_of aim f)) g
       by true s =
           subst (λ (others : List DpAction). Lead port frame actions others g)
-          (ap₂ (commit_field f) (same f (ap (λ (t : Bool). is_tag_field f || t) s ∙ or-true (is_tag_field f))) (sym (aim-is true s))) (shown-change f g at apart s)
+          (ap₂ (commit_field f) (same f (ap (λ (t : Bool). is_of_tags f || t) s ∙ or-true (is_of_tags f))) (sym (aim-is true s))) (shown-change f g at apart s)
       by false s =
           subst (λ (others : List DpAction). Lead port frame actions others g)
           (sym (ap (commit_field f (value_of here f)) (aim-is false s) ∙ no-change f (value_of here f))) (hidden-change f g at s)
@@ -146,16 +146,16 @@ module _ (port : ℕ) (frame base next : List ℕ) (can : CanTurn port frame nex
       by f false = value-lt next can.is_key f
 
   near-can : CanTurn port frame near
-  near-can = record { bytes = can.bytes; whole = can.whole; in_port = can.in_port; is_key = near-key; has_proper_tag = can.has_proper_tag; uncovers_none = can.uncovers_none }
+  near-can = record { bytes = can.bytes; whole = can.whole; in_port = can.in_port; is_key = near-key; has_proper_tags = can.has_proper_tags; has_tag_types = can.has_tag_types; uncovers_none = can.uncovers_none }
 
   near-after : (f : FieldId) → is_after f ≡ true → value_of near f ≡ value_of here f
   near-after f e = map-at nearer f ∙ ap (λ (t : Bool). if t then value_of here f else value_of next f) e
 
   abbrev near_aimed : FieldId → ℕ
-  near_aimed f = if is_tag_field f || shows port frame f then value_of near f else value_of here f
+  near_aimed f = if is_of_tags f || shows port frame f then value_of near f else value_of here f
 
   near-aim-after : (f : FieldId) → is_after f ≡ true → value_of (turned port frame near) f ≡ value_of here f
-  near-aim-after f e = map-at near_aimed f ∙ by (is_tag_field f || shows port frame f)
+  near-aim-after f e = map-at near_aimed f ∙ by (is_of_tags f || shows port frame f)
     where
       by : (t : Bool) → (if t then value_of near f else value_of here f) ≡ value_of here f
       by true = near-after f e
@@ -180,7 +180,9 @@ module _ (port : ℕ) (frame base next : List ℕ) (can : CanTurn port frame nex
   commit-parts =
       ap₂ (λ (xs : List DpAction) (ts : List VlanTag). xs ++ (commit_tags ts (tags_of next) ++ after base next))
       (ap₂ (λ (x y : ℕ). commit_field DlSrc x (value_of next DlSrc) ++ (commit_field DlDst y (value_of next DlDst) ++ [])) (same DlSrc refl) (same DlDst refl))
-      (ap (λ (z : ℕ). if is_tag z then record { tci = z } ∷ [] else []) (same VlanTci refl))
+      (ap₂ (λ (o i : VlanTag). if is_tag o.tci then (if is_tag i.tci then i ∷ o ∷ [] else o ∷ []) else [])
+      (ap₂ (λ (p c : ℕ). record { tpid = p; tci = c }) (same VlanTpid refl) (same VlanTci refl))
+      (ap₂ (λ (p c : ℕ). record { tpid = p; tci = c }) (same VlanTpid2 refl) (same VlanTci2 refl)))
       ∙ parted (before here next) (tags here next) (after here near) (after base next) (none-differ here near fields_after_tags near-after refl)
 
   aim-parts : commit here aim ≡ commit here (turned port frame near) ++ after here aim

@@ -1,5 +1,6 @@
 pub mod Emitted
 pub mod MadeKeys
+pub mod TagTypes
 pub mod MadeOutputs
 pub mod LaterCommits
 pub mod WholeHeaders

@@ -12,11 +12,11 @@ use Rattle.spec_actions.specs.declared.named_field.NamedField.{NamedField}
 use Rattle.spec_actions.specs.declared.named_field.NamedField.TheVariants as name
 use Rattle.spec_actions.specs.declared.named_field.Prerequisite.TheVariants as needs
 use Rattle.spec_actions.specs.Named.{named}
-use Rattle.spec_xlate.specs.Tags.{is_tag, is_tag_field, tagged}
+use Rattle.spec_xlate.specs.Tags.{VlanTag, is_tag, is_tag_field, outer_tag, inner_tag, no_tag, with_tags, popped, pushed, type_of_written, tagged}
 use Rattle.spec_xlate.specs.Needs.{is_ip, is_unfragmented, is_protocol, is_met}
 use Rattle.spec_base.specs.Bits.{merged}
 use Rattle.spec_xlate.specs.Translation.{with_value, written, in_field, written_bits}
-use Rattle.spec_keys.specs.Protocols.{ipv4_type, ipv6_type, arp_type, tcp_protocol, udp_protocol}
+use Rattle.spec_keys.specs.Protocols.{tag_bit, customer_tag, ipv4_type, ipv6_type, arp_type, tcp_protocol, udp_protocol}
 use Rattle.translation_laws.proofs.CommitLaws.{place_of-lt}
 use Rattle.sending_laws.specs.Made.{can_change}
 
@@ -122,9 +122,10 @@ written_bits-none n bits e = ap (λ (z : ℕ). in_field n z) (ap (bit_and bits) 
 
 -- ---- keys
 
--- A key within the widths, with the packet's numbers where no action can write.
-pub record Fits (packet key : List ℕ) : Type 0 where
-  pub is_key : IsKey key
+-- A key with the packet's numbers where no action can write, and under a premise within the widths: that what is pushed are
+-- tags.
+pub record Fits (P : Type 0) (packet key : List ℕ) : Type 0 where
+  pub is_key : P → IsKey key
   pub others_stay : (f : FieldId) → can_change packet f ≡ false → value_of key f ≡ value_of packet f
 
 pub value-lt : (key : List ℕ) → IsKey key → (f : FieldId) → value_of key f < 2 ^ width_of f
@@ -141,61 +142,91 @@ set-is_key f x key l is = record { fields = length-set key (place_of f) x ∙ is
         (subst (λ (z : ℕ). z < 2 ^ number_at widths (place_of f)) (sym (get_or-set_same key (place_of f) x 0 there)) (subst (λ (w : ℕ). x < 2 ^ w) (width-place f) l))
     at q false e = subst (λ (z : ℕ). z < 2 ^ number_at widths q) (sym (get_or-set_other key (place_of f) q x 0 (eqb-false q (place_of f) e))) (is.fit q)
 
-pub set-fits : (packet : List ℕ) (f : FieldId) (x : ℕ) (key : List ℕ) → can_change packet f ≡ true → x < 2 ^ width_of f → Fits packet key → Fits packet (set key (place_of f) x)
-set-fits packet f x key can l h = record {
-  is_key = set-is_key f x key l h.is_key;
-  others_stay = λ g no. get_or-set_other key (place_of f) (place_of g) x 0 (λ e. clash (sym can ∙ ap (can_change packet) (sym (same-field g f e)) ∙ no)) ∙ h.others_stay g no;
-}
-  where
-    clash : true ≡ false → ⊥
-    clash e = cc
+module _ (P : Type 0) where
+  pub set-fits : (packet : List ℕ) (f : FieldId) (x : ℕ) (key : List ℕ) → can_change packet f ≡ true → (P → x < 2 ^ width_of f) → Fits P packet key → Fits P packet (set key (place_of f) x)
+  set-fits packet f x key can l h = record {
+    is_key = λ p. set-is_key f x key (l p) (h.is_key p);
+    others_stay = λ g no. get_or-set_other key (place_of f) (place_of g) x 0 (λ e. clash (sym can ∙ ap (can_change packet) (sym (same-field g f e)) ∙ no)) ∙ h.others_stay g no;
+  }
+    where
+      clash : true ≡ false → ⊥
+      clash e = cc
 
-pub tagged-fits : (packet : List ℕ) (tci : ℕ) (key : List ℕ) → tci < 65536 → Fits packet key → Fits packet (tagged tci key)
-tagged-fits packet tci key l h = set-fits packet field.VlanTci (if is_tag tci then tci else 0) key refl (at (is_tag tci)) h
-  where
-    at : (t : Bool) → (if t then tci else 0) < 65536
-    at true = l
-    at false = omega arith
+  -- tags that are written
+  with_tags-fits : (packet : List ℕ) (o i : VlanTag) (key : List ℕ) → (P → o.tci < 65536) → (P → o.tpid < 65536) → (P → i.tci < 65536) → (P → i.tpid < 65536)
+      → Fits P packet key → Fits P packet (with_tags o i key)
+  with_tags-fits packet o i key a b c d h =
+      let one = set-fits packet field.VlanTci o.tci key refl a h in
+      let two = set-fits packet field.VlanTpid o.tpid _ refl b one in
+      let three = set-fits packet field.VlanTci2 i.tci _ refl c two in
+      set-fits packet field.VlanTpid2 i.tpid _ refl d three
 
-merged-lt : (width number value mask : ℕ) → number < 2 ^ width → mask < 2 ^ width → merged number value mask < 2 ^ width
-merged-lt width number value mask l m = xor_lt width number (bit_and (bit_xor number value) mask) l (lt_of_le_of_lt (and_le_r (bit_xor number value) mask) m)
+  pub popped-fits : (packet : List ℕ) (key : List ℕ) → Fits P packet key → Fits P packet (popped key)
+  popped-fits packet key h =
+      with_tags-fits packet (inner_tag key) no_tag key (λ p. value-lt key (h.is_key p) field.VlanTci2) (λ p. value-lt key (h.is_key p) field.VlanTpid2)
+      (λ p. omega arith) (λ p. omega arith) h
 
-pub written-fits : (packet : List ℕ) (f : FieldId) (v m : ℕ) (key : List ℕ) → can_change packet f ≡ true → m < 2 ^ width_of f → Fits packet key → Fits packet (written f v m key)
-written-fits packet f v m key can l h = at (m == 0) (is_tag_field f) refl
-  where
-    number : ℕ
-    number = merged (value_of key f) v m
+  pub pushed-fits : (packet : List ℕ) (tpid : ℕ) (key : List ℕ) → (P → tpid < 65536) → Fits P packet key → Fits P packet (pushed tpid key)
+  pushed-fits packet tpid key l h =
+      with_tags-fits packet (record { tpid = tpid; tci = tag_bit }) (outer_tag key) key (λ p. omega arith) l
+      (λ p. value-lt key (h.is_key p) field.VlanTci) (λ p. value-lt key (h.is_key p) field.VlanTpid) h
 
-    small : number < 2 ^ width_of f
-    small = merged-lt (width_of f) (value_of key f) v m (value-lt key h.is_key f) l
+  type_of_written-lt : (tpid : ℕ) → tpid < 65536 → type_of_written tpid < 65536
+  type_of_written-lt tpid l = at (tpid == 0)
+    where
+      at : (t : Bool) → (if t then customer_tag else tpid) < 65536
+      at true = omega arith
+      at false = l
 
-    width : (g : FieldId) → is_tag_field g ≡ true → number < 2 ^ width_of g → number < 65536
-    width field.VlanTci e s = s
-    width g e s = absurd cc
+  pub tagged-fits : (packet : List ℕ) (tci : ℕ) (key : List ℕ) → (P → tci < 65536) → Fits P packet key → Fits P packet (tagged tci key)
+  tagged-fits packet tci key l h = at (is_tag tci)
+    where
+      at : (t : Bool) → Fits P packet (if t then with_tags (record { tpid = type_of_written (outer_tag key).tpid; tci = tci }) (inner_tag key) key else popped key)
+      at true =
+          with_tags-fits packet (record { tpid = type_of_written (outer_tag key).tpid; tci = tci }) (inner_tag key) key l
+          (λ p. type_of_written-lt (outer_tag key).tpid (value-lt key (h.is_key p) field.VlanTpid))
+          (λ p. value-lt key (h.is_key p) field.VlanTci2) (λ p. value-lt key (h.is_key p) field.VlanTpid2) h
+      at false = popped-fits packet key h
 
-    at : (z u : Bool) → is_tag_field f ≡ u → Fits packet (if z then key else (if u then tagged number key else set key (place_of f) number))
-    at true u e = h
-    at false true e = tagged-fits packet number key (width f e small) h
-    at false false e = set-fits packet f number key can small h
+  merged-lt : (width number value mask : ℕ) → number < 2 ^ width → mask < 2 ^ width → merged number value mask < 2 ^ width
+  merged-lt width number value mask l m = xor_lt width number (bit_and (bit_xor number value) mask) l (lt_of_le_of_lt (and_le_r (bit_xor number value) mask) m)
 
--- a write to a named field
-pub write-fits : (packet : List ℕ) (n : NamedField) (v bits : ℕ) (key : List ℕ) → is_met (named n).write_needs key ≡ true → Fits packet key
-    → Fits packet (written (named n).field (in_field n v) (written_bits n bits) key)
-write-fits packet n v bits key met h = at (can-write n key met)
-  where
-    alike : AlikeKinds key packet
-    alike = record { type = h.others_stay field.DlType refl; protocol = h.others_stay field.NwProto refl; part = h.others_stay field.IpFrag refl }
+  pub written-fits : (packet : List ℕ) (f : FieldId) (v m : ℕ) (key : List ℕ) → can_change packet f ≡ true → m < 2 ^ width_of f → Fits P packet key → Fits P packet (written f v m key)
+  written-fits packet f v m key can l h = at (m == 0) (is_tag_field f) refl
+    where
+      number : ℕ
+      number = merged (value_of key f) v m
 
-    at : (can_change key (named n).field ≡ true) ⊎ ((named n).writable ≡ 0) → Fits packet (written (named n).field (in_field n v) (written_bits n bits) key)
-    at (inl e) = written-fits packet (named n).field (in_field n v) (written_bits n bits) key (sym (can_change-alike key packet alike (named n).field) ∙ e) (written_bits-lt n bits) h
-    at (inr e) =
-        let none = cond-true (written_bits n bits == 0) key (with_value (named n).field (merged (value_of key (named n).field) (in_field n v) (written_bits n bits)) key) (eq-eqb (written_bits n bits) 0 (written_bits-none n bits e)) in
-        subst (Fits packet) (sym none) h
+      small : P → number < 2 ^ width_of f
+      small p = merged-lt (width_of f) (value_of key f) v m (value-lt key (h.is_key p) f) l
 
--- the TTL lowered
-pub ttl-fits : (packet : List ℕ) (key : List ℕ) (x : ℕ) → is_met needs.Ip key ≡ true → x ≤ value_of key field.NwTtl → Fits packet key
-    → Fits packet (set key (place_of field.NwTtl) x)
-unfolding is_met
-ttl-fits packet key x met le h =
-    set-fits packet field.NwTtl x key (sym (ap (λ (y : ℕ). (y == ipv4_type) || (y == ipv6_type)) (h.others_stay field.DlType refl)) ∙ met)
-    (lt_of_le_of_lt le (value-lt key h.is_key field.NwTtl)) h
+      width : (g : FieldId) → is_tag_field g ≡ true → number < 2 ^ width_of g → number < 65536
+      width field.VlanTci e s = s
+      width g e s = absurd cc
+
+      at : (z u : Bool) → is_tag_field f ≡ u → Fits P packet (if z then key else (if u then tagged number key else set key (place_of f) number))
+      at true u e = h
+      at false true e = tagged-fits packet number key (λ p. width f e (small p)) h
+      at false false e = set-fits packet f number key can small h
+
+  -- a write to a named field
+  pub write-fits : (packet : List ℕ) (n : NamedField) (v bits : ℕ) (key : List ℕ) → is_met (named n).write_needs key ≡ true → Fits P packet key
+      → Fits P packet (written (named n).field (in_field n v) (written_bits n bits) key)
+  write-fits packet n v bits key met h = at (can-write n key met)
+    where
+      alike : AlikeKinds key packet
+      alike = record { type = h.others_stay field.DlType refl; protocol = h.others_stay field.NwProto refl; part = h.others_stay field.IpFrag refl }
+
+      at : (can_change key (named n).field ≡ true) ⊎ ((named n).writable ≡ 0) → Fits P packet (written (named n).field (in_field n v) (written_bits n bits) key)
+      at (inl e) = written-fits packet (named n).field (in_field n v) (written_bits n bits) key (sym (can_change-alike key packet alike (named n).field) ∙ e) (written_bits-lt n bits) h
+      at (inr e) =
+          let none = cond-true (written_bits n bits == 0) key (with_value (named n).field (merged (value_of key (named n).field) (in_field n v) (written_bits n bits)) key) (eq-eqb (written_bits n bits) 0 (written_bits-none n bits e)) in
+          subst (Fits P packet) (sym none) h
+
+  -- the TTL lowered
+  pub ttl-fits : (packet : List ℕ) (key : List ℕ) (x : ℕ) → is_met needs.Ip key ≡ true → x ≤ value_of key field.NwTtl → Fits P packet key
+      → Fits P packet (set key (place_of field.NwTtl) x)
+  unfolding is_met
+  ttl-fits packet key x met le h =
+      set-fits packet field.NwTtl x key (sym (ap (λ (y : ℕ). (y == ipv4_type) || (y == ipv6_type)) (h.others_stay field.DlType refl)) ∙ met)
+      (λ p. lt_of_le_of_lt le (value-lt key (h.is_key p) field.NwTtl)) h

@@ -1,17 +1,16 @@
 -- What a translation sends of a frame: output by output, the frame with the current key.
-use Rattle.std.proofs.Common.{◌≡◌, ℕ, ◌<◌, Bool, true, false, ◌==◌, ◌||◌, if◌then◌else◌, IsTrue, List, [], ◌∷◌, map, length, All, refl, sym, ap, ap₂, ◌∙◌}
+use Rattle.std.proofs.Common.{◌≡◌, ℕ, ◌<◌, Bool, true, false, ◌||◌, if◌then◌else◌, IsTrue, List, [], ◌∷◌, map, length, All, refl, sym, ap, ap₂, ◌∙◌, subst}
 use Rattle.std.proofs.lemmas.List.Elements.{All-head, All-tail}
 use Rattle.spec_base.specs.Bytes.{big_endian_at}
 use Rattle.spec_keys.specs.declared.field_id.FieldId.{FieldId}
-use Rattle.spec_keys.specs.declared.field_id.FieldId.TheVariants.{VlanTci}
 use Rattle.spec_keys.specs.Fields.{fields}
 use Rattle.spec_keys.specs.Keys.{value_of, IsKey}
-use Rattle.spec_frames.specs.Ethernet.{header_size, is_tagged, carried}
+use Rattle.spec_frames.specs.Ethernet.{header_size, carried}
 use Rattle.spec_frames.specs.Network.{network}
 use Rattle.spec_frames.specs.Key.{key_of}
 use Rattle.spec_actions.specs.declared.action.DpAction.{DpAction}
 use Rattle.spec_actions.specs.declared.action.DpAction.TheVariants.{Output}
-use Rattle.spec_xlate.specs.Tags.{is_tag, is_tag_field}
+use Rattle.spec_xlate.specs.Tags.{VlanTag, is_tag, outer_tag, inner_tag, is_full}
 use Rattle.spec_xlate.specs.Commit.{commit}
 use Rattle.spec_xlate.specs.Translation.{Switch, pipe}
 use Rattle.translation_laws.specs.Applied.{is_proper}
@@ -19,11 +18,11 @@ use Rattle.key_laws.proofs.KeyLaws.{key_of-IsKey}
 use Rattle.spec_exec.specs.Sent.{Piece, sent}
 use Rattle.exec_laws.specs.ReadBack.{shows}
 use Rattle.exec_laws.specs.Sends.{after_actions}
-use Rattle.exec_laws.specs.Become.{has_second_tag, turned, is_register, without_registers, CanTurn, KeyedOutput, outputs_of}
-use Rattle.exec_laws.proofs.Addresses.{shown_tci, key-is}
-use Rattle.exec_laws.proofs.Fields.{network-says}
-use Rattle.exec_laws.proofs.Tags.{shown-is_tag, shown-proper}
-use Rattle.exec_laws.proofs.OneTag.{untagged-pop}
+use Rattle.exec_laws.specs.Become.{has_third_tag, is_of_tags, HasTagTypes, turned, is_register, without_registers, CanTurn, KeyedOutput, outputs_of}
+use Rattle.exec_laws.proofs.Addresses.{shown_tags, key-is}
+use Rattle.exec_laws.proofs.Fields.{outer_of, inner_of, network-says}
+use Rattle.exec_laws.proofs.Tags.{are_proper, shown-proper}
+use Rattle.sending_laws.proofs.TagTypes.{IsTyped, to-HasTagTypes, shown-outer, shown-inner, third-full}
 use Rattle.exec_laws.proofs.EachField.{short-stays}
 use Rattle.exec_laws.proofs.Sending.{sent-before}
 use Rattle.exec_laws.proofs.OnTheWay.{OnTheWay}
@@ -31,7 +30,7 @@ use Rattle.exec_laws.proofs.CommitSteps.{map-at}
 use Rattle.exec_laws.proofs.Turned.{map-same, key-turned, key-becomes, commit-same, commit-silent}
 use Rattle.exec_laws.proofs.Outputs.{outputs-ports}
 use Rattle.sending_laws.specs.Outputs.{translation_outputs}
-use Rattle.sending_laws.specs.Made.{can_change, IsMadeOf}
+use Rattle.sending_laws.specs.Made.{can_change, IsMadeOf, PushTags}
 use Rattle.sending_laws.specs.Received.{IsReceived, UncoverNone, HasItsHeaders}
 use Rattle.sending_laws.proofs.Emitted.{translation-emits}
 use Rattle.sending_laws.proofs.MadeOutputs.{outputs-keys}
@@ -52,7 +51,7 @@ module _ (port : ℕ) (frame : List ℕ) (came : IsReceived port frame) where
   packet = key_of port frame
 
   abbrev aimed : List ℕ → FieldId → ℕ
-  aimed key f = if is_tag_field f || shows port frame f then value_of key f else value_of packet f
+  aimed key f = if is_of_tags f || shows port frame f then value_of key f else value_of packet f
 
   -- A frame that is reached, where this key is the current one.
   record Reached (g base : List ℕ) : Type 0 where
@@ -64,16 +63,16 @@ module _ (port : ℕ) (frame : List ℕ) (came : IsReceived port frame) where
   number-is g base at f = ap (λ (k : List ℕ). value_of k f) at.is ∙ map-at (aimed base) f
 
   -- the key stands for the frame's own in what that shows
-  same-shown : (g base : List ℕ) → Reached g base → (f : FieldId) → (is_tag_field f || shows port g f) ≡ true → value_of base f ≡ value_of (key_of port g) f
+  same-shown : (g base : List ℕ) → Reached g base → (f : FieldId) → (is_of_tags f || shows port g f) ≡ true → value_of base f ≡ value_of (key_of port g) f
   same-shown g base at f e =
-      sym (number-is g base at f ∙ ap (λ (t : Bool). if t then value_of base f else value_of packet f) (ap (λ (t : Bool). is_tag_field f || t) (sym (at.there.alike f)) ∙ e))
+      sym (number-is g base at f ∙ ap (λ (t : Bool). if t then value_of base f else value_of packet f) (ap (λ (t : Bool). is_of_tags f || t) (sym (at.there.alike f)) ∙ e))
 
   turned-alike : (g base key : List ℕ) → Reached g base → turned port g key ≡ turned port frame key
   turned-alike g base key at =
-      map-same (λ f. if is_tag_field f || shows port g f then value_of key f else value_of (key_of port g) f) (aimed key)
+      map-same (λ f. if is_of_tags f || shows port g f then value_of key f else value_of (key_of port g) f) (aimed key)
       (λ f.
-      ap (λ (s : Bool). if is_tag_field f || s then value_of key f else value_of (key_of port g) f) (at.there.alike f)
-      ∙ swap (is_tag_field f || shows port frame f) (value_of key f) (value_of base f) (value_of (key_of port g) f) (value_of packet f) (number-is g base at f)) fields
+      ap (λ (s : Bool). if is_of_tags f || s then value_of key f else value_of (key_of port g) f) (at.there.alike f)
+      ∙ swap (is_of_tags f || shows port frame f) (value_of key f) (value_of base f) (value_of (key_of port g) f) (value_of packet f) (number-is g base at f)) fields
     where
       swap : (t : Bool) (x y z w : ℕ) → z ≡ (if t then y else w) → (if t then x else z) ≡ (if t then x else w)
       swap true x y z w e = refl
@@ -85,7 +84,8 @@ module _ (port : ℕ) (frame : List ℕ) (came : IsReceived port frame) where
     whole = at.there.whole;
     in_port = can.in_port;
     is_key = can.is_key;
-    has_proper_tag = can.has_proper_tag;
+    has_proper_tags = can.has_proper_tags;
+    has_tag_types = can.has_tag_types;
     uncovers_none = λ z. at.there.single (can.uncovers_none z);
   }
 
@@ -94,7 +94,7 @@ module _ (port : ℕ) (frame : List ℕ) (came : IsReceived port frame) where
       let here = turn-there g base key at can in
       let there = later-there port g base key here at.is_key (same-shown g base at) in
       record {
-        there = record { bytes = there.bytes; whole = there.whole; alike = λ f. there.alike f ∙ at.there.alike f; single = λ one. there.single (at.there.single one) };
+        there = record { bytes = there.bytes; whole = there.whole; alike = λ f. there.alike f ∙ at.there.alike f; single = λ first. there.single (at.there.single first) };
         is_key = can.is_key;
         is = later-turned port g base key here at.is_key (same-shown g base at) ∙ turned-alike g base key at;
       }
@@ -112,33 +112,44 @@ module _ (port : ℕ) (frame : List ℕ) (came : IsReceived port frame) where
 
   -- ---- the packet's key
 
-  packet-tci : value_of packet VlanTci ≡ shown_tci frame
-  packet-tci =
-      ap (λ (k : List ℕ). value_of k VlanTci) (key-is port frame came.whole)
-      ∙ (network-says frame (network frame) port (carried frame).dl_type (big_endian_at 6 frame 6) (big_endian_at 6 frame 0) (shown_tci frame)).vlan_tci
+  packet-tags : (outer_tag packet ≡ outer_of (shown_tags frame)) × (inner_tag packet ≡ inner_of (shown_tags frame))
+  packet-tags =
+      let says = network-says frame (network frame) port (carried frame).dl_type (big_endian_at 6 frame 6) (big_endian_at 6 frame 0) (shown_tags frame) in
+      (ap outer_tag (key-is port frame came.whole) ∙ says.outer, ap inner_tag (key-is port frame came.whole) ∙ says.inner)
 
   packet-proper : IsTrue (is_proper packet)
-  packet-proper = ap (λ (z : ℕ). (z == 0) || is_tag z) packet-tci ∙ shown-proper frame
+  packet-proper = ap₂ are_proper packet-tags.0 packet-tags.1 ∙ shown-proper frame
+
+  packet-typed : HasTagTypes packet
+  packet-typed = to-HasTagTypes packet (record {
+    outer = subst IsTyped (sym packet-tags.0) (shown-outer frame);
+    inner = subst IsTyped (sym packet-tags.1) (shown-inner frame);
+  })
 
   packet-key : IsKey packet
   packet-key = key_of-IsKey frame came.bytes port came.in_port
 
-  -- a frame without a tag has no second one
-  packet-single : value_of packet VlanTci ≡ 0 → has_second_tag frame ≡ false
-  packet-single e =
-      let untagged = sym (shown-is_tag frame) ∙ ap is_tag (sym packet-tci ∙ e) in
-      ap is_tagged (untagged-pop frame came.whole untagged) ∙ untagged
+  -- a frame with less than two tags has no third one
+  packet-single : is_full packet ≡ false → has_third_tag frame ≡ false
+  packet-single less = third-full frame (ap (λ (i : VlanTag). is_tag i.tci) (sym packet-tags.1) ∙ less)
 
-  can-turn : (key : List ℕ) → IsMadeOf packet key → (value_of key VlanTci ≡ 0 → has_second_tag frame ≡ false) → CanTurn port frame key
-  can-turn key made uncovers_none =
-      record { bytes = came.bytes; whole = came.whole; in_port = came.in_port; is_key = made.is_key; has_proper_tag = made.has_proper_tag; uncovers_none = uncovers_none }
+  can-turn : (key : List ℕ) → IsMadeOf packet key → (is_full key ≡ false → has_third_tag frame ≡ false) → CanTurn port frame key
+  can-turn key made uncovers_none = record {
+    bytes = came.bytes;
+    whole = came.whole;
+    in_port = came.in_port;
+    is_key = made.is_key;
+    has_proper_tags = made.has_proper_tags;
+    has_tag_types = made.has_tag_types;
+    uncovers_none = uncovers_none;
+  }
 
   -- the frame itself, which a commit to its key leaves as it is
   first-reached : Reached frame packet
   first-reached =
-      let can = can-turn packet (record { is_key = packet-key; has_proper_tag = packet-proper; others_stay = λ f no. refl }) packet-single in
+      let can = can-turn packet (record { is_key = packet-key; has_proper_tags = packet-proper; has_tag_types = packet-typed; others_stay = λ f no. refl }) packet-single in
       record {
-        there = record { bytes = came.bytes; whole = came.whole; alike = λ f. refl; single = λ one. one };
+        there = record { bytes = came.bytes; whole = came.whole; alike = λ f. refl; single = λ first. first };
         is_key = packet-key;
         is = sym (ap (λ (actions : List DpAction). key_of port (after_actions actions frame)) (commit-same packet)) ∙ key-turned port frame packet can;
       }
@@ -146,23 +157,23 @@ module _ (port : ℕ) (frame : List ℕ) (came : IsReceived port frame) where
   -- ---- what a translation makes of the frame
 
   -- its outputs have keys that are made of the packet's
-  pub sent-made : (sw : Switch) → All (λ o. IsMadeOf packet o.key) (translation_outputs sw packet)
-  sent-made sw = outputs-keys sw packet packet-key packet-proper
+  pub sent-made : (sw : Switch) → PushTags sw → All (λ o. IsMadeOf packet o.key) (translation_outputs sw packet)
+  sent-made sw push = outputs-keys sw packet push packet-key packet-proper packet-typed
 
-  module _ (sw : Switch) (none : UncoverNone frame (translation_outputs sw packet)) where
+  module _ (sw : Switch) (push : PushTags sw) (none : UncoverNone frame (translation_outputs sw packet)) where
     abbrev outputs : List KeyedOutput
     outputs = translation_outputs sw packet
 
     pub sent-turned : map (λ piece. key_of port piece.bytes) (sent (pipe sw packet).actions frame) ≡ map (λ o. turned port frame o.key) outputs
     sent-turned =
         ap (λ (actions : List DpAction). map (λ (piece : Piece). key_of port piece.bytes) (sent actions frame)) (translation-emits sw packet)
-        ∙ all-turned frame packet outputs first-reached (λ k d l. can-turn _ (sent-made sw k d l) (none k d l))
+        ∙ all-turned frame packet outputs first-reached (λ k d l. can-turn _ (sent-made sw push k d l) (none k d l))
 
     -- where the headers are there the key is the current one
     whole-turned : HasItsHeaders port frame → (key : List ℕ) → CanTurn port frame key → IsMadeOf packet key → turned port frame key ≡ without_registers key
     whole-turned headers key can of_packet = sym (key-turned port frame key can) ∙ key-becomes port frame key (record { can_turn = can; others_stay = λ f r t s. at f (can_change packet f) refl r t s })
       where
-        at : (f : FieldId) (c : Bool) → can_change packet f ≡ c → is_register f ≡ false → is_tag_field f ≡ false → shows port frame f ≡ false → value_of key f ≡ value_of packet f
+        at : (f : FieldId) (c : Bool) → can_change packet f ≡ c → is_register f ≡ false → is_of_tags f ≡ false → shows port frame f ≡ false → value_of key f ≡ value_of packet f
         at f true e r t s = let shown = shown-change port frame headers f r t e in absurd cc
         at f false e r t s = of_packet.others_stay f e
 
@@ -171,13 +182,13 @@ module _ (port : ℕ) (frame : List ℕ) (came : IsReceived port frame) where
     all-whole headers [] of_packet single = refl
     all-whole headers (o ∷ os) of_packet single =
         let here = All-head (λ (o : KeyedOutput). IsMadeOf packet o.key) o os of_packet in
-        let covered = All-head (λ (o : KeyedOutput). value_of o.key VlanTci ≡ 0 → has_second_tag frame ≡ false) o os single in
+        let covered = All-head (λ (o : KeyedOutput). is_full o.key ≡ false → has_third_tag frame ≡ false) o os single in
         ap₂ (λ (k : List ℕ) (ks : List (List ℕ)). k ∷ ks) (whole-turned headers o.key (can-turn o.key here covered) here)
         (all-whole headers os (All-tail (λ (o : KeyedOutput). IsMadeOf packet o.key) o os of_packet)
-        (All-tail (λ (o : KeyedOutput). value_of o.key VlanTci ≡ 0 → has_second_tag frame ≡ false) o os single))
+        (All-tail (λ (o : KeyedOutput). is_full o.key ≡ false → has_third_tag frame ≡ false) o os single))
 
     pub sent-keys : HasItsHeaders port frame → map (λ piece. key_of port piece.bytes) (sent (pipe sw packet).actions frame) ≡ map (λ o. without_registers o.key) outputs
-    sent-keys headers = sent-turned ∙ all-whole headers outputs (sent-made sw) none
+    sent-keys headers = sent-turned ∙ all-whole headers outputs (sent-made sw push) none
 
 -- ---- a shorter frame, which no action changes
 

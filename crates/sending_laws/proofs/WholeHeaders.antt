@@ -11,12 +11,11 @@ use Rattle.spec_frames.specs.declared.layout.L4.{L4}
 use Rattle.spec_frames.specs.declared.layout.L4.TheVariants as l4
 use Rattle.spec_frames.specs.Layout.{layout_of}
 use Rattle.spec_frames.specs.Key.{key_of}
-use Rattle.spec_xlate.specs.Tags.{is_tag_field}
 use Rattle.spec_xlate.specs.Needs.{is_ip, is_unfragmented, is_protocol, is_met}
 use Rattle.spec_exec.specs.Places.{in_network, port_at}
 use Rattle.frame_laws.specs.Headers.{is_ipv4, is_ipv6}
 use Rattle.exec_laws.specs.ReadBack.{shows}
-use Rattle.exec_laws.specs.Become.{is_register}
+use Rattle.exec_laws.specs.Become.{is_of_tags, is_register}
 use Rattle.sending_laws.specs.Made.{can_change}
 use Rattle.sending_laws.specs.Received.{is_arp, has_ports, HasItsHeaders}
 
@@ -91,13 +90,16 @@ module _ (port : ℕ) (frame : List ℕ) (headers : HasItsHeaders port frame) wh
       let whole = and_parts (is_protocol tcp_protocol key || is_protocol udp_protocol key) (is_unfragmented key) parts.1 in
       ap₂ (λ (t u : Bool). t && u) (port-there offset (layout_of frame).l4 (headers.transport e)) whole.1
 
-  pub shown-change : (f : FieldId) → is_register f ≡ false → is_tag_field f ≡ false → can_change key f ≡ true → shows port frame f ≡ true
+  pub shown-change : (f : FieldId) → is_register f ≡ false → is_of_tags f ≡ false → can_change key f ≡ true → shows port frame f ≡ true
   unfolding is_met
   shown-change field.InPort r t e = absurd cc
   shown-change field.DlType r t e = absurd cc
   shown-change field.NwProto r t e = absurd cc
   shown-change field.IpFrag r t e = absurd cc
   shown-change field.VlanTci r t e = absurd cc
+  shown-change field.VlanTpid r t e = absurd cc
+  shown-change field.VlanTci2 r t e = absurd cc
+  shown-change field.VlanTpid2 r t e = absurd cc
   shown-change field.DlSrc r t e = refl
   shown-change field.DlDst r t e = refl
   shown-change field.NwSrc r t e = (source e).0

@@ -1,8 +1,7 @@
 -- What a translation sends of a frame, and the frames of which that is said.
 use Rattle.std.specs.Prelude.{◌≡◌, ℕ, ◌<◌, ◌≤◌, ◌^◌, Bool, true, false, IsTrue, List, length, All}
-use Rattle.spec_keys.specs.declared.field_id.FieldId.TheVariants.{InPort, VlanTci}
+use Rattle.spec_keys.specs.declared.field_id.FieldId.TheVariants.{InPort}
 use Rattle.spec_keys.specs.Fields.{width_of}
-use Rattle.spec_keys.specs.Keys.{value_of}
 use Rattle.spec_actions.specs.declared.named_field.Prerequisite.TheVariants as needs
 use Rattle.spec_frames.specs.declared.layout.L3.{L3}
 use Rattle.spec_frames.specs.declared.layout.L3.TheVariants as l3
@@ -11,12 +10,13 @@ use Rattle.spec_frames.specs.declared.layout.L4.TheVariants as l4
 use Rattle.spec_frames.specs.Ethernet.{header_size}
 use Rattle.spec_frames.specs.Layout.{layout_of}
 use Rattle.spec_frames.specs.Key.{key_of}
+use Rattle.spec_xlate.specs.Tags.{is_full}
 use Rattle.spec_xlate.specs.Needs.{is_met}
 use Rattle.spec_xlate.specs.Translation.{Switch, pipe}
 use Rattle.spec_exec.specs.Sent.{Piece, sent}
 use Rattle.frame_laws.specs.Headers.{is_ipv4, is_ipv6}
 use Rattle.exec_laws.specs.ReadBack.{AreBytes}
-use Rattle.exec_laws.specs.Become.{has_second_tag, KeyedOutput}
+use Rattle.exec_laws.specs.Become.{has_third_tag, KeyedOutput}
 use Rattle.sending_laws.specs.Outputs.{translation_outputs}
 
 -- what the switch sends of a frame that came in at a port
@@ -33,10 +33,10 @@ pub record IsReceived (port : ℕ) (frame : List ℕ) : Type 0 where
   pub bytes : AreBytes frame
   pub whole : header_size ≤ length frame
 
--- Where the frame has a second tag, which its key doesn't show, the packet has a tag at each output: a tag that goes
--- uncovers the one after it.
+-- Where the frame has a third tag, which its key doesn't show, the packet has two tags at each output: a tag that goes
+-- uncovers the third one.
 abbrev pub UncoverNone : List ℕ → List KeyedOutput → Type 0
-UncoverNone frame outputs = All (λ o. value_of o.key VlanTci ≡ 0 → has_second_tag frame ≡ false) outputs
+UncoverNone frame outputs = All (λ o. is_full o.key ≡ false → has_third_tag frame ≡ false) outputs
 
 -- whether a network header is that of ARP
 abbrev pub is_arp : L3 → Bool

@@ -15,10 +15,12 @@
 //! - *The keys of outputs* (`outputs_are_made_of_the_packet`): within their widths, with proper tags, and as the packet's
 //!   in all that flow actions can't write for such a packet, as `tp_src` for one that is neither TCP nor UDP. And their
 //!   ports: those of the switch.
-//! - *What is sent* (`what_is_sent_has_the_current_keys`), output by output. Two exceptions are stated as they are. A field
-//!   whose header isn't in the frame, though the key tells of it, stays as it came: in a network header that was cut
-//!   short or is malformed, in TCP of fewer than 20 bytes and UDP of fewer than 8. And a frame with a second tag, which
-//!   its key doesn't show, must not lose the first one: an output of a key without a tag would send the second.
+//! - *What is sent* (`what_is_sent_has_the_current_keys`), output by output. Three exceptions are stated as they are. A
+//!   field whose header isn't in the frame, though the key tells of it, stays as it came: in a network header that was cut
+//!   short or is malformed, in TCP of fewer than 20 bytes and UDP of fewer than 8. A frame with a third tag, which its key
+//!   doesn't show, has to keep two, be they others: an output of a key with fewer would send the third one as one of
+//!   them. And what is pushed has to be of a type that tags have, as by sound rules (`sound_rules_push_tags`): else
+//!   the frame doesn't show that it is a tag.
 //!
 //! # Which definitions this refuses
 //!
@@ -29,7 +31,7 @@
 //!   action over the limit that is dropped, where the translation is to end; a translation that ended as a whole and keeps
 //!   its actions.
 //! - Of the keys: a write that doesn't ask what the packet is, reaches beyond its field, or is made to `dl_type`,
-//!   `nw_proto`, `ip_frag` or `in_port`; a tag written without bit 0x1000; an output at a port that the switch doesn't
+//!   `nw_proto`, `ip_frag` or `in_port`; a tag written without bit 0x1000, or without a type; an output at a port that the switch doesn't
 //!   have.
 //! - Of what is sent: a commit that forgets a field, or pops and pushes in the other order; an output that sends the frame
 //!   as it came, or as later actions make it.
@@ -52,5 +54,7 @@
 mod actions;
 mod sends;
 
-pub use actions::{each_output_follows_a_commit, outputs_are_made_of_the_packet};
+pub use actions::{
+    each_output_follows_a_commit, outputs_are_made_of_the_packet, sound_rules_push_tags,
+};
 pub use sends::what_is_sent_has_the_current_keys;

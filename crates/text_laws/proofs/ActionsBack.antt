@@ -1,6 +1,6 @@
 -- A printed action is read as that action, of whatever kind.
 use Rattle.std.proofs.Common.{Ok, ◌≡◌, ℕ, ◌+◌, ◌-◌, ◌<◌, ◌≤◌, ◌^◌, Bool, true, false, cond, List, [], ◌∷◌, ◌++◌, length, refl, sym, subst, ap, ◌∙◌, arith, Some, None, eqb-true}
-use Rattle.std.specs.Prelude.{◌&&◌, ◌||◌, ◌==◌, codes, nat_lt, nat_le, bit_and}
+use Rattle.std.specs.Prelude.{not, ◌&&◌, ◌||◌, ◌==◌, codes, nat_lt, nat_le, bit_and}
 use Rattle.std.specs.List.{list_all, fold}
 use Rattle.std.proofs.lemmas.Bool.{and_parts, both_ways, ltb-true, leb-true}
 use Rattle.std.proofs.lemmas.Bool.Decides.{nat_tests}
@@ -10,7 +10,7 @@ use Rattle.spec_actions.specs.declared.named_field.NamedField.TheVariants as fie
 use Rattle.spec_actions.specs.declared.action.Slice.{Slice}
 use Rattle.spec_actions.specs.declared.action.OfAction.{OfAction}
 use Rattle.spec_actions.specs.declared.action.OfAction.TheVariants.{Output, OutputField, InPort, All, Flood, Resubmit, Goto, Set, Move, DecTtl, PushVlan, PopVlan, SetVid, SetPcp}
-use Rattle.spec_actions.specs.Named.{named}
+use Rattle.spec_actions.specs.Named.{named, is_printed_alone}
 use Rattle.spec_actions.specs.Sound.{is_written, fits_name, is_sound, is_sound_slice, last_table, last_vid, last_pcp}
 use Rattle.spec_numbers.specs.Characters.{hyphen, greater_than, slash}
 use Rattle.spec_numbers.specs.Numbers.{digits_upto, decimal_upto, number_upto, last_port, mac, octet_before_colon}
@@ -122,7 +122,7 @@ widest f n lt = omega arith
 
 slice_wide : (s : Slice) → is_sound_slice s ≡ true → IsWideEnough s
 slice_wide s h =
-    let p = and_parts (nat_le s.low s.high) (nat_lt s.high (named s.name).bits) h in
+    let p = and_parts (nat_le s.low s.high) (nat_lt s.high (named s.name).bits) (and_parts (not (is_printed_alone s.name)) _ h).1 in
     let low = leb-true s.low s.high p.0 in
     let high = ltb-true s.high (named s.name).bits p.1 in
     (widest s.name s.low (omega (arith, low, high)), widest s.name s.high high)
@@ -161,7 +161,7 @@ action_back r only last (Move source target) h g =
     let q = and_parts (is_sound_slice target) _ p.1 in
     move_back (numbers r) only last source target (slice_wide source p.0) (slice_wide target q.0) h
 action_back r only last DecTtl h g = dec_ttl_back only last
-action_back r only last PushVlan h g = push_vlan_back only last
+action_back r only last (PushVlan tpid) h g = push_vlan_back only last tpid h
 action_back r only last PopVlan h g = pop_vlan_back only last
 action_back r only last (SetVid vid) h g = set_vid_back (numbers r) only last vid (leb-true vid last_vid h)
 action_back r only last (SetPcp pcp) h g = set_pcp_back (numbers r) only last pcp (leb-true pcp last_pcp h)

@@ -7,7 +7,7 @@ use Rattle.std.proofs.Math.Seq.{take-append_seam, drop-append_seam, drop-append-
 use Rattle.std.proofs.lemmas.List.Splits.{slice_split-cons_yes, slice_split-cons_no}
 use Rattle.std.specs.Fmt.{digits, digits_onto, digit_glyph}
 use Rattle.std.specs.Char.{is_ascii_digit}
-use Rattle.std.proofs.lemmas.Bool.{and_from, and_parts, not-true}
+use Rattle.std.proofs.lemmas.Bool.{and_from, and_parts, both_ways, not-true}
 use Rattle.std.proofs.lemmas.Bool.Decides.{nat_tests}
 use Rattle.spec_actions.specs.declared.named_field.NamedField.{NamedField}
 use Rattle.spec_actions.specs.declared.named_field.NamedField.TheVariants as field
@@ -15,6 +15,9 @@ use Rattle.spec_actions.specs.declared.action.Slice.{Slice}
 use Rattle.spec_actions.specs.declared.action.OfAction.{OfAction}
 use Rattle.spec_actions.specs.declared.action.OfAction.TheVariants.{Output, OutputField, InPort, All, Flood, Resubmit, Goto, Move, DecTtl, PushVlan, PopVlan, SetVid, SetPcp}
 use Rattle.spec_actions.specs.Sound.{is_sound, is_written, is_sound_slice, last_table, last_vid, last_pcp}
+use Rattle.spec_actions.specs.Named.{is_printed_alone}
+use Rattle.spec_keys.specs.Protocols.{is_tag_type}
+use Rattle.spec_numbers.specs.Printed.{hexadecimal4}
 use Rattle.spec_numbers.specs.Characters.{dot, hyphen, greater_than, slash, comma, left_parenthesis, right_parenthesis, left_bracket, right_bracket, is_value_character}
 use Rattle.spec_numbers.specs.Numbers.{where_found, split_once, digits_upto, number_upto, last_port}
 use Rattle.spec_flow_text.specs.declared.names.ActionName.TheVariants as action
@@ -22,6 +25,7 @@ use Rattle.spec_flow_text.specs.Names.{name_of, field_named, action_named, reser
 use Rattle.spec_flow_text.specs.Items.{◌>>=◌, Word}
 use Rattle.spec_flow_text.specs.Actions.{field_in, written_field, output_field, output_to, arrow_place, ends_of_arrow, arrow_argument, move, greatest_number, slice, bit_number, bits_between, bits_in, slice_name, slice_after, slice_of, value_or_fault, skipping, table_of_arguments, open_after, is_closed, argument_of, port_of, output, number_argument, goto_item, push_vlan, resubmit, inside_brackets, actions_of_item}
 use Rattle.spec_flow_text.specs.Printed.{slice_text, action_text}
+use Rattle.text_laws.proofs.TagTypes.{of_each_type}
 use Rattle.text_laws.proofs.Cuts.{lacks, lacks_by, split_once-front, take_while-front}
 
 -- what is known of printed numbers
@@ -163,9 +167,9 @@ pub pop_vlan_back : (only last : Bool) → IsReadBack only last PopVlan
 unfolding actions_of_item action_named reserved_port_named is_closed
 pop_vlan_back only last at = refl
 
-pub push_vlan_back : (only last : Bool) → IsReadBack only last PushVlan
-unfolding actions_of_item action_named reserved_port_named is_closed push_vlan argument_of number_upto digits_upto
-push_vlan_back only last at = refl
+pub push_vlan_back : (only last : Bool) (tpid : ℕ) → is_tag_type tpid ≡ true → IsReadBack only last (PushVlan tpid)
+unfolding actions_of_item action_named reserved_port_named is_closed push_vlan argument_of number_upto digits_upto hexadecimal4
+push_vlan_back only last tpid h = of_each_type (λ n. IsReadBack only last (PushVlan n)) (λ at. refl) (λ at. refl) tpid h
 
 -- a number that is a value
 number_there : NumberTexts → (n : ℕ) → n ≤ last_vid → fold open_after [] (decimal n) ≡ []
@@ -330,10 +334,25 @@ pub name_there : (f : NamedField) → (length (name_of f) == 0) ≡ false
 name_there field.InPort = refl
 name_there f = refl
 
-field_back : (f : NamedField) → field_named (name_of f) ≡ Some f
+-- a name that flow text has
+abbrev pub IsInText : NamedField → Type 0
+IsInText f = not (is_printed_alone f) ≡ true
+
+pub sound_in_text : (s : Slice) → is_sound_slice s ≡ true → IsInText s.name
+sound_in_text s sound = (and_parts (not (is_printed_alone s.name)) _ sound).0
+
+written_in_text : (f : NamedField) → is_written f ≡ true → IsInText f
+written_in_text field.VlanTpid h = h
+written_in_text field.VlanTci2 h = h
+written_in_text field.VlanTpid2 h = h
+written_in_text f h = refl
+
+field_back : (f : NamedField) → IsInText f → field_named (name_of f) ≡ Some f
 unfolding field_named
-field_back field.InPort = refl
-field_back f = refl
+field_back field.VlanTpid h = absurd (both_ways false refl h)
+field_back field.VlanTci2 h = absurd (both_ways false refl h)
+field_back field.VlanTpid2 h = absurd (both_ways false refl h)
+field_back f h = refl
 
 -- the name of a slice, and what stands behind it
 front_of_slice : (s : Slice) → take_while (λ c. not (c == left_bracket)) (slice_text s) ≡ name_of s.name
@@ -385,14 +404,14 @@ unfolding reserved_port_named
 name_not_reserved field.InPort rest = refl
 name_not_reserved f rest = refl
 
-field_in_back : (w : Word) (at : ℕ) (f : NamedField) → field_in w (item_at at (name_of f)) ≡ Ok f
+field_in_back : (w : Word) (at : ℕ) (f : NamedField) → IsInText f → field_in w (item_at at (name_of f)) ≡ Ok f
 unfolding field_in
-field_in_back w at f = rw (field_back f) refl
+field_in_back w at f h = rw (field_back f h) refl
 
 output_field_at : NumberTexts → (w : Word) (at : ℕ) (s : Slice) → IsWideEnough s → is_sound_slice s ≡ true → output_field w (item_at at (slice_text s)) ≡ Ok (OutputField s)
 output_field_at v w at s h sound =
     ap (λ name. field_in w name >>= (λ f. slice_of f (item_at at (slice_text s)) >>= (λ x. Ok (OutputField x)))) (slice_name_back at s)
-    ∙ (rw (field_in_back w at s.name, slice_of_back v at s h sound) refl)
+    ∙ (rw (field_in_back w at s.name (sound_in_text s sound), slice_of_back v at s h sound) refl)
 
 output_to_slice : NumberTexts → (w : Word) (at : ℕ) (s : Slice) → IsWideEnough s → is_sound_slice s ≡ true → output_to w (item_at at (slice_text s)) ≡ Ok (OutputField s)
 output_to_slice v w at s h sound =
@@ -463,7 +482,7 @@ move_argument at text h = rw h refl
 
 pub written_back : (w : Word) (at : ℕ) (f : NamedField) → is_written f ≡ true → written_field w (item_at at (name_of f)) ≡ Ok f
 unfolding written_field
-written_back w at f h = rw (field_in_back w at f, h) refl
+written_back w at f h = rw (field_in_back w at f (written_in_text f h), h) refl
 
 same_width : (a b c d : ℕ) → (a - b == c - d) ≡ true → (a - b + 1 == c - d + 1) ≡ true
 same_width a b c d h = let e = eqb-true (a - b) (c - d) h in rw e (eq-eqb (c - d + 1) (c - d + 1) refl)
@@ -484,7 +503,7 @@ move_back v only last source target h k sound at =
       ends,
       slice_name_back (at + 4 + 1) source,
       slice_name_back back target,
-      field_in_back w (at + 4 + 1) source.name,
+      field_in_back w (at + 4 + 1) source.name (sound_in_text source p.0),
       written_back w back target.name r.0,
       slice_of_back v (at + 4 + 1) source h p.0,
       slice_of_back v back target k q.0,

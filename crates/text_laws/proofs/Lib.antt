@@ -1,4 +1,5 @@
 pub mod Cuts
+pub mod TagTypes
 pub mod CommentLaws
 pub mod Ends
 pub mod SeparatorLaws

@@ -11,6 +11,8 @@ use Rattle.spec_actions.specs.declared.action.Slice.{Slice}
 use Rattle.spec_actions.specs.declared.action.OfAction.{OfAction}
 use Rattle.spec_actions.specs.Sound.{is_sound}
 use Rattle.spec_actions.specs.declared.action.OfAction.TheVariants.{Output, OutputField, InPort, All, Flood, Resubmit, Goto, Set, Move, DecTtl, PushVlan, PopVlan, SetVid, SetPcp}
+use Rattle.spec_keys.specs.Protocols.{is_tag_type}
+use Rattle.spec_numbers.specs.Printed.{hexadecimal4}
 use Rattle.spec_numbers.specs.Characters.{comma, number_sign, dot, hyphen, greater_than, left_bracket, right_bracket, right_parenthesis}
 use Rattle.spec_flow_text.specs.Names.{name_of, action_named, reserved_port_named}
 use Rattle.spec_flow_text.specs.Matches.{uncommented}
@@ -20,6 +22,7 @@ use Rattle.spec_flow_text.specs.Actions.{open_after, ends_item, up_to_end, items
 use Rattle.spec_flow_text.specs.Printed.{value_in_text, slice_text, action_text, actions_printed}
 use Rattle.text_laws.specs.Texts.{is_plain_character}
 use Rattle.text_laws.specs.Spelled.{is_spellable, is_goto, has_goto_last, are_spellable}
+use Rattle.text_laws.proofs.TagTypes.{of_each_type}
 use Rattle.text_laws.proofs.Cuts.{position-cons, take_while-all, lacks_by}
 use Rattle.text_laws.proofs.CommentLaws.{actions_of_text, read_actions-text}
 use Rattle.text_laws.proofs.SeparatorLaws.{list_of}
@@ -119,8 +122,9 @@ slice_stays s rest =
 slice_stays_end : (s : Slice) → stays [] (slice_text s) ≡ true
 slice_stays_end s = ap (stays []) (sym (append-nil (slice_text s))) ∙ slice_stays s []
 
--- the value of a write is quiet
+-- the value of a write is quiet, and the type of a tag
 abbrev HasQuietValue : OfAction → Type 0
+HasQuietValue (PushVlan tpid) = IsQuiet (hexadecimal4 tpid)
 HasQuietValue (Set f value mask) = IsQuiet (value_in_text f (within_mask (bits value mask)))
 HasQuietValue a = Unit {0}
 
@@ -136,7 +140,7 @@ action_stays (Set f value mask) q =
     stays_over [] (value_in_text f (within_mask (bits value mask))) (hyphen ∷ greater_than ∷ name_of f) refl q ∙ stays_end (name_of f) (name_quiet f)
 action_stays (Move source target) q = slice_stays source (hyphen ∷ greater_than ∷ slice_text target) ∙ slice_stays_end target
 action_stays DecTtl q = refl
-action_stays PushVlan q = refl
+action_stays (PushVlan tpid) q = stays_end (hexadecimal4 tpid) q
 action_stays PopVlan q = refl
 action_stays (SetVid vid) q = stays_end (decimal vid) (decimal_quiet vid)
 action_stays (SetPcp pcp) q = stays_end (decimal pcp) (decimal_quiet pcp)
@@ -152,16 +156,21 @@ action_there (Goto table) = grind (arith, nat_tests)
 action_there (Set f value mask) = grind (arith, nat_tests)
 action_there (Move source target) = grind (arith, nat_tests)
 action_there DecTtl = refl
-action_there PushVlan = refl
+action_there (PushVlan tpid) = grind (arith, nat_tests)
 action_there PopVlan = refl
 action_there (SetVid vid) = grind (arith, nat_tests)
 action_there (SetPcp pcp) = grind (arith, nat_tests)
+
+type_quiet : (tpid : ℕ) → is_tag_type tpid ≡ true → IsQuiet (hexadecimal4 tpid)
+unfolding hexadecimal4
+type_quiet tpid h = of_each_type (λ n. IsQuiet (hexadecimal4 n)) refl refl tpid h
 
 spelled_quiet : ReadValues → (a : OfAction) → is_spellable a ≡ true → HasQuietValue a
 spelled_quiet r (Set f value mask) h =
     let p = and_parts (is_sound (Set f value mask)) (is_respellable (Set f value mask) && (bit_and value mask == value)) h in
     let q = and_parts (is_respellable (Set f value mask)) (bit_and value mask == value) p.1 in
     subst (λ v. IsQuiet (value_in_text f (bits v mask))) (sym (eqb-true (bit_and value mask) value q.1)) (value_quiet r f (bits value mask) (set_spelled f value mask p.0 q.0))
+spelled_quiet r (PushVlan tpid) h = type_quiet tpid h
 spelled_quiet r a h = tt
 
 spelled_stays : ReadValues → (a : OfAction) → is_spellable a ≡ true → stays [] (action_text a) ≡ true

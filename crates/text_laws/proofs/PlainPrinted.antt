@@ -18,6 +18,8 @@ use Rattle.spec_actions.specs.declared.action.OfAction.TheVariants.{Output, Outp
 use Rattle.spec_actions.specs.Named.{named, dscp_bits}
 use Rattle.spec_actions.specs.Sound.{is_written, fits_name, is_sound}
 use Rattle.spec_tables.specs.Rules.{Match}
+use Rattle.spec_keys.specs.Protocols.{is_tag_type}
+use Rattle.spec_numbers.specs.Printed.{hexadecimal4}
 use Rattle.spec_numbers.specs.Characters.{dot, equals_sign, left_bracket, right_bracket, right_parenthesis}
 use Rattle.spec_flow_text.specs.declared.shorthand.Shorthand.{Shorthand}
 use Rattle.spec_flow_text.specs.declared.shorthand.Shorthand.TheVariants as short
@@ -25,6 +27,7 @@ use Rattle.spec_flow_text.specs.Names.{name_of}
 use Rattle.spec_flow_text.specs.Values.{Bits, bits, within_mask}
 use Rattle.spec_flow_text.specs.Printed.{printed_form, value_in_text, Shown, Short, Value, shown_text, shown_bits, bits_of, shorthand_of, own_name, name_after_arp, name_after_icmp, name_after, says_protocol, ecn_bits, none_or_all, shown_part, shown_service, shown_type, shown_field, shown, match_printed, slice_text, action_text, actions_printed}
 use Rattle.text_laws.specs.Texts.{is_plain}
+use Rattle.text_laws.proofs.TagTypes.{of_each_type}
 use Rattle.text_laws.proofs.PlainValues.{ValueTexts, IsPlain, plain_append, decimal_plain, IsWithin, AreWithin, value_in_text_plain, name_plain, named_within, joined_plain}
 
 -- ---- actions
@@ -34,6 +37,10 @@ slice_plain s =
     plain_append (name_of s.name) (left_bracket ∷ (decimal s.low ++ (dot ∷ dot ∷ (decimal s.high ++ right_bracket ∷ [])))) (name_plain s.name) (
     plain_append (decimal s.low) (dot ∷ dot ∷ (decimal s.high ++ right_bracket ∷ [])) (decimal_plain s.low) (plain_append (decimal s.high) (right_bracket ∷ []) (decimal_plain s.high) refl)
     )
+
+push_plain : (tpid : ℕ) → is_tag_type tpid ≡ true → IsPlain (action_text (PushVlan tpid))
+unfolding hexadecimal4
+push_plain tpid h = of_each_type (λ n. IsPlain (action_text (PushVlan n))) refl refl tpid h
 
 pub action_plain : ValueTexts → (a : OfAction) → is_sound a ≡ true → IsPlain (action_text a)
 action_plain v (Output port) h = plain_append (codes "output:") (decimal port) refl (decimal_plain port)
@@ -57,7 +64,7 @@ action_plain v (Move source target) h =
     plain_append (slice_text source) (codes "->" ++ slice_text target) (slice_plain source) (plain_append (codes "->") (slice_text target) refl (slice_plain target))
     )
 action_plain v DecTtl h = refl
-action_plain v PushVlan h = refl
+action_plain v (PushVlan tpid) h = push_plain tpid h
 action_plain v PopVlan h = refl
 action_plain v (SetVid vid) h = plain_append (codes "mod_vlan_vid:") (decimal vid) refl (decimal_plain vid)
 action_plain v (SetPcp pcp) h = plain_append (codes "mod_vlan_pcp:") (decimal pcp) refl (decimal_plain pcp)
@@ -101,16 +108,25 @@ HasRoom f n = (number : ℕ) → number < 2 ^ width_of f → IsWithin (printed_f
 own_room : (f : FieldId) → HasRoom f (own_name f)
 own_room key.DlType number h = h
 own_room key.VlanTci number h = h
+own_room key.VlanTpid number h = h
+own_room key.VlanTci2 number h = h
+own_room key.VlanTpid2 number h = h
 own_room f number h = tt
 
 arp_room : (f : FieldId) → HasRoom f (name_after_arp f)
 arp_room key.DlType number h = h
 arp_room key.VlanTci number h = h
+arp_room key.VlanTpid number h = h
+arp_room key.VlanTci2 number h = h
+arp_room key.VlanTpid2 number h = h
 arp_room f number h = tt
 
 icmp_room : (f : FieldId) → HasRoom f (name_after_icmp f)
 icmp_room key.DlType number h = h
 icmp_room key.VlanTci number h = h
+icmp_room key.VlanTpid number h = h
+icmp_room key.VlanTci2 number h = h
+icmp_room key.VlanTpid2 number h = h
 icmp_room f number h = tt
 
 room_after : (h : Option Shorthand) (f : FieldId) → HasRoom f (name_after h f)

@@ -10,7 +10,7 @@ use Rattle.std.proofs.lemmas.Bool.Decides.{nat_tests}
 use Rattle.spec_base.specs.Bits.{all_bits}
 use Rattle.spec_keys.specs.Fields.{Form, Decimal, Hexadecimal, FourDigits, Mac, Ipv4, Ipv6, Fragment}
 use Rattle.spec_actions.specs.declared.named_field.NamedField.{NamedField}
-use Rattle.spec_actions.specs.declared.named_field.NamedField.TheVariants.{InPort, DlType, VlanTci}
+use Rattle.spec_actions.specs.declared.named_field.NamedField.TheVariants.{InPort, DlType, VlanTci, VlanTpid, VlanTci2, VlanTpid2}
 use Rattle.spec_actions.specs.Named.{named}
 use Rattle.spec_numbers.specs.Characters.{comma, slash, is_value_character}
 use Rattle.spec_numbers.specs.Printed.{hexadecimal, hexadecimal4, mac_text, ipv4_text, ipv6_text, ipv4_mask_text, ipv6_mask_text}
@@ -142,6 +142,9 @@ name_plain f = refl
 pub named_within : (f : NamedField) (n : ℕ) → n < 2 ^ (named f).bits → IsWithin (printed_form f) n
 named_within DlType n h = h
 named_within VlanTci n h = h
+named_within VlanTpid n h = h
+named_within VlanTci2 n h = h
+named_within VlanTpid2 n h = h
 named_within f n h = tt
 
 -- ---- lists

@@ -73,7 +73,7 @@ module _ (sw : Switch) (sub : ℕ → State → State) (lookups : ℕ → State 
   act-visits (Set name value mask) s = none_more s.visits _ (write-visits name value mask s)
   act-visits (Move source target) s = none_more s.visits _ (write-visits target.name _ _ s)
   act-visits DecTtl s = none_more s.visits _ (either _ _ _ s.visits (lower_ttl-visits s) refl)
-  act-visits PushVlan s = none_more s.visits _ (either _ _ _ s.visits refl refl)
+  act-visits (PushVlan tpid) s = none_more s.visits _ (either _ _ _ s.visits refl refl)
   act-visits PopVlan s = none_more s.visits _ refl
   act-visits (SetVid vid) s = none_more s.visits _ refl
   act-visits (SetPcp pcp) s = none_more s.visits _ refl

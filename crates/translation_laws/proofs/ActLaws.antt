@@ -1,11 +1,12 @@
 -- Each action keeps two translations alike, where the first keys agree on what it consults.
-use Rattle.std.proofs.Common.{◌≡◌, ℕ, ◌+◌, ◌-◌, ◌*◌, ◌/◌, ◌^◌, Bool, true, false, ◌&&◌, ◌||◌, ◌==◌, nat_le, if◌then◌else◌, List, [], ◌∷◌, ◌++◌, map, set, bit_and, refl, sym, ap, ap₂, ◌∙◌, subst, eqb-true}
+use Rattle.std.proofs.Common.{◌≡◌, ℕ, ◌+◌, ◌-◌, ◌*◌, ◌/◌, ◌^◌, Bool, true, false, ◌&&◌, ◌||◌, ◌==◌, nat_le, if◌then◌else◌, List, [], ◌∷◌, ◌++◌, map, set, bit_and, ◌⊎◌, inl, inr, refl, sym, ap, ap₂, ◌∙◌, subst, eqb-true, eq-eqb, zero-mul}
 use Rattle.std.specs.List.{list_any}
 use Rattle.spec_keys.specs.declared.field_id.FieldId.{FieldId}
 use Rattle.spec_keys.specs.declared.field_id.FieldId.TheVariants as field
 use Rattle.spec_keys.specs.Fields.{place_of}
 use Rattle.spec_keys.specs.Keys.{number_at, value_of, masked, only_at, IsKey}
 use Rattle.spec_actions.specs.declared.named_field.NamedField.{NamedField}
+use Rattle.spec_actions.specs.declared.named_field.NamedField.TheVariants as name
 use Rattle.spec_actions.specs.declared.named_field.Prerequisite.{Prerequisite}
 use Rattle.spec_actions.specs.declared.named_field.Prerequisite.TheVariants.{Nothing, Ipv4, Ipv6, Ip, Arp, Tcp, Udp, TcpOrUdp, Icmp, Icmp6, Tag}
 use Rattle.spec_actions.specs.declared.action.Slice.{Slice}
@@ -13,7 +14,7 @@ use Rattle.spec_actions.specs.declared.action.OfAction.{OfAction}
 use Rattle.spec_actions.specs.declared.action.OfAction.TheVariants.{Output, OutputField, InPort, All, Flood, Resubmit, Goto, Set, Move, DecTtl, PushVlan, PopVlan, SetVid, SetPcp}
 use Rattle.spec_actions.specs.Named.{named}
 use Rattle.spec_keys.specs.Protocols.{tag_bit}
-use Rattle.spec_xlate.specs.Tags.{tag_fields, is_tag, is_tag_field, tagged, is_full}
+use Rattle.spec_xlate.specs.Tags.{VlanTag, tag_fields, is_tag, is_tag_field, outer_tag, inner_tag, no_tag, with_tags, popped, pushed, type_of_written, tagged, is_full}
 use Rattle.spec_keys.specs.Protocols.{ipv4_type, ipv6_type, arp_type, icmp_protocol, tcp_protocol, udp_protocol, icmp6_protocol}
 use Rattle.spec_xlate.specs.Needs.{is_met, fields_needed}
 use Rattle.spec_base.specs.Bits.{merged}
@@ -24,9 +25,18 @@ use Rattle.translation_laws.proofs.KeyLaws.{SameBits, and_zero, only_at-same, Sa
 use Rattle.translation_laws.proofs.KeysAlike.{KeysAlike, is_tag_place, and-alike, set-alike, merged-alike}
 use Rattle.translation_laws.proofs.StatesAlike.{Alike, whole-same, if-alike, mode-alike, current-alike, current-same, output-alike, output_back-alike, output_all-alike}
 
-is_tag_field-place : (f : FieldId) → is_tag_field f ≡ is_tag_place (place_of f)
-is_tag_field-place field.VlanTci = refl
-is_tag_field-place f = refl
+-- A write of these bits changes nothing of the field, or the field is written as those of tags are exactly where it is one of them.
+abbrev pub IsWritable : FieldId → ℕ → Type 0
+IsWritable f m = (m ≡ 0) ⊎ (is_tag_field f ≡ is_tag_place (place_of f))
+
+unwritten : (n : NamedField) (bits : ℕ) → (named n).writable ≡ 0 → written_bits n bits ≡ 0
+unwritten n bits none = ap (λ (w : ℕ). in_field n (bit_and bits w)) none ∙ (ap (in_field n) (and_zero bits) ∙ zero-mul (2 ^ (named n).low))
+
+pub writable : (n : NamedField) (bits : ℕ) → IsWritable (named n).field (written_bits n bits)
+writable name.VlanTpid bits = inl (unwritten name.VlanTpid bits refl)
+writable name.VlanTci2 bits = inl (unwritten name.VlanTci2 bits refl)
+writable name.VlanTpid2 bits = inl (unwritten name.VlanTpid2 bits refl)
+writable n bits = inr refl
 
 -- the first keys have the same tags
 abbrev pub TagsSame : List ℕ → List ℕ → Type 0
@@ -118,30 +128,71 @@ module _ (a b : List ℕ) (ka : IsKey a) (kb : IsKey b) where
 
   -- ---- writes
 
+  -- the tags of the current keys, where the first keys have the same
+  outer-same : (s t : State) → Alike a b s t → TagsSame a b → outer_tag t.current ≡ outer_tag s.current
+  outer-same s t h all =
+      ap₂ (λ (p c : ℕ). record { tpid = p; tci = c }) (current-same a b s t h (place_of field.VlanTpid) (all (place_of field.VlanTpid) refl))
+      (current-same a b s t h (place_of field.VlanTci) (all (place_of field.VlanTci) refl))
+
+  inner-same : (s t : State) → Alike a b s t → TagsSame a b → inner_tag t.current ≡ inner_tag s.current
+  inner-same s t h all =
+      ap₂ (λ (p c : ℕ). record { tpid = p; tci = c }) (current-same a b s t h (place_of field.VlanTpid2) (all (place_of field.VlanTpid2) refl))
+      (current-same a b s t h (place_of field.VlanTci2) (all (place_of field.VlanTci2) refl))
+
+  -- the same tags are written
+  with_same_tags-alike : (o i : VlanTag) (s t : State) → Alike a b s t → TagsSame a b
+      → KeysAlike a b (with_tags o i s.current) s.base (with_tags o i t.current) t.base
+  with_same_tags-alike o i s t h all =
+      let place : FieldId → ℕ = place_of in
+      let k1 = set-alike a b s.current s.base t.current t.base h.keys (place field.VlanTci) o.tci o.tci refl (all (place field.VlanTci) refl) (λ _. all) in
+      let k2 = set-alike a b _ s.base _ t.base k1 (place field.VlanTpid) o.tpid o.tpid refl (all (place field.VlanTpid) refl) (λ _. all) in
+      let k3 = set-alike a b _ s.base _ t.base k2 (place field.VlanTci2) i.tci i.tci refl (all (place field.VlanTci2) refl) (λ _. all) in
+      set-alike a b _ s.base _ t.base k3 (place field.VlanTpid2) i.tpid i.tpid refl (all (place field.VlanTpid2) refl) (λ _. all)
+
+  with_tags-alike : (o o' i i' : VlanTag) (s t : State) → o' ≡ o → i' ≡ i → Alike a b s t → TagsSame a b
+      → KeysAlike a b (with_tags o i s.current) s.base (with_tags o' i' t.current) t.base
+  with_tags-alike o o' i i' s t e f h all =
+      subst (λ (x : VlanTag). KeysAlike a b (with_tags o i s.current) s.base (with_tags x i' t.current) t.base) (sym e)
+      (subst (λ (x : VlanTag). KeysAlike a b (with_tags o i s.current) s.base (with_tags o x t.current) t.base) (sym f) (with_same_tags-alike o i s t h all))
+
+  popped-alike : (s t : State) → Alike a b s t → TagsSame a b → KeysAlike a b (popped s.current) s.base (popped t.current) t.base
+  popped-alike s t h all = with_tags-alike _ _ _ _ s t (inner-same s t h all) refl h all
+
+  pushed-alike : (tpid : ℕ) (s t : State) → Alike a b s t → TagsSame a b → KeysAlike a b (pushed tpid s.current) s.base (pushed tpid t.current) t.base
+  pushed-alike tpid s t h all = with_tags-alike _ _ _ _ s t refl (outer-same s t h all) h all
+
   tagged-alike : (x x' : ℕ) (s t : State) → x' ≡ x → Alike a b s t → TagsSame a b
       → KeysAlike a b (tagged x s.current) s.base (tagged x' t.current) t.base
   tagged-alike x x' s t e h all =
-      set-alike a b s.current s.base t.current t.base h.keys (place_of field.VlanTci) _ _ (ap (λ (z : ℕ). if is_tag z then z else 0) e) (all (place_of field.VlanTci) refl) (λ _. all)
-
-  written-alike : (f : FieldId) (v v' m : ℕ) (s t : State) → v' ≡ v → Alike a b s t → SameBits a b (bits_written f m)
-      → KeysAlike a b (written f v m s.current) s.base (written f v' m t.current) t.base
-  written-alike f v v' m s t e h w = at (m == 0) (is_tag_field f) refl w
+      subst (λ (z : ℕ). KeysAlike a b (tagged x s.current) s.base (tagged z t.current) t.base) (sym e) (at (is_tag x))
     where
-      at : (z u : Bool) → is_tag_field f ≡ u
+      at : (u : Bool) → KeysAlike a b
+          (if u then with_tags (record { tpid = type_of_written (outer_tag s.current).tpid; tci = x }) (inner_tag s.current) s.current else popped s.current) s.base
+          (if u then with_tags (record { tpid = type_of_written (outer_tag t.current).tpid; tci = x }) (inner_tag t.current) t.current else popped t.current) t.base
+      at true =
+          with_tags-alike _ _ _ _ s t (ap (λ (o : VlanTag). record { tpid = type_of_written o.tpid; tci = x }) (outer-same s t h all)) (inner-same s t h all) h all
+      at false = popped-alike s t h all
+
+  written-alike : (f : FieldId) (v v' m : ℕ) (s t : State) → IsWritable f m → v' ≡ v → Alike a b s t → SameBits a b (bits_written f m)
+      → KeysAlike a b (written f v m s.current) s.base (written f v' m t.current) t.base
+  written-alike f v v' m s t ok e h w = at (m == 0) refl (is_tag_field f) refl ok w
+    where
+      at : (z : Bool) → (m == 0) ≡ z → (u : Bool) → is_tag_field f ≡ u → IsWritable f m
           → SameBits a b (if z then [] else (if u then map whole tag_fields else only_at (place_of f) m ∷ []))
           → KeysAlike a b
           (if z then s.current else (if u then tagged (merged (value_of s.current f) v m) s.current else set s.current (place_of f) (merged (value_of s.current f) v m)))
           s.base
           (if z then t.current else (if u then tagged (merged (value_of t.current f) v' m) t.current else set t.current (place_of f) (merged (value_of t.current f) v' m)))
           t.base
-      at true u i w = h.keys
-      at false true i w =
+      at true z u i ok w = h.keys
+      at false z u i (inl none) w = absurd (let n : false ≡ true = sym z ∙ eq-eqb m 0 none in cc)
+      at false z true i (inr place) w =
           let all = tags-same w in
-          let x = current-same a b s t h (place_of f) (all (place_of f) (sym (is_tag_field-place f) ∙ i)) in
+          let x = current-same a b s t h (place_of f) (all (place_of f) (sym place ∙ i)) in
           tagged-alike _ _ s t (ap₂ (λ (y z : ℕ). merged y z m) x e) h all
-      at false false i w =
+      at false z false i (inr place) w =
           subst (λ (z : ℕ). KeysAlike a b (set s.current (place_of f) (merged (value_of s.current f) v m)) s.base (set t.current (place_of f) (merged (value_of t.current f) z m)) t.base) (sym e)
-          (merged-alike a b s.current s.base t.current t.base h.keys (place_of f) v m (sym (is_tag_field-place f) ∙ i) (only_at-same a b (place_of f) m w.0))
+          (merged-alike a b s.current s.base t.current t.base h.keys (place_of f) v m (sym place ∙ i) (only_at-same a b (place_of f) m w.0))
 
   write-alike : (name : NamedField) (v v' bits : ℕ) (from : List (List ℕ)) (s t : State) → (SameBits a b from → v' ≡ v)
       → Alike a b s t → SameBits a b (write_bits name bits from s.current)
@@ -151,7 +202,7 @@ module _ (a b : List ℕ) (ka : IsKey a) (kb : IsKey b) where
       under-alike (named name).write_needs (from ++ bits_written (named name).field (written_bits name bits)) s t _ _ h w
       (λ all.
       let parts = SameBits-append a b from (bits_written (named name).field (written_bits name bits)) all in
-      current-alike a b s t _ _ h (written-alike (named name).field (in_field name v) (in_field name v') (written_bits name bits) s t (ap (in_field name) (e parts.0)) h parts.1))
+      current-alike a b s t _ _ h (written-alike (named name).field (in_field name v) (in_field name v') (written_bits name bits) s t (writable name bits) (ap (in_field name) (e parts.0)) h parts.1))
 
   -- the tags are written as a whole
   write_tag-alike : (v bits : ℕ) (s t : State) → Alike a b s t → SameBits a b (map whole tag_fields)
@@ -198,13 +249,13 @@ module _ (a b : List ℕ) (ka : IsKey a) (kb : IsKey b) where
         write-alike target.name (slice_of s.current source * 2 ^ target.low) (slice_of t.current source * 2 ^ target.low) (slice_bits target) (slice_read source) s t
         (λ from. ap (λ (z : ℕ). z * 2 ^ target.low) (slice_of-alike source s t h from)) h e
     act-alike sw sub bits keeps DecTtl s t h e = under-alike Ip (whole field.NwTtl ∷ []) s t _ _ h e (λ w. lower_ttl-alike s t h w)
-    act-alike sw sub bits keeps PushVlan s t h e =
+    act-alike sw sub bits keeps (PushVlan tpid) s t h e =
         let all = tags-same e in (
-          if-alike a b (is_full s.current) (is_full t.current) _ _ _ _ (ap is_tag (current-same a b s t h (place_of field.VlanTci) (all (place_of field.VlanTci) refl)))
+          if-alike a b (is_full s.current) (is_full t.current) _ _ _ _ (ap (λ (i : VlanTag). is_tag i.tci) (inner-same s t h all))
               (λ _. mode-alike a b Mode.Stopped s t h)
-              (λ _. current-alike a b s t _ _ h (tagged-alike tag_bit tag_bit s t refl h all)),
+              (λ _. current-alike a b s t _ _ h (pushed-alike tpid s t h all)),
           refl,
         )
-    act-alike sw sub bits keeps PopVlan s t h e = (current-alike a b s t _ _ h (tagged-alike 0 0 s t refl h (tags-same e)), refl)
+    act-alike sw sub bits keeps PopVlan s t h e = (current-alike a b s t _ _ h (popped-alike s t h (tags-same e)), refl)
     act-alike sw sub bits keeps (SetVid vid) s t h e = (write_tag-alike vid vid_bits s t h e, refl)
     act-alike sw sub bits keeps (SetPcp pcp) s t h e = (write_tag-alike (pcp * pcp_unit) pcp_bits s t h e, refl)

@@ -1,17 +1,18 @@
 -- Commit turns the base key into the current one.
-use Rattle.std.proofs.Common.{◌≡◌, ℕ, ◌+◌, ◌%◌, ◌<◌, min, Bool, true, false, ◌||◌, ◌==◌, if◌then◌else◌, List, [], ◌∷◌, ◌++◌, map, length, set, bit_and, bit_xor, ◌⊎◌, inl, inr, refl, sym, ap, ap₂, ◌∙◌, subst, eqb-true, arith, length-set, get_or-set_same, get_or-set_other}
+use Rattle.std.proofs.Common.{◌≡◌, ◌≢◌, ℕ, ◌+◌, ◌%◌, ◌<◌, ◌≤◌, min, Bool, true, false, ◌&&◌, ◌||◌, ◌==◌, if◌then◌else◌, List, [], ◌∷◌, ◌++◌, map, length, set, bit_and, bit_xor, ◌⊎◌, inl, inr, refl, sym, ap, ap₂, ◌∙◌, subst, eqb-true, arith, length-set, get_or-set_same, get_or-set_other}
 use Rattle.std.specs.Int.{bit_at}
 use Rattle.std.specs.List.{list_any}
+use Rattle.std.proofs.lemmas.Bool.{and_parts}
 use Rattle.std.proofs.lemmas.Bool.Decides.{nat_tests}
 use Rattle.std.proofs.lemmas.List.Folds.{list_any-append}
 use Rattle.std.proofs.lemmas.Nat.Bits.{bit_at_and, bit_at_xor, bit_at-lt, same_from_bits}
 use Rattle.spec_keys.specs.declared.field_id.FieldId.{FieldId}
-use Rattle.spec_keys.specs.declared.field_id.FieldId.TheVariants.{VlanTci}
+use Rattle.spec_keys.specs.declared.field_id.FieldId.TheVariants.{VlanTci, VlanTpid, VlanTci2, VlanTpid2}
 use Rattle.spec_keys.specs.Fields.{place_of, field_count}
 use Rattle.spec_keys.specs.Keys.{number_at, value_of}
 use Rattle.spec_actions.specs.declared.action.DpAction.{DpAction}
 use Rattle.spec_actions.specs.declared.action.DpAction.TheVariants.{Set, PopVlan, PushVlan}
-use Rattle.spec_xlate.specs.Tags.{VlanTag, tag_fields, is_tag, tags_of, tagged, outer_tags, commit_tags}
+use Rattle.spec_xlate.specs.Tags.{VlanTag, tag_fields, is_tag, tags_of, outer_tag, inner_tag, no_tag, with_tags, popped, is_same_tag, outer_tags, commit_tags}
 use Rattle.spec_xlate.specs.Commit.{fields_before_tags, fields_after_tags, commit, commit_field, commit_fields}
 use Rattle.spec_base.specs.Bits.{merged}
 use Rattle.translation_laws.specs.Applied.{after_action, applied, frame_fields, is_proper}
@@ -124,87 +125,241 @@ commit_fields-Turns (f ∷ fs) base current k len b =
 abbrev tag_places : ℕ → Bool
 tag_places q = list_any (λ f. q == place_of f) tag_fields
 
-or-false : (u : Bool) {v : Bool} → (u || false) ≡ v → u ≡ v
-or-false true h = h
-or-false false h = h
+-- A key was turned into one with these tags, an outer and an inner one.
+record HasTags (from k : List ℕ) (outer inner : VlanTag) : Type 0 where
+  lengths : length k ≡ length from
+  outer_is : outer_tag k ≡ outer
+  inner_is : inner_tag k ≡ inner
+  others : (q : ℕ) → tag_places q ≡ false → number_at k q ≡ number_at from q
 
-one-place : (current k l : List ℕ) → Turns (λ q. q == place_of VlanTci) current k l → Turns tag_places current k l
-one-place current k l t = record { lengths = t.lengths; those = λ q h. t.those q (or-false (q == place_of VlanTci) h); others = λ q h. t.others q (or-false (q == place_of VlanTci) h) }
+no_place : (q : ℕ) (f : FieldId) → tag_places (place_of f) ≡ true → tag_places q ≡ false → q ≢ place_of f
+no_place q f there away e = let h : true ≡ false = sym there ∙ ap tag_places (sym e) ∙ away in absurd (cc)
 
-tagged-Turns : (current k : List ℕ) (tci : ℕ) → length k ≡ field_count
-    → (if is_tag tci then tci else 0) ≡ value_of current VlanTci → Turns tag_places current k (tagged tci k)
-tagged-Turns current k tci len e = one-place current k (tagged tci k) (set-Turns (place_of VlanTci) (if is_tag tci then tci else 0) current k (omega arith) e)
-
--- the second of two writes stays
-twice-Turns : (current k : List ℕ) (tci : ℕ) → length k ≡ field_count → (if is_tag tci then tci else 0) ≡ value_of current VlanTci
-    → Turns tag_places current k (tagged tci (tagged 0 k))
-twice-Turns current k tci len e = record {
-  lengths = t.lengths ∙ length-set k (place_of VlanTci) 0;
-  those = t.those;
-  others = λ q h. t.others q h ∙ get_or-set_other k (place_of VlanTci) q 0 0 (eqb-false q (place_of VlanTci) (or-false (q == place_of VlanTci) h));
+-- tags that are written
+with_tags-HasTags : (from k : List ℕ) (o i o' i' : VlanTag) → length from ≡ field_count → HasTags from k o i → HasTags from (with_tags o' i' k) o' i'
+with_tags-HasTags from k o i o' i' len h = record {
+  lengths = length-set k3 (place_of VlanTpid2) i'.tpid ∙ l3;
+  outer_is = ap₂ (λ (p c : ℕ). record { tpid = p; tci = c }) tpid tci;
+  inner_is = ap₂ (λ (p c : ℕ). record { tpid = p; tci = c }) tpid2 tci2;
+  others = λ q away. beside q k3 VlanTpid2 i'.tpid refl away ∙ (beside q k2 VlanTci2 i'.tci refl away ∙ (beside q k1 VlanTpid o'.tpid refl away
+      ∙ (beside q k VlanTci o'.tci refl away ∙ h.others q away)));
 }
   where
-    t : Turns tag_places current (tagged 0 k) (tagged tci (tagged 0 k))
-    t = tagged-Turns current (tagged 0 k) tci (length-set k (place_of VlanTci) 0 ∙ len) e
+    beside : (q : ℕ) (l : List ℕ) (f : FieldId) (x : ℕ) → tag_places (place_of f) ≡ true → tag_places q ≡ false → number_at (set l (place_of f) x) q ≡ number_at l q
+    beside q l f x there away = get_or-set_other l (place_of f) q x 0 (no_place q f there away)
 
-same-Turns : (current k : List ℕ) → value_of k VlanTci ≡ value_of current VlanTci → Turns tag_places current k k
-same-Turns current k e = one-place current k k (none-Turns current k (place_of VlanTci) e)
+    k1 : List ℕ
+    k1 = set k (place_of VlanTci) o'.tci
 
--- a proper vlan_tci without a tag is 0
-untagged-zero : (x : ℕ) → is_tag x ≡ false → ((x == 0) || is_tag x) ≡ true → x ≡ 0
-untagged-zero x e p = eqb-true x 0 (at (x == 0) (is_tag x) e p)
+    k2 : List ℕ
+    k2 = set k1 (place_of VlanTpid) o'.tpid
+
+    k3 : List ℕ
+    k3 = set k2 (place_of VlanTci2) i'.tci
+
+    l0 : length k ≡ field_count
+    l0 = h.lengths ∙ len
+
+    l1 : length k1 ≡ length from
+    l1 = length-set k (place_of VlanTci) o'.tci ∙ h.lengths
+
+    l2 : length k2 ≡ length from
+    l2 = length-set k1 (place_of VlanTpid) o'.tpid ∙ l1
+
+    l3 : length k3 ≡ length from
+    l3 = length-set k2 (place_of VlanTci2) i'.tci ∙ l2
+
+    apart : (l : List ℕ) (f g : FieldId) (x : ℕ) → (place_of g == place_of f) ≡ false → number_at (set l (place_of f) x) (place_of g) ≡ number_at l (place_of g)
+    apart l f g x ne = get_or-set_other l (place_of f) (place_of g) x 0 (eqb-false _ _ ne)
+
+    tpid2 : value_of (with_tags o' i' k) VlanTpid2 ≡ i'.tpid
+    tpid2 = get_or-set_same k3 (place_of VlanTpid2) i'.tpid 0 (omega (arith, l3, len))
+
+    tci2 : value_of (with_tags o' i' k) VlanTci2 ≡ i'.tci
+    tci2 = apart k3 VlanTpid2 VlanTci2 i'.tpid refl ∙ get_or-set_same k2 (place_of VlanTci2) i'.tci 0 (omega (arith, l2, len))
+
+    tpid : value_of (with_tags o' i' k) VlanTpid ≡ o'.tpid
+    tpid = apart k3 VlanTpid2 VlanTpid i'.tpid refl ∙ (apart k2 VlanTci2 VlanTpid i'.tci refl ∙ get_or-set_same k1 (place_of VlanTpid) o'.tpid 0 (omega (arith, l1, len)))
+
+    tci : value_of (with_tags o' i' k) VlanTci ≡ o'.tci
+    tci = apart k3 VlanTpid2 VlanTci i'.tpid refl ∙ (apart k2 VlanTci2 VlanTci i'.tci refl ∙ (apart k1 VlanTpid VlanTci o'.tpid refl
+        ∙ get_or-set_same k (place_of VlanTci) o'.tci 0 (omega (arith, l0))))
+
+-- a tag that is popped, and one that is pushed
+pop-HasTags : (from k : List ℕ) (o i : VlanTag) → length from ≡ field_count → HasTags from k o i → HasTags from (popped k) i no_tag
+pop-HasTags from k o i len h = subst (λ (t : VlanTag). HasTags from (with_tags t no_tag k) i no_tag) (sym h.inner_is) (with_tags-HasTags from k o i i no_tag len h)
+
+push-HasTags : (from k : List ℕ) (o i t : VlanTag) → length from ≡ field_count → HasTags from k o i → HasTags from (after_action k (PushVlan t.tpid t.tci)) t o
+push-HasTags from k o i t len h = subst (λ (u : VlanTag). HasTags from (with_tags t u k) t o) (sym h.outer_is) (with_tags-HasTags from k o i t o len h)
+
+-- the outer and the inner one of at most two tags, the innermost first
+abbrev outer_of : List VlanTag → VlanTag
+outer_of [] = no_tag
+outer_of (t ∷ []) = t
+outer_of (i ∷ o ∷ ts) = o
+
+abbrev inner_of : List VlanTag → VlanTag
+inner_of [] = no_tag
+inner_of (t ∷ []) = no_tag
+inner_of (i ∷ o ∷ ts) = i
+
+-- the tags of a proper key are all that it has of tags
+record AreTags (key : List ℕ) (ts : List VlanTag) : Type 0 where
+  outer_is : outer_tag key ≡ outer_of ts
+  inner_is : inner_tag key ≡ inner_of ts
+
+same_tag : (t o : VlanTag) → is_same_tag t o ≡ true → t ≡ o
+same_tag t o e =
+    let parts = and_parts (t.tci == o.tci) (t.tpid == o.tpid) e in
+    ap₂ (λ (p c : ℕ). record { tpid = p; tci = c }) (eqb-true t.tpid o.tpid parts.1) (eqb-true t.tci o.tci parts.0)
+
+proper-AreTags : (key : List ℕ) → is_proper key ≡ true → AreTags key (tags_of key)
+proper-AreTags key = at (is_tag (outer_tag key).tci) (is_tag (inner_tag key).tci)
   where
-    at : (u v : Bool) → v ≡ false → (u || v) ≡ true → u ≡ true
-    at true v e p = refl
-    at false true e p = absurd (cc)
-    at false false e p = absurd (cc)
+    at : (u v : Bool) → (if u then (v || is_same_tag (inner_tag key) no_tag) else (is_same_tag (outer_tag key) no_tag && is_same_tag (inner_tag key) no_tag)) ≡ true
+        → AreTags key (if u then (if v then inner_tag key ∷ outer_tag key ∷ [] else outer_tag key ∷ []) else [])
+    at true true h = record { outer_is = refl; inner_is = refl }
+    at true false h = record { outer_is = refl; inner_is = same_tag (inner_tag key) no_tag h }
+    at false v h =
+        let parts = and_parts (is_same_tag (outer_tag key) no_tag) (is_same_tag (inner_tag key) no_tag) h in
+        record { outer_is = same_tag (outer_tag key) no_tag parts.0; inner_is = same_tag (inner_tag key) no_tag parts.1 }
 
-eqb-comm : (x y : ℕ) (t : Bool) → (x == y) ≡ t → (y == x) ≡ t
-eqb-comm x y true e = ap₂ (λ (u v : ℕ). u == v) (sym (eqb-true x y e)) (eqb-true x y e) ∙ e
-eqb-comm x y false e = grind (arith, nat_tests)
+eqb-comm : (x y : ℕ) → (y == x) ≡ (x == y)
+eqb-comm x y = at (x == y) refl
+  where
+    at : (t : Bool) → (x == y) ≡ t → (y == x) ≡ t
+    at true e = ap₂ (λ (u v : ℕ). u == v) (sym (eqb-true x y e)) (eqb-true x y e) ∙ e
+    at false e = grind (arith, nat_tests)
+
+same_tag-comm : (t o : VlanTag) → is_same_tag o t ≡ is_same_tag t o
+same_tag-comm t o = ap₂ (λ (u v : Bool). u && v) (eqb-comm t.tci o.tci) (eqb-comm t.tpid o.tpid)
 
 -- the actions for the tags of one list that the other doesn't share
 abbrev popping : List VlanTag → List DpAction
 popping ts = map (λ t. PopVlan) ts
 
 abbrev pushing : List VlanTag → List DpAction
-pushing ts = map (λ t. PushVlan t.tci) ts
+pushing ts = map (λ t. PushVlan t.tpid t.tci) ts
 
--- a list of this tag, or none
-abbrev tag_if : Bool → ℕ → List VlanTag
-tag_if t x = if t then record { tci = x } ∷ [] else []
+module _ (k : List ℕ) (len : length k ≡ field_count) where
+  -- what pops and pushes of these lists lead to
+  Leads : List VlanTag → List VlanTag → List VlanTag → Type 0
+  Leads gone new after = HasTags k (applied (popping gone ++ pushing new) k) (outer_of after) (inner_of after)
 
--- a list without this tag, or with it
-abbrev tag_unless : Bool → ℕ → List VlanTag
-tag_unless t x = if t then [] else record { tci = x } ∷ []
+  pop : {l : List ℕ} (o i : VlanTag) → HasTags k l o i → HasTags k (popped l) i no_tag
+  pop {l} o i h = pop-HasTags k l o i len h
 
-tags-Turns : (base current k : List ℕ) → length k ≡ field_count → is_proper base ≡ true → is_proper current ≡ true
-    → (value_of k VlanTci ≡ value_of base VlanTci) ⊎ (value_of k VlanTci ≡ value_of current VlanTci)
-    → Turns tag_places current k (applied (commit_tags (tags_of base) (tags_of current)) k)
-unfolding commit_tags outer_tags
-tags-Turns base current k len pb pc b = at (is_tag x) refl (is_tag y) refl b
+  push : {l : List ℕ} (o i t : VlanTag) → HasTags k l o i → HasTags k (after_action l (PushVlan t.tpid t.tci)) t o
+  push {l} o i t h = push-HasTags k l o i t len h
+
+  -- the innermost tags are others
+  anew : (before after : List VlanTag) → length before ≤ 2 → length after ≤ 2 → HasTags k k (outer_of before) (inner_of before) → Leads before after after
+  unfolding Leads
+  anew before after lb la h = pushed_all after la (popped_all before lb h)
+    where
+      popped_all : (ts : List VlanTag) → length ts ≤ 2 → HasTags k k (outer_of ts) (inner_of ts) → HasTags k (applied (popping ts) k) no_tag no_tag
+      popped_all [] l h = h
+      popped_all (t ∷ []) l h = pop t no_tag h
+      popped_all (i ∷ o ∷ []) l h = pop i no_tag (pop o i h)
+      popped_all (x ∷ y ∷ z ∷ ts) l h = absurd (omega arith)
+
+      pushed_all : (ts : List VlanTag) → length ts ≤ 2 → HasTags k (applied (popping before) k) no_tag no_tag → Leads before ts ts
+      pushed_all ts l h = subst (λ (z : List ℕ). HasTags k z (outer_of ts) (inner_of ts)) (sym (applied-append (popping before) (pushing ts) k)) (at ts l)
+        where
+          at : (ts : List VlanTag) → length ts ≤ 2 → HasTags k (applied (pushing ts) (applied (popping before) k)) (outer_of ts) (inner_of ts)
+          at [] l = h
+          at (t ∷ []) l = push no_tag no_tag t h
+          at (i ∷ o ∷ []) l = push i no_tag o (push no_tag no_tag i h)
+          at (x ∷ y ∷ z ∷ ts) l = absurd (omega arith)
+
+  -- the innermost tags are the same
+  kept : (t : VlanTag) (bs cs : List VlanTag) → length bs ≤ 1 → length cs ≤ 1 → HasTags k k (outer_of (t ∷ bs)) (inner_of (t ∷ bs))
+      → Leads (outer_tags bs cs) (outer_tags cs bs) (t ∷ cs)
+  unfolding Leads outer_tags
+  kept t [] [] lb la h = h
+  kept t [] (o ∷ []) lb la h = push t no_tag o h
+  kept t (b ∷ []) [] lb la h = pop b t h
+  kept t (b ∷ []) (o ∷ []) lb la h = at (is_same_tag b o) refl
+    where
+      at : (u : Bool) → is_same_tag b o ≡ u → Leads (if u then [] else b ∷ []) (if is_same_tag o b then [] else o ∷ []) (t ∷ o ∷ [])
+      at true e = subst (λ (v : Bool). Leads [] (if v then [] else o ∷ []) (t ∷ o ∷ [])) (sym (same_tag-comm b o ∙ e)) (subst (λ (x : VlanTag). HasTags k k x t) (same_tag b o e) h)
+      at false e = subst (λ (v : Bool). Leads (b ∷ []) (if v then [] else o ∷ []) (t ∷ o ∷ [])) (sym (same_tag-comm b o ∙ e)) (push t no_tag o (pop b t h))
+  kept t (x ∷ y ∷ bs) cs lb la h = absurd (omega arith)
+  kept t bs (x ∷ y ∷ cs) lb la h = absurd (omega arith)
+
+  committed_tags : (before after : List VlanTag) → length before ≤ 2 → length after ≤ 2 → HasTags k k (outer_of before) (inner_of before)
+      → Leads (outer_tags before after) (outer_tags after before) after
+  unfolding outer_tags
+  committed_tags [] [] lb la h = anew [] [] lb la h
+  committed_tags [] (o ∷ os) lb la h = anew [] (o ∷ os) lb la h
+  committed_tags (t ∷ ts) [] lb la h = anew (t ∷ ts) [] lb la h
+  committed_tags (t ∷ ts) (o ∷ os) lb la h = at (is_same_tag t o) refl
+    where
+      at : (u : Bool) → is_same_tag t o ≡ u → Leads (if u then outer_tags ts os else t ∷ ts) (if is_same_tag o t then outer_tags os ts else o ∷ os) (o ∷ os)
+      at true e =
+          subst (λ (v : Bool). Leads (outer_tags ts os) (if v then outer_tags os ts else o ∷ os) (o ∷ os)) (sym (same_tag-comm t o ∙ e))
+          (subst (λ (x : VlanTag). Leads (outer_tags ts os) (outer_tags os ts) (x ∷ os)) (same_tag t o e) (kept t ts os (omega arith) (omega arith) h))
+      at false e = subst (λ (v : Bool). Leads (t ∷ ts) (if v then outer_tags os ts else o ∷ os) (o ∷ os)) (sym (same_tag-comm t o ∙ e)) (anew (t ∷ ts) (o ∷ os) lb la h)
+
+few_tags : (key : List ℕ) → length (tags_of key) ≤ 2
+few_tags key = at (is_tag (outer_tag key).tci) (is_tag (inner_tag key).tci)
   where
-    x : ℕ
-    x = value_of base VlanTci
+    at : (u v : Bool) → length (if u then (if v then inner_tag key ∷ outer_tag key ∷ [] else outer_tag key ∷ []) else []) ≤ 2
+    at true true = omega arith
+    at true false = omega arith
+    at false v = omega arith
 
-    y : ℕ
-    y = value_of current VlanTci
+tag_tci : {t o : VlanTag} → t ≡ o → t.tci ≡ o.tci
+tag_tci e = ap (λ (t : VlanTag). t.tci) e
 
-    both : (z : Bool) → (x == y) ≡ z → is_tag y ≡ true → (value_of k VlanTci ≡ x) ⊎ (value_of k VlanTci ≡ y)
-        → Turns tag_places current k (applied (popping (tag_unless z x) ++ pushing (tag_unless z y)) k)
-    both true z f (inl h) = same-Turns current k (h ∙ eqb-true x y z)
-    both true z f (inr h) = same-Turns current k h
-    both false z f h = twice-Turns current k y len (ap (λ (t : Bool). if t then y else 0) f)
+tag_tpid : {t o : VlanTag} → t ≡ o → t.tpid ≡ o.tpid
+tag_tpid e = ap (λ (t : VlanTag). t.tpid) e
 
-    at : (t : Bool) → is_tag x ≡ t → (u : Bool) → is_tag y ≡ u → (value_of k VlanTci ≡ x) ⊎ (value_of k VlanTci ≡ y)
-        → Turns tag_places current k (applied (popping (outer_tags (tag_if t x) (tag_if u y)) ++ pushing (outer_tags (tag_if u y) (tag_if t x))) k)
-    at false e false f (inl h) = same-Turns current k (h ∙ untagged-zero x e pb ∙ sym (untagged-zero y f pc))
-    at false e false f (inr h) = same-Turns current k h
-    at false e true f h = tagged-Turns current k y len (ap (λ (t : Bool). if t then y else 0) f)
-    at true e false f h = tagged-Turns current k 0 len (sym (untagged-zero y f pc))
-    at true e true f h =
-        subst (λ (w : Bool). Turns tag_places current k (applied (popping (tag_unless (x == y) x) ++ pushing (tag_unless w y)) k)) (sym (eqb-comm x y (x == y) refl))
-        (both (x == y) refl f h)
+-- the tags of a key that has those of the base key become those of the current one
+tags-Turns : (base current k : List ℕ) → length k ≡ field_count → is_proper base ≡ true → is_proper current ≡ true
+    → ((q : ℕ) → tag_places q ≡ true → number_at k q ≡ number_at base q)
+    → Turns tag_places current k (applied (commit_tags (tags_of base) (tags_of current)) k)
+unfolding commit_tags Leads
+tags-Turns base current k len pb pc same = record { lengths = turned.lengths; those = those; others = turned.others }
+  where
+    has : AreTags base (tags_of base)
+    has = proper-AreTags base pb
+
+    aim : AreTags current (tags_of current)
+    aim = proper-AreTags current pc
+
+    begin : HasTags k k (outer_of (tags_of base)) (inner_of (tags_of base))
+    begin = record {
+      lengths = refl;
+      outer_is = ap₂ (λ (p c : ℕ). record { tpid = p; tci = c }) (same (place_of VlanTpid) refl) (same (place_of VlanTci) refl) ∙ has.outer_is;
+      inner_is = ap₂ (λ (p c : ℕ). record { tpid = p; tci = c }) (same (place_of VlanTpid2) refl) (same (place_of VlanTci2) refl) ∙ has.inner_is;
+      others = λ q away. refl;
+    }
+
+    turned : HasTags k (applied (commit_tags (tags_of base) (tags_of current)) k) (outer_of (tags_of current)) (inner_of (tags_of current))
+    turned = committed_tags k len (tags_of base) (tags_of current) (few_tags base) (few_tags current) begin
+
+    outer : outer_tag (applied (commit_tags (tags_of base) (tags_of current)) k) ≡ outer_tag current
+    outer = turned.outer_is ∙ sym aim.outer_is
+
+    inner : inner_tag (applied (commit_tags (tags_of base) (tags_of current)) k) ≡ inner_tag current
+    inner = turned.inner_is ∙ sym aim.inner_is
+
+    at_place : (f : FieldId) (q : ℕ) → (q == place_of f) ≡ true → value_of (applied (commit_tags (tags_of base) (tags_of current)) k) f ≡ value_of current f
+        → number_at (applied (commit_tags (tags_of base) (tags_of current)) k) q ≡ number_at current q
+    at_place f q e h = ap (number_at _) (eqb-true q (place_of f) e) ∙ h ∙ sym (ap (number_at current) (eqb-true q (place_of f) e))
+
+    those : (q : ℕ) → tag_places q ≡ true → number_at (applied (commit_tags (tags_of base) (tags_of current)) k) q ≡ number_at current q
+    those q h = one (q == place_of VlanTci) refl (q == place_of VlanTpid) refl (q == place_of VlanTci2) refl (q == place_of VlanTpid2) refl h
+      where
+        one : (a : Bool) → (q == place_of VlanTci) ≡ a → (b : Bool) → (q == place_of VlanTpid) ≡ b → (c : Bool) → (q == place_of VlanTci2) ≡ c
+            → (d : Bool) → (q == place_of VlanTpid2) ≡ d → (a || (b || (c || (d || false)))) ≡ true
+            → number_at (applied (commit_tags (tags_of base) (tags_of current)) k) q ≡ number_at current q
+        one true e b f c g d i h = at_place VlanTci q e (tag_tci outer)
+        one false e true f c g d i h = at_place VlanTpid q f (tag_tpid outer)
+        one false e false f true g d i h = at_place VlanTci2 q g (tag_tci inner)
+        one false e false f false g true i h = at_place VlanTpid2 q i (tag_tpid inner)
+        one false e false f false g false i h = absurd (cc)
 
 -- ---- the whole
 
@@ -220,13 +375,30 @@ commit-Turns base current len pb pc =
     let t1 = commit_fields-Turns fields_before_tags base current base len b0 in
     let b1 = Turns-Between (λ q. list_any (λ f. q == place_of f) fields_before_tags) base current base k1 b0 t1 in
     let k2 = applied tags k1 in
-    let t2 = tags-Turns base current k1 (t1.lengths ∙ len) pb pc (b1 (place_of VlanTci)) in
+    let t2 = tags-Turns base current k1 (t1.lengths ∙ len) pb pc (λ q h. t1.others q (not_before q h)) in
     let b2 = Turns-Between tag_places base current k1 k2 b1 t2 in
     let t3 = commit_fields-Turns fields_after_tags base current k2 (t2.lengths ∙ t1.lengths ∙ len) b2 in
     let t = Turns-join (λ q. list_any (λ f. q == place_of f) fields_before_tags) _ current base k1 _ t1 (Turns-join tag_places (λ q. list_any (λ f. q == place_of f) fields_after_tags) current k1 k2 _ t2 t3) in
     let e : applied (before ++ (tags ++ after)) base ≡ applied after k2 = applied-append before (tags ++ after) base ∙ applied-append tags after k1 in
     record { lengths = ap length e ∙ t.lengths; those = λ q h. ap (λ (z : List ℕ). number_at z q) e ∙ t.those q (sym (regroup q) ∙ h); others = λ q h. ap (λ (z : List ℕ). number_at z q) e ∙ t.others q (sym (regroup q) ∙ h) }
   where
+    -- the fields that are committed before tags are none of theirs
+    not_before : (q : ℕ) → tag_places q ≡ true → list_any (λ f. q == place_of f) fields_before_tags ≡ false
+    not_before q h = one (q == place_of VlanTci) refl (q == place_of VlanTpid) refl (q == place_of VlanTci2) refl (q == place_of VlanTpid2) refl h
+      where
+        at_place : (f : FieldId) → (q == place_of f) ≡ true → list_any (λ g. place_of f == place_of g) fields_before_tags ≡ false
+            → list_any (λ g. q == place_of g) fields_before_tags ≡ false
+        at_place f e h = ap (λ (z : ℕ). list_any (λ g. z == place_of g) fields_before_tags) (eqb-true q (place_of f) e) ∙ h
+
+        one : (a : Bool) → (q == place_of VlanTci) ≡ a → (b : Bool) → (q == place_of VlanTpid) ≡ b → (c : Bool) → (q == place_of VlanTci2) ≡ c
+            → (d : Bool) → (q == place_of VlanTpid2) ≡ d → (a || (b || (c || (d || false)))) ≡ true
+            → list_any (λ g. q == place_of g) fields_before_tags ≡ false
+        one true e b f c g d i h = at_place VlanTci e refl
+        one false e true f c g d i h = at_place VlanTpid f refl
+        one false e false f true g d i h = at_place VlanTci2 g refl
+        one false e false f false g true i h = at_place VlanTpid2 i refl
+        one false e false f false g false i h = absurd (cc)
+
     regroup : (q : ℕ)
         → list_any (λ f. q == place_of f) frame_fields ≡ (list_any (λ f. q == place_of f) fields_before_tags || (tag_places q || list_any (λ f. q == place_of f) fields_after_tags))
     regroup q = list_any-append (λ f. q == place_of f) fields_before_tags (tag_fields ++ fields_after_tags) ∙ ap (λ (t : Bool). list_any (λ f. q == place_of f) fields_before_tags || t) (list_any-append (λ f. q == place_of f) tag_fields fields_after_tags)

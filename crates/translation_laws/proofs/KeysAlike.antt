@@ -1,16 +1,16 @@
 -- The keys of two translations that differ only in bits which neither has touched.
-use Rattle.std.proofs.Common.{◌≡◌, ◌≢◌, ℕ, zero, suc, ◌+◌, ◌%◌, ◌<◌, ◌≤◌, min, Bool, true, false, ◌==◌, if◌then◌else◌, List, [], ◌∷◌, ◌++◌, length, map, set, bit_and, bit_xor, ◌⊎◌, inl, inr, refl, sym, ap, ap₂, ◌∙◌, subst, eq-eqb, eqb-true, arith, length-set, get_or-set_same, get_or-set_other}
+use Rattle.std.proofs.Common.{◌≡◌, ◌≢◌, ℕ, zero, suc, ◌+◌, ◌%◌, ◌<◌, ◌≤◌, min, Bool, true, false, ◌&&◌, ◌==◌, if◌then◌else◌, List, [], ◌∷◌, ◌++◌, length, map, set, bit_and, bit_xor, ◌⊎◌, inl, inr, refl, sym, ap, ap₂, ◌∙◌, subst, eq-eqb, eqb-true, arith, length-set, get_or-set_same, get_or-set_other}
 use Rattle.std.specs.Int.{bit_at}
 use Rattle.std.specs.Int.Bits.{xor_self}
 use Rattle.std.specs.List.{list_any}
 use Rattle.std.proofs.lemmas.Nat.Bits.{bit_at_and, bit_at_xor, bit_at-lt, same_from_bits}
 use Rattle.spec_keys.specs.declared.field_id.FieldId.{FieldId}
-use Rattle.spec_keys.specs.declared.field_id.FieldId.TheVariants.{VlanTci}
+use Rattle.spec_keys.specs.declared.field_id.FieldId.TheVariants.{VlanTci, VlanTpid, VlanTci2, VlanTpid2}
 use Rattle.spec_keys.specs.Fields.{place_of}
 use Rattle.spec_keys.specs.Keys.{number_at, value_of, masked}
 use Rattle.spec_actions.specs.declared.action.DpAction.{DpAction}
 use Rattle.spec_actions.specs.declared.action.DpAction.TheVariants.{Set, PopVlan, PushVlan}
-use Rattle.spec_xlate.specs.Tags.{VlanTag, tag_fields, tags_of, is_tag, outer_tags, commit_tags}
+use Rattle.spec_xlate.specs.Tags.{VlanTag, tag_fields, tags_of, outer_tag, inner_tag, is_tag, is_same_tag, outer_tags, commit_tags}
 use Rattle.spec_xlate.specs.Commit.{fields_before_tags, fields_after_tags, commit, commit_field, commit_fields}
 use Rattle.spec_base.specs.Bits.{merged}
 use Rattle.translation_laws.proofs.KeyLaws.{SameBits, masked_from-places, places_from-masked}
@@ -110,18 +110,32 @@ eqb-xor x y = at (x == y) refl (bit_xor x y == 0) refl
 
 -- ---- fields and keys
 
+is_same_tag-same : (t : VlanTag) → is_same_tag t t ≡ true
+is_same_tag-same t = ap₂ (λ (x y : Bool). x && y) (eq-eqb t.tci t.tci refl) (eq-eqb t.tpid t.tpid refl)
+
 outer_tags-same : (ts : List VlanTag) → outer_tags ts ts ≡ []
 unfolding outer_tags
 outer_tags-same [] = refl
-outer_tags-same (t ∷ ts) = ap (λ (b : Bool). if b then outer_tags ts ts else t ∷ ts) (eq-eqb t.tci t.tci refl) ∙ outer_tags-same ts
+outer_tags-same (t ∷ ts) = ap (λ (b : Bool). if b then outer_tags ts ts else t ∷ ts) (is_same_tag-same t) ∙ outer_tags-same ts
 
 commit_tags-same : (ts : List VlanTag) → commit_tags ts ts ≡ []
 unfolding commit_tags
-commit_tags-same ts = ap₂ (λ (u v : List VlanTag). map (λ t. PopVlan) u ++ map (λ t. PushVlan t.tci) v) (outer_tags-same ts) (outer_tags-same ts)
+commit_tags-same ts = ap₂ (λ (u v : List VlanTag). map (λ t. PopVlan) u ++ map (λ t. PushVlan t.tpid t.tci) v) (outer_tags-same ts) (outer_tags-same ts)
+
+outer_tag-same : (x y : List ℕ) → SameTags x y → outer_tag y ≡ outer_tag x
+unfolding SameTags
+outer_tag-same x y h = ap₂ (λ (p c : ℕ). record { tpid = p; tci = c }) (h (place_of VlanTpid) refl) (h (place_of VlanTci) refl)
+
+inner_tag-same : (x y : List ℕ) → SameTags x y → inner_tag y ≡ inner_tag x
+unfolding SameTags
+inner_tag-same x y h = ap₂ (λ (p c : ℕ). record { tpid = p; tci = c }) (h (place_of VlanTpid2) refl) (h (place_of VlanTci2) refl)
+
+-- the tags that a key has by these, an outer and an inner one
+abbrev tags_by : VlanTag → VlanTag → List VlanTag
+tags_by outer inner = if is_tag outer.tci then (if is_tag inner.tci then inner ∷ outer ∷ [] else outer ∷ []) else []
 
 pub tags_of-same : (x y : List ℕ) → SameTags x y → tags_of y ≡ tags_of x
-unfolding SameTags
-tags_of-same x y h = ap (λ (z : ℕ). if is_tag z then record { tci = z } ∷ [] else []) (h (place_of VlanTci) refl)
+tags_of-same x y h = ap₂ tags_by (outer_tag-same x y h) (inner_tag-same x y h)
 
 module _ (a b c d c' d' : List ℕ) (k : KeysAlike a b c d c' d') where
   pub and-alike : (q m : ℕ) → bit_and (number_at a q) m ≡ bit_and (number_at b q) m → bit_and (number_at c q) m ≡ bit_and (number_at c' q) m

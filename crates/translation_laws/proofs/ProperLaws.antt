@@ -1,9 +1,11 @@
 -- Every action keeps a vlan_tci that is 0 or that of a tag.
-use Rattle.std.proofs.Common.{◌≡◌, ℕ, zero, suc, ◌+◌, ◌-◌, ◌*◌, ◌^◌, ◌<◌, ◌≤◌, Bool, true, false, ◌||◌, ◌==◌, nat_le, if◌then◌else◌, List, [], ◌∷◌, map, length, set, Option, Some, None, IsTrue, ◌⊎◌, inl, inr, refl, sym, subst, arith, get_or-set_same, get_or-set_other}
+use Rattle.std.proofs.Common.{◌≡◌, ℕ, zero, suc, ◌+◌, ◌-◌, ◌*◌, ◌^◌, ◌<◌, ◌≤◌, Bool, true, false, ◌&&◌, ◌||◌, ◌==◌, nat_le, if◌then◌else◌, List, [], ◌∷◌, map, length, set, Option, Some, None, IsTrue, ◌⊎◌, inl, inr, refl, sym, ap, ap₂, ◌∙◌, arith, eqb-true, eq-eqb, length-set, get_or-set_same, get_or-set_other}
+use Rattle.std.proofs.lemmas.Bool.{and_parts}
+use Rattle.std.proofs.lemmas.List.{get_or_past}
 use Rattle.spec_keys.specs.declared.field_id.FieldId.{FieldId}
 use Rattle.spec_keys.specs.declared.field_id.FieldId.TheVariants as field
 use Rattle.spec_keys.specs.Fields.{place_of}
-use Rattle.spec_keys.specs.Keys.{value_of}
+use Rattle.spec_keys.specs.Keys.{number_at, value_of}
 use Rattle.spec_actions.specs.declared.named_field.NamedField.{NamedField}
 use Rattle.spec_actions.specs.declared.named_field.Prerequisite.TheVariants as needs
 use Rattle.spec_actions.specs.declared.action.OfAction.{OfAction}
@@ -13,51 +15,203 @@ use Rattle.spec_actions.specs.declared.action.DpAction.TheVariants as datapath
 use Rattle.spec_actions.specs.Named.{named}
 use Rattle.spec_tables.specs.Rules.{Rule, winner}
 use Rattle.spec_keys.specs.Protocols.{tag_bit}
-use Rattle.spec_xlate.specs.Tags.{is_tag, is_tag_field, tagged, is_full}
+use Rattle.spec_xlate.specs.Tags.{VlanTag, is_tag, is_tag_field, outer_tag, inner_tag, no_tag, is_same_tag, with_tags, popped, pushed, type_of_written, tagged, is_full}
 use Rattle.spec_xlate.specs.Needs.{is_met}
 use Rattle.spec_xlate.specs.Commit.{commit}
 use Rattle.spec_base.specs.Bits.{merged}
 use Rattle.spec_xlate.specs.Translation.{Switch, State, Mode, action_limit, emit, emit_all, committed, in_port_of, is_other_port, other_ports, output, output_all, slice_bits, slice_of, written, in_field, written_bits, write, vid_bits, pcp_bits, pcp_unit, write_tag, lower_ttl, act, in_mode, run, visited, follow, with_lookups_left, enter, look}
 use Rattle.spec_xlate.specs.Translation.Mode.{Going, ListEnded, Stopped}
-use Rattle.translation_laws.specs.Applied.{is_proper, HasProperTags}
-use Rattle.translation_laws.proofs.KeysAlike.{set-beyond, eqb-false}
+use Rattle.translation_laws.specs.Applied.{is_tag_or_none, is_proper, HasProperTags}
+use Rattle.translation_laws.proofs.KeysAlike.{is_tag_place, set-beyond, eqb-false}
+use Rattle.translation_laws.proofs.ActLaws.{IsWritable, writable}
 
 -- ---- keys
 
-tagged-proper : (tci : ℕ) (key : List ℕ) → IsTrue (is_proper key) → IsTrue (is_proper (tagged tci key))
-tagged-proper tci key h = at (either (place_of field.VlanTci) (length key))
+-- whether an outer and an inner tag are those of a proper key
+abbrev are_proper : VlanTag → VlanTag → Bool
+are_proper outer inner = if is_tag outer.tci then is_tag_or_none inner else is_same_tag outer no_tag && is_same_tag inner no_tag
+
+abbrev tag : (tpid tci : ℕ) → VlanTag
+tag tpid tci = record { tpid = tpid; tci = tci }
+
+zero_tag : {tpid tci : ℕ} → tpid ≡ 0 → tci ≡ 0 → tag tpid tci ≡ no_tag
+zero_tag e f = ap₂ tag e f
+
+is_no_tag : (t : VlanTag) → is_same_tag t no_tag ≡ true → (t.tci ≡ 0) × (t.tpid ≡ 0)
+is_no_tag t h = let parts = and_parts (t.tci == 0) (t.tpid == 0) h in (eqb-true t.tci 0 parts.0, eqb-true t.tpid 0 parts.1)
+
+-- a number that was written, or 0 where there is no place for it
+abbrev IsWrittenOr0 : ℕ → ℕ → Type 0
+IsWrittenOr0 number written = (number ≡ written) ⊎ (number ≡ 0)
+
+zero_or_0 : {number written : ℕ} → IsWrittenOr0 number written → written ≡ 0 → number ≡ 0
+zero_or_0 (inl e) z = e ∙ z
+zero_or_0 (inr e) z = e
+
+-- tags of which the contents, and the types beside them, were written as far as there are places
+written_tags-proper : (o i : VlanTag) (tpid tci tpid2 tci2 : ℕ) → are_proper o i ≡ true
+    → ((tci ≡ o.tci) × IsWrittenOr0 tpid o.tpid) ⊎ (((tci ≡ 0) × (tpid ≡ 0)) × ((tci2 ≡ 0) × (tpid2 ≡ 0)))
+    → ((tci2 ≡ i.tci) × IsWrittenOr0 tpid2 i.tpid) ⊎ ((tci2 ≡ 0) × (tpid2 ≡ 0))
+    → are_proper (tag tpid tci) (tag tpid2 tci2) ≡ true
+written_tags-proper o i tpid tci tpid2 tci2 ok (inr none) inner = ap₂ are_proper (zero_tag none.0.1 none.0.0) (zero_tag none.1.1 none.1.0)
+written_tags-proper o i tpid tci tpid2 tci2 ok (inl outer) inner = at (is_tag o.tci) refl ok inner
+  where
+    inner_zero : ((tci2 ≡ i.tci) × IsWrittenOr0 tpid2 i.tpid) ⊎ ((tci2 ≡ 0) × (tpid2 ≡ 0)) → (i.tci ≡ 0) × (i.tpid ≡ 0) → tag tpid2 tci2 ≡ no_tag
+    inner_zero (inl h) z = zero_tag (zero_or_0 h.1 z.1) (h.0 ∙ z.0)
+    inner_zero (inr h) z = zero_tag h.1 h.0
+
+    of_inner : (u : Bool) → is_tag i.tci ≡ u → (u || is_same_tag i no_tag) ≡ true → ((tci2 ≡ i.tci) × IsWrittenOr0 tpid2 i.tpid) ⊎ ((tci2 ≡ 0) × (tpid2 ≡ 0))
+        → is_tag_or_none (tag tpid2 tci2) ≡ true
+    of_inner true e h (inl w) = ap (λ (t : Bool). t || is_same_tag (tag tpid2 tci2) no_tag) (ap is_tag w.0 ∙ e)
+    of_inner true e h (inr w) = ap is_tag_or_none (zero_tag w.1 w.0)
+    of_inner false e h w = ap is_tag_or_none (inner_zero w (is_no_tag i h))
+
+    at : (u : Bool) → is_tag o.tci ≡ u → (if u then is_tag_or_none i else is_same_tag o no_tag && is_same_tag i no_tag) ≡ true
+        → ((tci2 ≡ i.tci) × IsWrittenOr0 tpid2 i.tpid) ⊎ ((tci2 ≡ 0) × (tpid2 ≡ 0)) → are_proper (tag tpid tci) (tag tpid2 tci2) ≡ true
+    at true e h w =
+        ap (λ (t : Bool). if t then is_tag_or_none (tag tpid2 tci2) else is_same_tag (tag tpid tci) no_tag && is_same_tag (tag tpid2 tci2) no_tag) (ap is_tag outer.0 ∙ e)
+        ∙ of_inner (is_tag i.tci) refl h w
+    at false e h w =
+        let parts = and_parts (is_same_tag o no_tag) (is_same_tag i no_tag) h in
+        let none = is_no_tag o parts.0 in
+        ap₂ are_proper (zero_tag (zero_or_0 outer.1 none.1) (outer.0 ∙ none.0)) (inner_zero w (is_no_tag i parts.1))
+
+-- a place after a write to it
+written_at : (key : List ℕ) (p x : ℕ) → (number_at (set key p x) p ≡ x) ⊎ ((number_at (set key p x) p ≡ 0) × (length key ≤ p))
+written_at key p x = at (either p (length key))
   where
     either : (m n : ℕ) → (m < n) ⊎ (n ≤ m)
     either m n = grind arith
 
-    ok : (x : ℕ) (t : Bool) → is_tag x ≡ t → IsTrue (((if t then x else 0) == 0) || is_tag (if t then x else 0))
-    ok x true e = subst (λ (u : Bool). IsTrue ((x == 0) || u)) (sym e) (right (x == 0))
-      where
-        right : (u : Bool) → IsTrue (u || true)
-        right true = refl
-        right false = refl
-    ok x false e = refl
+    at : (p < length key) ⊎ (length key ≤ p) → (number_at (set key p x) p ≡ x) ⊎ ((number_at (set key p x) p ≡ 0) × (length key ≤ p))
+    at (inl l) = inl (get_or-set_same key p x 0 l)
+    at (inr l) = inr (ap (λ (z : List ℕ). number_at z p) (set-beyond key p x l) ∙ get_or_past key p 0 l, l)
 
-    at : (place_of field.VlanTci < length key) ⊎ (length key ≤ place_of field.VlanTci) → IsTrue (is_proper (tagged tci key))
-    at (inl l) = subst (λ (z : ℕ). IsTrue ((z == 0) || is_tag z)) (sym (get_or-set_same key (place_of field.VlanTci) (if is_tag tci then tci else 0) 0 l)) (ok tci (is_tag tci) refl)
-    at (inr l) = subst (λ (z : List ℕ). IsTrue (is_proper z)) (sym (set-beyond key (place_of field.VlanTci) (if is_tag tci then tci else 0) l)) h
+with_tags-proper : (o i : VlanTag) (key : List ℕ) → are_proper o i ≡ true → IsTrue (is_proper (with_tags o i key))
+with_tags-proper o i key ok = written_tags-proper o i _ _ _ _ ok (of_outer (written_at key (place_of field.VlanTci) o.tci)) of_inner
+  where
+    k1 : List ℕ
+    k1 = set key (place_of field.VlanTci) o.tci
+
+    k2 : List ℕ
+    k2 = set k1 (place_of field.VlanTpid) o.tpid
+
+    k3 : List ℕ
+    k3 = set k2 (place_of field.VlanTci2) i.tci
+
+    all : List ℕ
+    all = with_tags o i key
+
+    l1 : length k1 ≡ length key
+    l1 = length-set key (place_of field.VlanTci) o.tci
+
+    l2 : length k2 ≡ length key
+    l2 = length-set k1 (place_of field.VlanTpid) o.tpid ∙ l1
+
+    l3 : length k3 ≡ length key
+    l3 = length-set k2 (place_of field.VlanTci2) i.tci ∙ l2
+
+    apart : (l : List ℕ) (f g : FieldId) (x : ℕ) → (place_of g == place_of f) ≡ false → number_at (set l (place_of f) x) (place_of g) ≡ number_at l (place_of g)
+    apart l f g x ne = get_or-set_other l (place_of f) (place_of g) x 0 (eqb-false _ _ ne)
+
+    tci_is : value_of all field.VlanTci ≡ value_of k1 field.VlanTci
+    tci_is = apart k3 field.VlanTpid2 field.VlanTci i.tpid refl ∙ (apart k2 field.VlanTci2 field.VlanTci i.tci refl ∙ apart k1 field.VlanTpid field.VlanTci o.tpid refl)
+
+    tpid_is : value_of all field.VlanTpid ≡ value_of k2 field.VlanTpid
+    tpid_is = apart k3 field.VlanTpid2 field.VlanTpid i.tpid refl ∙ apart k2 field.VlanTci2 field.VlanTpid i.tci refl
+
+    tci2_is : value_of all field.VlanTci2 ≡ value_of k3 field.VlanTci2
+    tci2_is = apart k3 field.VlanTpid2 field.VlanTci2 i.tpid refl
+
+    past : (f : FieldId) → length key ≤ place_of f → value_of all f ≡ 0
+    past f l = get_or_past all (place_of f) 0 (omega (arith, l, l3, length-set k3 (place_of field.VlanTpid2) i.tpid))
+
+    of_tpid : (number_at k2 (place_of field.VlanTpid) ≡ o.tpid) ⊎ ((number_at k2 (place_of field.VlanTpid) ≡ 0) × (length k1 ≤ place_of field.VlanTpid)) → IsWrittenOr0 (value_of all field.VlanTpid) o.tpid
+    of_tpid (inl h) = inl (tpid_is ∙ h)
+    of_tpid (inr h) = inr (tpid_is ∙ h.0)
+
+    of_tpid2 : (number_at all (place_of field.VlanTpid2) ≡ i.tpid) ⊎ ((number_at all (place_of field.VlanTpid2) ≡ 0) × (length k3 ≤ place_of field.VlanTpid2)) → IsWrittenOr0 (value_of all field.VlanTpid2) i.tpid
+    of_tpid2 (inl h) = inl h
+    of_tpid2 (inr h) = inr h.0
+
+    of_outer : (number_at k1 (place_of field.VlanTci) ≡ o.tci) ⊎ ((number_at k1 (place_of field.VlanTci) ≡ 0) × (length key ≤ place_of field.VlanTci))
+        → ((value_of all field.VlanTci ≡ o.tci) × IsWrittenOr0 (value_of all field.VlanTpid) o.tpid)
+        ⊎ (((value_of all field.VlanTci ≡ 0) × (value_of all field.VlanTpid ≡ 0)) × ((value_of all field.VlanTci2 ≡ 0) × (value_of all field.VlanTpid2 ≡ 0)))
+    of_outer (inl h) = inl (tci_is ∙ h, of_tpid (written_at k1 (place_of field.VlanTpid) o.tpid))
+    of_outer (inr h) =
+        inr ((past field.VlanTci h.1, past field.VlanTpid (omega (arith, h.1))), (past field.VlanTci2 (omega (arith, h.1)), past field.VlanTpid2 (omega (arith, h.1))))
+
+    of_inner : ((value_of all field.VlanTci2 ≡ i.tci) × IsWrittenOr0 (value_of all field.VlanTpid2) i.tpid)
+        ⊎ ((value_of all field.VlanTci2 ≡ 0) × (value_of all field.VlanTpid2 ≡ 0))
+    of_inner = at (written_at k2 (place_of field.VlanTci2) i.tci)
+      where
+        at : (number_at k3 (place_of field.VlanTci2) ≡ i.tci) ⊎ ((number_at k3 (place_of field.VlanTci2) ≡ 0) × (length k2 ≤ place_of field.VlanTci2))
+            → ((value_of all field.VlanTci2 ≡ i.tci) × IsWrittenOr0 (value_of all field.VlanTpid2) i.tpid)
+            ⊎ ((value_of all field.VlanTci2 ≡ 0) × (value_of all field.VlanTpid2 ≡ 0))
+        at (inl h) = inl (tci2_is ∙ h, of_tpid2 (written_at k3 (place_of field.VlanTpid2) i.tpid))
+        at (inr h) = inr (tci2_is ∙ h.0, past field.VlanTpid2 (omega (arith, h.1, l2)))
+
+-- either tag of a proper key is one, or all of it is 0
+outer-proper : (o i : VlanTag) → are_proper o i ≡ true → is_tag_or_none o ≡ true
+outer-proper o i = at (is_tag o.tci)
+  where
+    at : (u : Bool) → (if u then is_tag_or_none i else is_same_tag o no_tag && is_same_tag i no_tag) ≡ true → (u || is_same_tag o no_tag) ≡ true
+    at true h = refl
+    at false h = (and_parts (is_same_tag o no_tag) (is_same_tag i no_tag) h).0
+
+inner-proper : (o i : VlanTag) → are_proper o i ≡ true → is_tag_or_none i ≡ true
+inner-proper o i = at (is_tag o.tci)
+  where
+    none : (t : Bool) → is_same_tag i no_tag ≡ true → (t || is_same_tag i no_tag) ≡ true
+    none true h = refl
+    none false h = h
+
+    at : (u : Bool) → (if u then is_tag_or_none i else is_same_tag o no_tag && is_same_tag i no_tag) ≡ true → is_tag_or_none i ≡ true
+    at true h = h
+    at false h = none (is_tag i.tci) (and_parts (is_same_tag o no_tag) (is_same_tag i no_tag) h).1
+
+-- a tag that is one, around what may be one
+around-proper : (o i : VlanTag) → is_tag o.tci ≡ true → is_tag_or_none i ≡ true → are_proper o i ≡ true
+around-proper o i e h = ap (λ (t : Bool). if t then is_tag_or_none i else is_same_tag o no_tag && is_same_tag i no_tag) e ∙ h
+
+popped-proper : (key : List ℕ) → IsTrue (is_proper key) → IsTrue (is_proper (popped key))
+popped-proper key h = with_tags-proper (inner_tag key) no_tag key (at (is_tag (inner_tag key).tci) (inner-proper (outer_tag key) (inner_tag key) h))
+  where
+    at : (u : Bool) → (u || is_same_tag (inner_tag key) no_tag) ≡ true → (if u then true else is_same_tag (inner_tag key) no_tag && true) ≡ true
+    at true h = refl
+    at false h = ap (λ (t : Bool). t && true) h
+
+pushed-proper : (tpid : ℕ) (key : List ℕ) → IsTrue (is_proper key) → IsTrue (is_proper (pushed tpid key))
+pushed-proper tpid key h =
+    with_tags-proper (tag tpid tag_bit) (outer_tag key) key (around-proper (tag tpid tag_bit) (outer_tag key) refl (outer-proper (outer_tag key) (inner_tag key) h))
+
+tagged-proper : (tci : ℕ) (key : List ℕ) → IsTrue (is_proper key) → IsTrue (is_proper (tagged tci key))
+tagged-proper tci key h = at (is_tag tci) refl
+  where
+    at : (u : Bool) → is_tag tci ≡ u
+        → IsTrue (is_proper (if u then with_tags (record { tpid = type_of_written (outer_tag key).tpid; tci = tci }) (inner_tag key) key else popped key))
+    at true e =
+        with_tags-proper (tag (type_of_written (outer_tag key).tpid) tci) (inner_tag key) key
+        (around-proper (tag (type_of_written (outer_tag key).tpid) tci) (inner_tag key) e (inner-proper (outer_tag key) (inner_tag key) h))
+    at false e = popped-proper key h
 
 -- a write elsewhere
-beside-proper : (q x : ℕ) (key : List ℕ) → (place_of field.VlanTci == q) ≡ false → IsTrue (is_proper key) → IsTrue (is_proper (set key q x))
-beside-proper q x key e h = subst (λ (z : ℕ). IsTrue ((z == 0) || is_tag z)) (sym (get_or-set_other key q (place_of field.VlanTci) x 0 (eqb-false (place_of field.VlanTci) q e))) h
-
-no_tag-place : (f : FieldId) → is_tag_field f ≡ false → (place_of field.VlanTci == place_of f) ≡ false
-no_tag-place field.VlanTci e = e
-no_tag-place f e = refl
-
-written-proper : (f : FieldId) (v m : ℕ) (key : List ℕ) → IsTrue (is_proper key) → IsTrue (is_proper (written f v m key))
-written-proper f v m key h = at (m == 0) (is_tag_field f) refl
+beside-proper : (q x : ℕ) (key : List ℕ) → is_tag_place q ≡ false → IsTrue (is_proper key) → IsTrue (is_proper (set key q x))
+beside-proper q x key away h =
+    ap₂ are_proper (ap₂ tag (kept field.VlanTpid refl) (kept field.VlanTci refl)) (ap₂ tag (kept field.VlanTpid2 refl) (kept field.VlanTci2 refl)) ∙ h
   where
-    at : (z u : Bool) → is_tag_field f ≡ u
+    kept : (f : FieldId) → is_tag_place (place_of f) ≡ true → value_of (set key q x) f ≡ value_of key f
+    kept f there = get_or-set_other key q (place_of f) x 0 (λ e. let c : true ≡ false = sym there ∙ ap is_tag_place e ∙ away in absurd (cc))
+
+written-proper : (f : FieldId) (v m : ℕ) (key : List ℕ) → IsWritable f m → IsTrue (is_proper key) → IsTrue (is_proper (written f v m key))
+written-proper f v m key ok h = at (m == 0) refl (is_tag_field f) refl ok
+  where
+    at : (z : Bool) → (m == 0) ≡ z → (u : Bool) → is_tag_field f ≡ u → IsWritable f m
         → IsTrue (is_proper (if z then key else (if u then tagged (merged (value_of key f) v m) key else set key (place_of f) (merged (value_of key f) v m))))
-    at true u e = h
-    at false true e = tagged-proper (merged (value_of key f) v m) key h
-    at false false e = beside-proper (place_of f) (merged (value_of key f) v m) key (no_tag-place f e) h
+    at true z u e ok = h
+    at false z u e (inl none) = absurd (let n : false ≡ true = sym z ∙ eq-eqb m 0 none in cc)
+    at false z true e (inr place) = tagged-proper (merged (value_of key f) v m) key h
+    at false z false e (inr place) = beside-proper (place_of f) (merged (value_of key f) v m) key (sym place ∙ e) h
 
 -- ---- states
 
@@ -90,13 +244,10 @@ output_all-proper (p ∷ ps) s h = emit_all-proper (map datapath.Output (p ∷ p
 write-proper : (name : NamedField) (v bits : ℕ) (s : State) → HasProperTags s → HasProperTags (write name v bits s)
 unfolding write
 write-proper name v bits s h =
-    if-proper (is_met (named name).write_needs s.current) _ _ (record { current = written-proper (named name).field (in_field name v) (written_bits name bits) s.current h.current; base = h.base }) h
+    if-proper (is_met (named name).write_needs s.current) _ _ (record { current = written-proper (named name).field (in_field name v) (written_bits name bits) s.current (writable name bits) h.current; base = h.base }) h
 
 write_tag-proper : (v bits : ℕ) (s : State) → HasProperTags s → HasProperTags (write_tag v bits s)
-write_tag-proper v bits s h = record { current = written-proper field.VlanTci (v + tag_bit) (bits + tag_bit) s.current h.current; base = h.base }
-
-tagged_state-proper : (tci : ℕ) (s : State) → HasProperTags s → HasProperTags (record s { current = tagged tci s.current })
-tagged_state-proper tci s h = record { current = tagged-proper tci s.current h.current; base = h.base }
+write_tag-proper v bits s h = record { current = written-proper field.VlanTci (v + tag_bit) (bits + tag_bit) s.current (inr refl) h.current; base = h.base }
 
 -- A lookup keeps them.
 unfoldable pub LookKeepsTags : (ℕ → State → State) → Type 0
@@ -119,8 +270,9 @@ act-proper sw sub keeps DecTtl s h =
     (if-proper (nat_le (value_of s.current field.NwTtl) 1) _ _ (record { current = h.current; base = h.base })
     (record { current = beside-proper (place_of field.NwTtl) (value_of s.current field.NwTtl - 1) s.current refl h.current; base = h.base }))
     h
-act-proper sw sub keeps PushVlan s h = if-proper (is_full s.current) _ _ (record { current = h.current; base = h.base }) (tagged_state-proper tag_bit s h)
-act-proper sw sub keeps PopVlan s h = tagged_state-proper 0 s h
+act-proper sw sub keeps (PushVlan tpid) s h =
+    if-proper (is_full s.current) _ _ (record { current = h.current; base = h.base }) (record { current = pushed-proper tpid s.current h.current; base = h.base })
+act-proper sw sub keeps PopVlan s h = record { current = popped-proper s.current h.current; base = h.base }
 act-proper sw sub keeps (SetVid vid) s h = write_tag-proper vid vid_bits s h
 act-proper sw sub keeps (SetPcp pcp) s h = write_tag-proper (pcp * pcp_unit) pcp_bits s h
 

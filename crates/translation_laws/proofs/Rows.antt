@@ -16,10 +16,16 @@ unfolding none key_of
 a_set_writes_the_bits_of_its_mask = refl
 
 a_push_gives_a_tag_and_a_pop_takes_it :
-    (applied (PushVlan 0x7005 ∷ []) (udp []) ≡ udp (is field.VlanTci 0x7005 ∷ []))
-    × (applied (PopVlan ∷ []) (udp (is field.VlanTci 0x7005 ∷ [])) ≡ udp [])
+    (applied (PushVlan 0x8100 0x7005 ∷ []) (udp []) ≡ udp (is field.VlanTci 0x7005 ∷ is field.VlanTpid 0x8100 ∷ []))
+    × (applied (PopVlan ∷ []) (udp (is field.VlanTci 0x7005 ∷ is field.VlanTpid 0x8100 ∷ [])) ≡ udp [])
 unfolding none key_of
 a_push_gives_a_tag_and_a_pop_takes_it = (refl, refl)
+
+a_second_push_goes_around_the_first_tag :
+    applied (PushVlan 0x8100 0x1005 ∷ PushVlan 0x88a8 0x1064 ∷ []) (udp [])
+    ≡ udp (is field.VlanTci 0x1064 ∷ is field.VlanTpid 0x88a8 ∷ is field.VlanTci2 0x1005 ∷ is field.VlanTpid2 0x8100 ∷ [])
+unfolding none key_of
+a_second_push_goes_around_the_first_tag = refl
 
 actions_apply_in_order :
     applied (Set field.TpDst 1 0xff ∷ Set field.TpDst 2 0xff ∷ []) (udp (is field.TpDst 0x3535 ∷ [])) ≡ udp (is field.TpDst 0x3502 ∷ [])
@@ -46,5 +52,8 @@ half_a_tag_is_not_proper :
     (is_proper (udp []) ≡ true)
     × (is_proper (udp (is field.VlanTci 0xb005 ∷ [])) ≡ true)
     × (is_proper (udp (is field.VlanTci 0xa005 ∷ [])) ≡ false)
+    × (is_proper (udp (is field.VlanTci 0xb005 ∷ is field.VlanTci2 0x1005 ∷ [])) ≡ true)
+    × (is_proper (udp (is field.VlanTci2 0x1005 ∷ [])) ≡ false)
+    × (is_proper (udp (is field.VlanTpid 0x8100 ∷ [])) ≡ false)
 unfolding none key_of
-half_a_tag_is_not_proper = (refl, refl, refl)
+half_a_tag_is_not_proper = (refl, refl, refl, refl, refl, refl)

@@ -1,5 +1,5 @@
 -- The bits that a translation consults are within the widths of the fields.
-use Rattle.std.proofs.Common.{◌≡◌, ℕ, zero, suc, ◌+◌, ◌-◌, ◌^◌, ◌<◌, ◌≤◌, max, Bool, true, false, ◌&&◌, ◌||◌, ◌==◌, nat_le, nat_lt, if◌then◌else◌, List, [], ◌∷◌, ◌++◌, map, length, replicate, set, bit_and, Option, Some, None, ◌⊎◌, inl, inr, refl, sym, ap, ◌∙◌, subst, arith, eqb-true, lt_of_lt_of_le, lt_of_le_of_lt, le_trans, length-set, get_or-set_same, get_or-set_other}
+use Rattle.std.proofs.Common.{◌≡◌, ℕ, zero, suc, ◌+◌, ◌-◌, ◌^◌, ◌<◌, ◌≤◌, max, Bool, not, true, false, ◌&&◌, ◌||◌, ◌==◌, nat_le, nat_lt, if◌then◌else◌, List, [], ◌∷◌, ◌++◌, map, length, replicate, set, bit_and, Option, Some, None, ◌⊎◌, inl, inr, refl, sym, ap, ◌∙◌, subst, arith, eqb-true, lt_of_lt_of_le, lt_of_le_of_lt, le_trans, length-set, get_or-set_same, get_or-set_other}
 use Rattle.std.specs.List.{list_all, list_any}
 use Rattle.std.proofs.lemmas.Nat.{or_lt, pow_pos, and_le_l, pow-add}
 use Rattle.std.proofs.Math.Pow.{pow-sub-lt}
@@ -17,7 +17,7 @@ use Rattle.spec_actions.specs.declared.named_field.Prerequisite.TheVariants as n
 use Rattle.spec_actions.specs.declared.action.Slice.{Slice}
 use Rattle.spec_actions.specs.declared.action.OfAction.{OfAction}
 use Rattle.spec_actions.specs.declared.action.OfAction.TheVariants.{Output, OutputField, InPort, All, Flood, Resubmit, Goto, Set, Move, DecTtl, PushVlan, PopVlan, SetVid, SetPcp}
-use Rattle.spec_actions.specs.Named.{named}
+use Rattle.spec_actions.specs.Named.{named, is_printed_alone}
 use Rattle.spec_actions.specs.Sound.{is_sound, is_sound_slice, is_written, fits_name}
 use Rattle.spec_tables.specs.Rules.{Rule, winner}
 use Rattle.spec_xlate.specs.Tags.{tag_fields, is_tag_field}
@@ -234,7 +234,7 @@ and-true false u h = absurd (cc)
 
 slice_bits-lt : (s : Slice) → is_sound_slice s ≡ true → slice_bits s < 2 ^ (named s.name).bits
 slice_bits-lt s h =
-    let parts = and-true (nat_le s.low s.high) (nat_lt s.high (named s.name).bits) h in
+    let parts = and-true (nat_le s.low s.high) (nat_lt s.high (named s.name).bits) (and-true (not (is_printed_alone s.name)) _ h).1 in
     let below : s.high + 1 ≤ (named s.name).bits = lt-le s.high (named s.name).bits parts.1 in
     lt_of_lt_of_le (pow-less (s.high + 1) s.low) (pow-le-pow_right (omega arith) below)
   where
@@ -291,7 +291,7 @@ act-AllFit bits fits (Move source target) s h =
     let more = and-true (is_sound_slice target) _ parts.1 in
     write_bits-AllFit target.name (slice_bits target) (slice_read source) s.current (slice_bits-lt target more.0) (slice_read-AllFit source parts.0)
 act-AllFit bits fits DecTtl s h = under-AllFit needs.Ip s.current (whole field.NwTtl ∷ []) (one-AllFit _ (whole-Fits field.NwTtl))
-act-AllFit bits fits PushVlan s h = wholes-AllFit tag_fields
+act-AllFit bits fits (PushVlan tpid) s h = wholes-AllFit tag_fields
 act-AllFit bits fits PopVlan s h = wholes-AllFit tag_fields
 act-AllFit bits fits (SetVid vid) s h = wholes-AllFit tag_fields
 act-AllFit bits fits (SetPcp pcp) s h = wholes-AllFit tag_fields

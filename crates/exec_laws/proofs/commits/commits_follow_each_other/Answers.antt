@@ -8,8 +8,8 @@ returns-clause-whole c = commit-whole
 pub returns-clause-shown : goal.returns-clause-shown
 returns-clause-shown c = commit-shows
 
-pub returns-clause-one_tag : goal.returns-clause-one_tag
-returns-clause-one_tag c = commit-single
+pub returns-clause-two_tags : goal.returns-clause-two_tags
+returns-clause-two_tags c = commit-single
 
 pub returns-clause-base : goal.returns-clause-base
 returns-clause-base c = commit-registers
