@@ -33,7 +33,7 @@
 //! place there, or says that there is none. A look reads the index and the hash that is kept, and the key only where the
 //! hashes are equal, so that a slot of another key costs little. `look` and `put` hash the key once each.
 //!
-//! `new` makes room for all slots, which is 1.4 MB, and 45 MB for 32 boards. But it writes only the index, 32 kB, and what
+//! `new` makes room for all slots, which is 1.6 MB, and 50 MB for 32 boards. But it writes only the index, 32 kB, and what
 //! is never written the system doesn't have to provide. A run of few connections writes the beginning of the vector, where
 //! an array by the numbers of the slots would be written in all its parts.
 //!

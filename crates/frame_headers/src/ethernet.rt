@@ -1,6 +1,7 @@
-//! The Ethernet header (IEEE 802.3), a VLAN tag (IEEE 802.1Q) and a SNAP header (IEEE 802).
-ghost use Rattle.std.specs.Prelude.{◌≡◌, ◌+◌, ◌≤◌, length};
-ghost use Rattle.spec_frames.specs.Ethernet.{header_size, type_at, type_size, is_tag_type, is_tagged, tci_of, is_snap, carried_by, carried};
+//! The Ethernet header (IEEE 802.3), VLAN tags (IEEE 802.1Q) and a SNAP header (IEEE 802).
+ghost use Rattle.std.specs.Prelude.{◌≡◌, ◌+◌, ◌*◌, ◌≤◌, length};
+ghost use Rattle.spec_keys.specs.Protocols.{is_tag_type};
+ghost use Rattle.spec_frames.specs.Ethernet.{header_size, type_at, type_size, tag_size, inner_at, is_tag_at, tag_count, tpid_at, tci_at, is_snap, carried_by, carried};
 
 use net_bytes::{be16, be48};
 use spec_frames::Carried;
@@ -20,6 +21,12 @@ const TYPE_AT: usize = 12;
 const TYPE_SIZE: usize = 2;
 
 const TAG_SIZE: usize = 4;
+
+/// Where the outer tag stands, if there is one: in the place of the type.
+pub const OUTER_TAG_AT: usize = TYPE_AT;
+
+/// Where the inner one of two tags stands.
+pub const INNER_TAG_AT: usize = OUTER_TAG_AT + TAG_SIZE;
 
 /// The types of the tags: of customers and of providers.
 const CUSTOMER_TAG: u16 = 0x8100;
@@ -47,23 +54,51 @@ fn is_tag_type(number: u16) -> bool
     number == CUSTOMER_TAG || number == SERVICE_TAG
 }
 
-/// Whether a whole tag stands after the addresses.
+/// Whether a whole tag stands at an offset, and a type after it.
 #[inline]
-#[tactic(auto, unfolding(spec_frames::specs::Ethernet::is_tagged))]
-pub fn is_tagged(frame: &[u8]) -> bool
-    ensures { result ≡ is_tagged frame.now }
+#[tactic(auto, unfolding(spec_frames::specs::Ethernet::is_tag_at))]
+fn is_tag_at(frame: &[u8], at: usize) -> bool
+    requires { at ≤ inner_at }
+    ensures { result ≡ is_tag_at frame.now at }
 {
-    frame.len() >= HEADER_SIZE + TAG_SIZE && is_tag_type(be16(frame, TYPE_AT))
+    frame.len() >= at + TAG_SIZE + TYPE_SIZE && is_tag_type(be16(frame, at))
 }
 
-/// The content of the tag, with the bit that says that there is one.
+/// How many tags stand after the addresses of a frame that has a whole header: 0, 1 or 2. No third one is read.
 #[inline]
-#[tactic(auto, unfolding(spec_frames::specs::Ethernet::tci_of))]
-pub fn tci_of(frame: &[u8]) -> u16
-    requires { type_at + type_size + type_size ≤ length frame.now }
-    ensures { result ≡ tci_of frame.now }
+#[tactic(auto, unfolding(spec_frames::specs::Ethernet::tag_count, spec_frames::specs::Ethernet::is_tag_at))]
+pub fn tag_count(frame: &[u8]) -> u8
+    requires { header_size ≤ length frame.now }
+    ensures value { result ≡ tag_count frame.now }
+    ensures few { result ≤ 2 }
+    ensures within { type_at + result * tag_size + type_size ≤ length frame.now }
 {
-    be16(frame, TYPE_AT + TYPE_SIZE) | TAG_BIT
+    if !is_tag_at(frame, OUTER_TAG_AT) {
+        0
+    } else if !is_tag_at(frame, INNER_TAG_AT) {
+        1
+    } else {
+        2
+    }
+}
+
+/// The type of a tag that stands at an offset.
+#[inline]
+pub fn tpid_at(frame: &[u8], at: usize) -> u16
+    requires { at + tag_size ≤ length frame.now }
+    ensures { result ≡ tpid_at frame.now at }
+{
+    be16(frame, at)
+}
+
+/// The content of a tag that stands at an offset, with the bit that says that there is one.
+#[inline]
+#[tactic(auto, unfolding(spec_frames::specs::Ethernet::tci_at))]
+pub fn tci_at(frame: &[u8], at: usize) -> u16
+    requires { at + tag_size ≤ length frame.now }
+    ensures { result ≡ tci_at frame.now at }
+{
+    be16(frame, at + TYPE_SIZE) | TAG_BIT
 }
 
 /// Whether a SNAP header and a type stand at an offset.
@@ -105,18 +140,15 @@ fn carried_by(frame: &[u8], at: usize) -> Carried
     }
 }
 
-/// What a frame carries that has a whole header.
+/// What a frame carries that has a whole header and so many tags.
 #[inline]
-#[tactic(auto, unfolding(spec_frames::specs::Ethernet::carried, spec_frames::specs::Ethernet::is_tagged))]
-pub fn carried(frame: &[u8], tagged: bool) -> Carried
-    requires whole { header_size ≤ length frame.now }
-    requires tag { tagged ≡ is_tagged frame.now }
+#[tactic(auto, unfolding(spec_frames::specs::Ethernet::carried))]
+pub fn carried(frame: &[u8], tags: u8) -> Carried
+    requires few { tags ≤ 2 }
+    requires tags { tags ≡ tag_count frame.now }
+    requires room { type_at + tags * tag_size + type_size ≤ length frame.now }
     ensures value { result ≡ carried frame.now }
     ensures within { result.at ≤ length frame.now }
 {
-    if tagged {
-        carried_by(frame, TYPE_AT + TAG_SIZE)
-    } else {
-        carried_by(frame, TYPE_AT)
-    }
+    carried_by(frame, TYPE_AT + usize::from(tags) * TAG_SIZE)
 }

@@ -2,7 +2,7 @@
 //!
 //! # What?
 //!
-//! A frame has an Ethernet header, perhaps with a tag, then a network header of ARP, IPv4 or IPv6, and after one of IP
+//! A frame has an Ethernet header, perhaps with one or two tags, then a network header of ARP, IPv4 or IPv6, and after one of IP
 //! a transport header. `network_at` reads the network header and `transport` finds the one after it: what the key of
 //! the frame and its layout are made of.
 //!
@@ -29,7 +29,7 @@
 //! # What is left to others
 //!
 //! The key (`frame_keys`) and the layout (`frame_layout`), which frame is asked about, and changes to a frame. No
-//! checksum is tested: a frame with a wrong one has headers as any other. A second tag, MPLS and tunnels aren't read.
+//! checksum is tested: a frame with a wrong one has headers as any other. A third tag, MPLS and tunnels aren't read.
 #![tactic(auto)]
 
 mod arp;
@@ -39,6 +39,6 @@ mod ipv6;
 mod network;
 mod transport_header;
 
-pub use ethernet::{HEADER_SIZE, carried, is_tagged, tci_of};
+pub use ethernet::{HEADER_SIZE, INNER_TAG_AT, OUTER_TAG_AT, carried, tag_count, tci_at, tpid_at};
 pub use network::network_at;
 pub use transport_header::transport;

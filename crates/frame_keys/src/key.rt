@@ -13,7 +13,7 @@ use crate::ethernet::set_ethernet;
 use crate::field::{key_at, set_field};
 use crate::ipv4::set_ipv4;
 use crate::ipv6::set_ipv6;
-use frame_headers::{HEADER_SIZE, carried, is_tagged, network_at, transport};
+use frame_headers::{HEADER_SIZE, carried, network_at, tag_count, transport};
 use net_bytes::be16;
 use ovs_fields::{FieldId, Key};
 use spec_frames::{Datagram, Fragment, L4, Network};
@@ -140,9 +140,9 @@ fn set_headers(key: &mut Key, frame: &[u8])
     requires { header_size ≤ length frame.now }
     ensures { folded key.new ≡ with_network frame.now (network frame.now) (with_ethernet frame.now (folded key.old)) }
 {
-    let tagged = is_tagged(frame);
-    let payload = carried(frame, tagged);
-    set_ethernet(key, frame, tagged, payload.dl_type);
+    let tags = tag_count(frame);
+    let payload = carried(frame, tags);
+    set_ethernet(key, frame, tags, payload.dl_type);
     set_network(key, frame, &network_at(frame, payload));
 }
 

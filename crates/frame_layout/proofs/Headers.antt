@@ -44,9 +44,9 @@ later a b layout le before = record {
   transport = before-later a b layout.l4 le before.transport;
 }
 
-pub layout_with-within : (frame : List ℕ) (tagged : Bool) (n : Network) → IsWithin frame n → IsBefore (end_of n) (transport n)
-    → AreBefore (length frame) (layout_with tagged n)
-layout_with-within frame tagged n within before = record {
+pub layout_with-within : (frame : List ℕ) (tags : ℕ) (n : Network) → IsWithin frame n → IsBefore (end_of n) (transport n)
+    → AreBefore (length frame) (layout_with tags n)
+layout_with-within frame tags n within before = record {
   network = place-within frame n within;
   transport = before-later (end_of n) (length frame) (transport n) (end-within frame n within) before;
 }

@@ -4,7 +4,7 @@ ghost use Rattle.spec_frames.specs.Layout.{place_of_network, is_routed, layout_w
 ghost use Rattle.frame_headers.specs.Within.{end_of, IsBefore};
 ghost use Rattle.frame_layout.specs.Laid.{AreBefore};
 
-use frame_headers::{HEADER_SIZE, carried, is_tagged, network_at, transport};
+use frame_headers::{HEADER_SIZE, carried, network_at, tag_count, transport};
 use spec_frames::{L3, Layout, Network};
 
 #[inline]
@@ -30,12 +30,12 @@ fn is_routed(network: &Network) -> bool
 }
 
 #[inline]
-fn layout_with(tagged: bool, network: &Network) -> Layout
-    ensures value { result ≡ layout_with tagged network.now }
+fn layout_with(tags: u8, network: &Network) -> Layout
+    ensures value { result ≡ layout_with tags network.now }
     ensures before { IsBefore (end_of network.now) result.l4 }
 {
     Layout {
-        tagged,
+        tags,
         l3: place_of_network(network),
         l4: transport(network),
         routed: is_routed(network),
@@ -50,8 +50,8 @@ pub fn layout_of(frame: &[u8]) -> Layout
     ensures within { AreBefore (length frame.now) result }
 {
     if frame.len() < HEADER_SIZE {
-        return layout_with(false, &Network::Nothing);
+        return layout_with(0, &Network::Nothing);
     }
-    let tagged = is_tagged(frame);
-    layout_with(tagged, &network_at(frame, carried(frame, tagged)))
+    let tags = tag_count(frame);
+    layout_with(tags, &network_at(frame, carried(frame, tags)))
 }

@@ -5,7 +5,7 @@ use Rattle.spec_keys.specs.declared.field_id.FieldId.{FieldId}
 use Rattle.spec_keys.specs.Fields.{place_of}
 use Rattle.spec_keys.specs.Keys.{none}
 use Rattle.spec_frames.specs.declared.layout.Layout.{Layout}
-use Rattle.spec_frames.specs.Ethernet.{is_tagged, tci_of, carried, carried_by}
+use Rattle.spec_frames.specs.Ethernet.{is_tag_at, tag_count, tci_at, carried, carried_by}
 use Rattle.spec_frames.specs.Arp.{is_arp}
 use Rattle.spec_frames.specs.Ipv4.{is_ipv4, ipv4}
 use Rattle.spec_frames.specs.Ipv6.{ipv6, upper_layer}
@@ -38,7 +38,7 @@ gives stated layout = record { key = key_with stated; layout = layout }
 
 -- what the definitions say of a frame that came in at a port
 unfoldable pub shown : ℕ → List ℕ → Shown
-unfolding none big_endian_at is_tagged tci_of carried carried_by is_arp is_ipv4 ipv4 ipv6 upper_layer network_at transport layout_of with_transport with_network key_of key_with
+unfolding none big_endian_at is_tag_at tag_count tci_at carried carried_by is_arp is_ipv4 ipv4 ipv6 upper_layer network_at transport layout_of with_transport with_network key_of key_with
 shown port frame = record { key = key_of port frame; layout = layout_of frame }
 
 -- ---- bytes that many frames have

@@ -17,6 +17,7 @@ macro_rules! with_compact {
             [IpFrag ip_frag u8]
             [TpSrc tp_src u16]
             [TpDst tp_dst u16]
+            [VlanTpid vlan_tpid u16]
         )
     };
 }
@@ -27,7 +28,7 @@ macro_rules! with_wide {
         $made!(
             $arguments
             Metadata Reg0 Reg1 Reg2 Reg3 Reg4 Reg5 Reg6 Reg7 Reg8 Reg9 Reg10 Reg11 Reg12 Reg13 Reg14 Reg15
-            Ipv6Src Ipv6Dst ArpSha ArpTha
+            Ipv6Src Ipv6Dst ArpSha ArpTha VlanTci2 VlanTpid2
         )
     };
 }

@@ -1,17 +1,18 @@
 ghost use Rattle.std.specs.Prelude.{◌≡◌, false, IfSome, IsNone};
 ghost use Rattle.std.specs.List.{fold};
 ghost use Rattle.spec_keys.specs.Keys.{are_zero, common_bits, masked, same};
-ghost use Rattle.ovs_fields.specs.Feeding.{list_writes, joined_words};
+ghost use Rattle.ovs_fields.specs.Feeding.{list_writes};
 ghost use Rattle.ovs_fields.specs.Packed.{numbers, bits};
 ghost use Rattle.masked_map.specs.Compact.{list_of, wide_fields, compacted};
 
 use crate::field_list::{with_compact, with_wide};
-use ovs_fields::{FieldId, Key, Mask};
+use ovs_fields::{FieldId, Key, Mask, join_8, join_16, join_32, join_64};
 use std::hash::{Hash, Hasher};
 
-/// The fields but those that are 0 in most keys and masks: metadata and the registers, and the addresses of IPv6 and ARP.
+/// The fields but those that are 0 in most keys and masks: metadata and the registers, the addresses of IPv6 and ARP, and the
+/// inner tag.
 ///
-/// The widest come first, so that no padding stands between them: 38 bytes, and two more at the end.
+/// The widest come first, so that no padding stands between them.
 #[derive(Clone, Copy, Debug)]
 pub(crate) struct CompactFields {
     pub(crate) dl_src: u64,
@@ -23,6 +24,7 @@ pub(crate) struct CompactFields {
     pub(crate) tp_src: u16,
     pub(crate) tp_dst: u16,
     pub(crate) vlan_tci: u16,
+    pub(crate) vlan_tpid: u16,
     pub(crate) nw_proto: u8,
     pub(crate) nw_tos: u8,
     pub(crate) nw_ttl: u8,
@@ -152,7 +154,7 @@ impl Hash for CompactFields {
             join_16(self.in_port, self.dl_type),
             join_16(self.tp_src, self.tp_dst),
         );
-        let tag = u32::from(self.vlan_tci);
+        let tag = join_16(self.vlan_tpid, self.vlan_tci);
         let header = join_16(
             join_8(self.nw_proto, self.nw_tos),
             join_8(self.nw_ttl, self.ip_frag),
@@ -185,36 +187,4 @@ fn taken_of_mask(mask: &Mask) -> CompactFields
     ensures { list_of result ≡ compacted (bits mask.now) }
 {
     with_compact!(taken(mask))
-}
-
-/// Both numbers in one, the first in its higher half.
-#[inline]
-fn join_8(high: u8, low: u8) -> u16
-    ensures { result ≡ joined_words 8 high low }
-{
-    u16::from(high) * (1 << 8) + u16::from(low)
-}
-
-/// Both numbers in one, the first in its higher half.
-#[inline]
-fn join_16(high: u16, low: u16) -> u32
-    ensures { result ≡ joined_words 16 high low }
-{
-    u32::from(high) * (1 << 16) + u32::from(low)
-}
-
-/// Both numbers in one, the first in its higher half.
-#[inline]
-fn join_32(high: u32, low: u32) -> u64
-    ensures { result ≡ joined_words 32 high low }
-{
-    u64::from(high) * (1 << 32) + u64::from(low)
-}
-
-/// Both numbers in one, the first in its higher half.
-#[inline]
-fn join_64(high: u64, low: u64) -> u128
-    ensures { result ≡ joined_words 64 high low }
-{
-    u128::from(high) * (1 << 64) + u128::from(low)
 }

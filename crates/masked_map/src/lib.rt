@@ -3,7 +3,7 @@
 //! # What?
 //!
 //! A lookup by masks takes the key of a packet under each of them, and looks it up in that mask's hash map. A whole key has
-//! 160 bytes (`ovs_fields`), and to make, to hash and to compare such keys, and to fetch them from memory, is most of what
+//! 176 bytes (`ovs_fields`), and to make, to hash and to compare such keys, and to fetch them from memory, is most of what
 //! the lookup costs. Few masks need them: most have no bits of metadata and the registers, of the addresses of IPv6, nor of
 //! the hardware addresses of ARP, the *wide* fields here, and a key under such a mask is 0 there. Open vSwitch has its flows
 //! and masks without what is 0 for the same reason (`miniflow` and `minimask` in lib/flow.h). Here the other fields stand in
@@ -35,7 +35,7 @@
 //! # What it costs
 //!
 //! A look-up makes, hashes and compares one key, compact or whole; where a map has one key it hashes nothing. An entry takes
-//! 40 bytes for a compact key and 160 for a whole one, beside the value, and the place of it in a table of hashes. The order
+//! 40 bytes for a compact key and 176 for a whole one, beside the value, and the place of it in a table of hashes. The order
 //! of the entries is that of their coming until one goes, whose place the last one takes. `add_agreeing` goes over all of
 //! them.
 //!

@@ -2,7 +2,7 @@
 use Rattle.std.specs.Prelude.{ℕ, ◌*◌, ◌/◌, ◌%◌, ◌^◌, ◌==◌, ◌&&◌, Bool, List, bit_and, bit_or, bit_xor}
 use Rattle.std.specs.List.{fold}
 use Rattle.spec_keys.specs.declared.field_id.FieldId.{FieldId}
-use Rattle.spec_keys.specs.declared.field_id.FieldId.TheVariants.{InPort, Metadata, Reg0, Reg1, Reg2, Reg3, Reg4, Reg5, Reg6, Reg7, Reg8, Reg9, Reg10, Reg11, Reg12, Reg13, Reg14, Reg15, DlSrc, DlDst, DlType, VlanTci, NwSrc, NwDst, Ipv6Src, Ipv6Dst, NwProto, NwTos, NwTtl, IpFrag, ArpSha, ArpTha, TpSrc, TpDst}
+use Rattle.spec_keys.specs.declared.field_id.FieldId.TheVariants.{InPort, Metadata, Reg0, Reg1, Reg2, Reg3, Reg4, Reg5, Reg6, Reg7, Reg8, Reg9, Reg10, Reg11, Reg12, Reg13, Reg14, Reg15, DlSrc, DlDst, DlType, VlanTci, NwSrc, NwDst, Ipv6Src, Ipv6Dst, NwProto, NwTos, NwTtl, IpFrag, ArpSha, ArpTha, TpSrc, TpDst, VlanTpid, VlanTci2, VlanTpid2}
 use Rattle.spec_keys.specs.Fields.{fields}
 use Rattle.spec_keys.specs.Keys.{value_of}
 use Rattle.match_signatures.specs.declared.signature.Signature.{Signature}
@@ -43,6 +43,9 @@ shift_of ArpSha = 0
 shift_of ArpTha = 16
 shift_of TpSrc = 16
 shift_of TpDst = 8
+shift_of VlanTpid = 48
+shift_of VlanTci2 = 0
+shift_of VlanTpid2 = 16
 
 -- the bits of a number of a field in a word of 128 bits
 abbrev pub shifted : FieldId → ℕ → ℕ

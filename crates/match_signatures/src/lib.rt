@@ -3,7 +3,7 @@
 //! # What?
 //!
 //! An edit without `strict` acts on each rule whose match is its own or one more specific. To find them, all rules have to be
-//! tested, and a match has 320 bytes. A *signature* has 16, and tells of most rules that they aren't covered: only those
+//! tested, and a match has 352 bytes. A *signature* has 16, and tells of most rules that they aren't covered: only those
 //! that it lets through are tested. That is *superimposed coding*, which is usual for partial matches.
 //!
 //! # What is promised

@@ -58,6 +58,9 @@ macro_rules! with_shifts {
             [ArpTha 16]
             [TpSrc 16]
             [TpDst 8]
+            [VlanTpid 48]
+            [VlanTci2 0]
+            [VlanTpid2 16]
         )
     };
 }

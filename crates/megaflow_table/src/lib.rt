@@ -36,7 +36,7 @@
 //! lookup masks the key by one mask after the other and probes its subtable: one hash and one probe for each mask,
 //! however many entries have it. A subtable goes with its last entry, so that no lookup probes an empty one. What it has
 //! by keys is a map of `masked_map`: under most masks that makes, hashes and compares 40 bytes of a key in place of its
-//! 160, and nothing is hashed where the subtable has one entry.
+//! 176, and nothing is hashed where the subtable has one entry.
 //!
 //! The subtables stand by falling number of hits. A hit mostly only counts: a subtable has to move where the one before it
 //! has as many hits as it had. It then changes places with the first of those, which a binary search finds. A new mask

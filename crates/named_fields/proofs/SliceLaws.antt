@@ -1,11 +1,11 @@
 -- Slices of named fields, as shifts and masks compute them.
-use Rattle.std.proofs.Common.{◌≡◌, ℕ, ◌+◌, ◌-◌, ◌*◌, ◌/◌, ◌%◌, ◌≤◌, ◌<◌, ◌^◌, List, nat_lt, nat_le, bit_and, IsTrue, ap, ◌∙◌, subst, lt-ltb, ltb-true, leb-true, pow_pos, pow_mono, arith}
+use Rattle.std.proofs.Common.{◌≡◌, ℕ, ◌+◌, ◌-◌, ◌*◌, ◌/◌, ◌%◌, ◌≤◌, ◌<◌, ◌^◌, List, nat_lt, nat_le, bit_and, IsTrue, ap, ◌∙◌, subst, lt-ltb, ltb-true, leb-true, pow_pos, pow_mono, arith, not}
 use Rattle.std.proofs.lemmas.Bool.{and_parts}
 use Rattle.std.proofs.lemmas.Nat.{shl_whole, shl_below, shr_below, pow-add, and_le_r}
 use Rattle.spec_base.specs.Bits.{all_bits}
 use Rattle.spec_actions.specs.declared.named_field.NamedField.{NamedField}
 use Rattle.spec_actions.specs.declared.action.Slice.{Slice}
-use Rattle.spec_actions.specs.Named.{named}
+use Rattle.spec_actions.specs.Named.{named, is_printed_alone}
 use Rattle.spec_actions.specs.Sound.{is_sound_slice, fits_name}
 use Rattle.spec_keys.specs.Keys.{value_of}
 use Rattle.spec_xlate.specs.Translation.{in_field, slice_bits, slice_of}
@@ -18,7 +18,7 @@ pub record IsWithin (s : Slice) : Type 0 where
 
 pub within_from_sound : (s : Slice) → IsTrue (is_sound_slice s) → IsWithin s
 within_from_sound s sound =
-    let parts = and_parts (nat_le s.low s.high) (nat_lt s.high (named s.name).bits) sound in
+    let parts = and_parts (nat_le s.low s.high) (nat_lt s.high (named s.name).bits) (and_parts (not (is_printed_alone s.name)) _ sound).1 in
     record { ordered = leb-true s.low s.high parts.0; within = ltb-true s.high (named s.name).bits parts.1 }
 
 -- the bits up to one, without those below another

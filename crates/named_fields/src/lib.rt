@@ -12,9 +12,10 @@
 //! - `read_slice` is the number that bits of a named field are, and `slice_bits` says which bits these are; `low_bits` are
 //!   the n least bits of a number.
 //! - `write_bits` replaces bits of a named field, as far as a write may change them, and `write_field` those of a field of
-//!   the key; all else stays. A `vlan_tci` that a write leaves without its tag bit becomes 0.
+//!   the key; all else stays. A `vlan_tci` that a write leaves without its tag bit takes the outer tag away.
 //! - `holds` tells whether a packet is what a write needs.
-//! - `is_tagged` and `set_tag` are the tag of a key.
+//! - A key holds at most two VLAN tags: `outer_tag` and `inner_tag` are these, `is_tagged` and `is_full` tell whether there is
+//!   one, and whether there are two, `push_tag` and `pop_tag` add and take away an outer one, and `set_tag` gives it a content.
 //! - No call takes memory, and none can fail. Each is exactly what its definition in `spec_xlate` says, for every key.
 //!
 //! # How
@@ -36,4 +37,6 @@ pub use names::{NamedBits, named};
 pub use prerequisites::holds;
 pub use slices::{low_bits, read_slice, slice_bits, write_bits, write_field};
 pub use spec_actions::{NamedField, Prerequisite, Slice};
-pub use tags::{TAG_BIT, is_tagged, set_tag};
+pub use tags::{
+    TAG_BIT, VlanTag, inner_tag, is_full, is_tagged, outer_tag, pop_tag, push_tag, set_tag,
+};

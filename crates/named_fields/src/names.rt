@@ -90,5 +90,8 @@ pub fn named(name: NamedField) -> NamedBits
         [IcmpCode TpDst 0 16 0 false Icmp]
         [Icmpv6Type TpSrc 0 16 0 false Icmp6]
         [Icmpv6Code TpDst 0 16 0 false Icmp6]
+        [VlanTpid VlanTpid 0 16 0 true Nothing]
+        [VlanTci2 VlanTci2 0 16 0 true Nothing]
+        [VlanTpid2 VlanTpid2 0 16 0 true Nothing]
     )
 }

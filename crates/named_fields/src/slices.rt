@@ -40,7 +40,8 @@ pub fn read_slice(key: &Key, slice: &Slice) -> u128
 
 /// Replaces the bits of a mask in a field by those of a value. The other fields stay.
 ///
-/// `vlan_tci` is a tag: where the write leaves it without bit 0x1000, all of it is 0 afterwards. A mask of 0 is no write.
+/// `vlan_tci` is that of the outer tag: where the write leaves it without bit 0x1000, that tag is taken away, and where there
+/// was none, it is a customer's. A mask of 0 is no write.
 pub fn write_field(key: &mut Key, field: FieldId, value: u128, mask: u128)
     requires { mask < 2 ^ width_of field }
     ensures { numbers key.new ≡ written field value mask (numbers key.old) }

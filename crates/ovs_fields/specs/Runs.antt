@@ -1,7 +1,7 @@
 -- The fields of a key in the runs that are hashed together, between the ingress port and the registers at the front.
 use Rattle.std.specs.Prelude.{List, [], ◌∷◌}
 use Rattle.spec_keys.specs.declared.field_id.FieldId.{FieldId}
-use Rattle.spec_keys.specs.declared.field_id.FieldId.TheVariants.{DlSrc, DlDst, DlType, VlanTci, NwSrc, NwDst, Ipv6Src, Ipv6Dst, NwProto, NwTos, NwTtl, IpFrag, ArpSha, ArpTha, TpSrc, TpDst}
+use Rattle.spec_keys.specs.declared.field_id.FieldId.TheVariants.{DlSrc, DlDst, DlType, VlanTci, NwSrc, NwDst, Ipv6Src, Ipv6Dst, NwProto, NwTos, NwTtl, IpFrag, ArpSha, ArpTha, TpSrc, TpDst, VlanTpid, VlanTci2, VlanTpid2}
 
 abbrev pub ethernet : List FieldId
 ethernet = DlSrc ∷ DlDst ∷ DlType ∷ VlanTci ∷ []
@@ -24,3 +24,10 @@ arp_addresses = ArpSha ∷ ArpTha ∷ []
 -- the ports, and the type and code of ICMP
 abbrev pub ports : List FieldId
 ports = TpSrc ∷ TpDst ∷ []
+
+abbrev pub inner_tag : List FieldId
+inner_tag = VlanTci2 ∷ VlanTpid2 ∷ []
+
+-- what tags have beside the content of the outer one
+abbrev pub tags : List FieldId
+tags = VlanTpid ∷ inner_tag

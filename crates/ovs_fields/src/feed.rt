@@ -1,14 +1,15 @@
 //! What keys and masks feed to hash functions: their numbers, in as few words as hold them.
 
-ghost use Rattle.std.specs.Prelude.{◌≡◌, ◌+◌, ◌*◌, ◌^◌};
+ghost use Rattle.std.specs.Prelude.{◌≡◌};
 ghost use Rattle.std.specs.List.{fold};
 ghost use Rattle.spec_keys.specs.Fields.{register_fields};
 ghost use Rattle.spec_keys.specs.Keys.{are_zero};
-ghost use Rattle.ovs_fields.specs.Feeding.{header_writes, ipv6_writes, halves_writes, arp_writes, register_writes, list_writes, joined_words};
+ghost use Rattle.ovs_fields.specs.Feeding.{header_writes, inner_tag_writes, ipv6_writes, halves_writes, arp_writes, register_writes, list_writes};
 ghost use Rattle.ovs_fields.specs.Lists.{list_of};
 
 use crate::fields::Fields;
 use crate::hash::registers_are_zero;
+use crate::joined::{join_8, join_16, join_32, join_64};
 use std::hash::Hasher;
 
 /// Feeds all numbers. A part of the fields that is 0 in most keys feeds nothing where it is 0.
@@ -16,6 +17,7 @@ pub(crate) fn feed<H: Hasher>(fields: &Fields, state: &mut H)
     ensures { state.new ≡ fold H.write state.old (list_writes (list_of fields.now)) }
 {
     feed_headers(fields, state);
+    feed_inner_tag(fields, state);
     feed_ipv6_addresses(fields, state);
     feed_arp_addresses(fields, state);
     feed_registers(fields, state);
@@ -34,7 +36,7 @@ fn feed_headers<H: Hasher>(fields: &Fields, state: &mut H)
         join_16(fields.in_port, fields.dl_type),
         join_16(fields.tp_src, fields.tp_dst),
     );
-    let tag = u32::from(fields.vlan_tci);
+    let tag = join_16(fields.vlan_tpid, fields.vlan_tci);
     let header = join_16(
         join_8(fields.nw_proto, fields.nw_tos),
         join_8(fields.nw_ttl, fields.ip_frag),
@@ -42,6 +44,17 @@ fn feed_headers<H: Hasher>(fields: &Fields, state: &mut H)
     state.write_u128(join_64(fields.dl_src, fields.dl_dst));
     state.write_u128(join_64(join_32(tag, header), addresses));
     state.write_u64(ports);
+}
+
+/// Feeds the inner tag, if there is one.
+#[inline]
+fn feed_inner_tag<H: Hasher>(fields: &Fields, state: &mut H)
+    ensures { state.new ≡ fold H.write state.old (inner_tag_writes (list_of fields.now)) }
+{
+    if fields.vlan_tci2 == 0 && fields.vlan_tpid2 == 0 {
+        return;
+    }
+    state.write_u32(join_16(fields.vlan_tpid2, fields.vlan_tci2));
 }
 
 /// Feeds the addresses of IPv6, if there are any.
@@ -93,36 +106,4 @@ fn feed_registers<H: Hasher>(fields: &Fields, state: &mut H)
     state.write_u64(join_32(fields.reg10, fields.reg11));
     state.write_u64(join_32(fields.reg12, fields.reg13));
     state.write_u64(join_32(fields.reg14, fields.reg15));
-}
-
-/// Both numbers in one, the first in its higher half.
-#[inline]
-fn join_8(high: u8, low: u8) -> u16
-    ensures { result ≡ joined_words 8 high low }
-{
-    u16::from(high) * (1 << 8) + u16::from(low)
-}
-
-/// Both numbers in one, the first in its higher half.
-#[inline]
-fn join_16(high: u16, low: u16) -> u32
-    ensures { result ≡ joined_words 16 high low }
-{
-    u32::from(high) * (1 << 16) + u32::from(low)
-}
-
-/// Both numbers in one, the first in its higher half.
-#[inline]
-fn join_32(high: u32, low: u32) -> u64
-    ensures { result ≡ joined_words 32 high low }
-{
-    u64::from(high) * (1 << 32) + u64::from(low)
-}
-
-/// Both numbers in one, the first in its higher half.
-#[inline]
-fn join_64(high: u64, low: u64) -> u128
-    ensures { result ≡ joined_words 64 high low }
-{
-    u128::from(high) * (1 << 64) + u128::from(low)
 }

@@ -44,6 +44,9 @@ macro_rules! with_fields {
             [ArpTha arp_tha u64 48 2]
             [TpSrc tp_src u16 16 3]
             [TpDst tp_dst u16 16 3]
+            [VlanTpid vlan_tpid u16 16 1]
+            [VlanTci2 vlan_tci2 u16 16 1]
+            [VlanTpid2 vlan_tpid2 u16 16 1]
         )
     };
 }

@@ -5,7 +5,7 @@ use crate::field_list::with_fields;
 
 /// A number for each field, in the least type that holds the field's width.
 ///
-/// The widest come first, so that no padding stands between them: 158 bytes, and two more at the end.
+/// The widest come first, so that no padding stands between them: 164 bytes, and twelve more at the end.
 #[derive(Clone, Copy, Debug)]
 pub(crate) struct Fields {
     pub(crate) ipv6_src: u128,
@@ -38,6 +38,9 @@ pub(crate) struct Fields {
     pub(crate) vlan_tci: u16,
     pub(crate) tp_src: u16,
     pub(crate) tp_dst: u16,
+    pub(crate) vlan_tpid: u16,
+    pub(crate) vlan_tci2: u16,
+    pub(crate) vlan_tpid2: u16,
     pub(crate) nw_proto: u8,
     pub(crate) nw_tos: u8,
     pub(crate) nw_ttl: u8,

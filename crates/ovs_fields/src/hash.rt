@@ -7,7 +7,7 @@ ghost use Rattle.spec_keys.specs.Keys.{are_zero};
 ghost use Rattle.spec_keys.specs.Hash.{hash_bytes, field_bytes, key_hash};
 ghost use Rattle.ovs_fields.specs.Lists.{list_of};
 ghost use Rattle.ovs_fields.specs.Packed.{numbers};
-ghost use Rattle.ovs_fields.specs.Runs.{ethernet, ipv4_addresses, ipv6_addresses, ip_header, arp_addresses, ports};
+ghost use Rattle.ovs_fields.specs.Runs.{ethernet, ipv4_addresses, ipv6_addresses, ip_header, arp_addresses, ports, tags};
 
 use crate::Key;
 use crate::field_list::with_registers;
@@ -19,6 +19,8 @@ const OFFSET_BASIS: u64 = 0xcbf2_9ce4_8422_2325;
 const PRIME: u64 = 0x100_0000_01b3;
 
 /// Powers of the prime, modulo 2^64: what runs of so many bytes of 0 multiply by.
+const PRIME_TO_6: u64 = 0xdc96_6432_edf1_c639;
+
 const PRIME_TO_12: u64 = 0xf543_83a0_5ace_38b1;
 
 const PRIME_TO_32: u64 = 0x0558_b2e6_a2f6_4081;
@@ -38,7 +40,8 @@ pub fn key_hash(key: &Key) -> u64
     let hash = hash_ipv6_addresses(hash, fields);
     let hash = hash_ip_header(hash, fields);
     let hash = hash_arp_addresses(hash, fields);
-    hash_ports(hash, fields)
+    let hash = hash_ports(hash, fields);
+    hash_tags(hash, fields)
 }
 
 /// The hash after more bytes.
@@ -147,4 +150,16 @@ fn hash_ports(hash: u64, fields: &Fields) -> u64
 {
     let hash = hash_bytes(hash, &fields.tp_src.to_be_bytes());
     hash_bytes(hash, &fields.tp_dst.to_be_bytes())
+}
+
+/// The hash after the types of tags, and the content of an inner one.
+fn hash_tags(hash: u64, fields: &Fields) -> u64
+    ensures { result ≡ hash_bytes hash (field_bytes tags (list_of fields.now)) }
+{
+    if fields.vlan_tpid == 0 && fields.vlan_tci2 == 0 && fields.vlan_tpid2 == 0 {
+        return hash.wrapping_mul(PRIME_TO_6);
+    }
+    let hash = hash_bytes(hash, &fields.vlan_tpid.to_be_bytes());
+    let hash = hash_bytes(hash, &fields.vlan_tci2.to_be_bytes());
+    hash_bytes(hash, &fields.vlan_tpid2.to_be_bytes())
 }

@@ -84,5 +84,5 @@ impl Hash for Key {
     }
 }
 
-// Two and a half lines of a processor's cache.
-const _: () = prove!(size_of::<Key>() == 160);
+// Two and three quarters lines of a processor's cache.
+const _: () = prove!(size_of::<Key>() == 176);

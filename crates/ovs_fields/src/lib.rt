@@ -23,7 +23,7 @@
 //!
 //! # How
 //!
-//! A key has 160 bytes, since every lookup reads keys: each field stands in the least integer type that holds it, and
+//! A key has 176 bytes, since every lookup reads keys: each field stands in the least integer type that holds it, and
 //! the widest come first, so that nothing is lost between them. `agree` and `covers` test all the fields and then
 //! decide, without a branch for each. That is fewer than a hundred instructions over vectors, and costs the same
 //! whichever field differs.
@@ -31,15 +31,17 @@
 //! What is done with each field alike is a macro over the one list of them (src/field_list.rt), so that it is written
 //! once and runs without a loop.
 //!
-//! FNV-1a multiplies once for each byte, and each multiplication waits for the one before. A key has 150 bytes, and
-//! most of them are 0: metadata and the registers in the key of every frame, and the addresses of the protocols that
-//! the frame doesn't carry. A byte of 0 changes nothing before its multiplication, so a run of n such bytes
-//! multiplies by the prime to the power of n. Three runs are tested and hashed by one multiplication: metadata with
-//! the registers, the IPv6 addresses and the hardware addresses of ARP. An IPv4 frame is left with 37 of the 150.
+//! FNV-1a multiplies once for each byte, and each multiplication waits for the one before. The fields have 156 bytes, and
+//! most of them are 0: metadata and the registers in the key of every frame, and what the frame doesn't carry of addresses
+//! and tags. A byte of 0 changes nothing before its multiplication, so a run of n such bytes multiplies by the prime to
+//! the power of n. Four runs are tested and hashed by one multiplication: metadata with the registers, the IPv6 addresses,
+//! the hardware addresses of ARP, and the types of tags with the inner tag. An untagged IPv4 frame is left with 38
+//! multiplications.
 //!
 //! That hash is for those who need its value, as the exact-match cache, whose slots it tells. Hash maps of keys and masks
-//! need none in particular, so these feed a hash function their numbers themselves: in three words where those three runs
-//! are 0, which is many times faster.
+//! need none in particular, so these feed a hash function their numbers themselves: in three words where the first three
+//! runs are 0 and there is no inner tag, which is many times faster. Small numbers are joined to words by `join_8` to
+//! `join_64`, which are there for whoever has to feed the same.
 //!
 //! # What is left to others
 //!
@@ -51,6 +53,7 @@ mod feed;
 mod field_list;
 mod fields;
 mod hash;
+mod joined;
 mod key;
 mod mask;
 mod table;
@@ -58,6 +61,7 @@ mod table;
 pub use bitwise::{agree, and, covers, ethernet_part, masked, metadata_part, network_part, or};
 pub use field_list::{FIELD_COUNT, all_fields};
 pub use hash::key_hash;
+pub use joined::{join_8, join_16, join_32, join_64};
 pub use key::Key;
 pub use mask::Mask;
 pub use spec_keys::FieldId;

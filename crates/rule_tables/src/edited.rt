@@ -9,7 +9,6 @@ ghost use Rattle.rule_tables.specs.Added.{IsAdded};
 ghost use Rattle.rule_tables.specs.Edited.{is_add, adds_in, modifies_in};
 ghost use Rattle.rule_tables.specs.History.{applied, rules_after, added_as, edited_by, edited_by_all};
 
-use crate::actions::Actions;
 use crate::edit::Edit;
 use crate::givings::{GivingLog, actions_in, cookie_in};
 use crate::identity::RuleIdentity;
@@ -113,6 +112,7 @@ impl EditedRules {
         ensures edited { self.new.history ≡ edited_by_all edits.items self.old.history }
         ensures applied { applied self.new.history ≡ applied self.old.history + length edits.items }
     {
+        // That there is one more state than edits, which the proof of the loop needs.
         let _ = self.applied();
         'edits: for edit in edits {
             self.apply(edit);

@@ -30,7 +30,7 @@
 //! hashed.
 //!
 //! Each part has a map of `masked_map`, of counts, and the whole mask one of buckets. So a key is made, hashed and compared
-//! by 40 bytes instead of 160 where the part has no bits of metadata and registers, nor of the addresses of IPv6 and ARP, and
+//! by 40 bytes instead of 176 where the part has no bits of metadata and registers, nor of the addresses of IPv6 and ARP, and
 //! as much less of what the maps hold is read.
 //!
 //! The rules with a key stand in one bucket, of their *ranks*: the priority and the number, which decide who wins. Rules of

@@ -168,6 +168,7 @@ impl LiveRules {
         ensures extended { OnOk result (IsExtended self.old self.new) }
         ensures err { OnErr result (IsUnchanged self.old self.new) }
     {
+        // The contract alone speaks of it.
         let _ = number;
         let actions = Vec::from_slice(self.alloc, edit.actions.as_slice())?;
         self.lists.reserve(1)?;

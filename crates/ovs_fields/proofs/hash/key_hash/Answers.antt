@@ -5,7 +5,7 @@ use Rattle.spec_keys.specs.Fields.{register_fields}
 use Rattle.spec_keys.specs.Hash.{offset_basis, hash_bytes, field_bytes, key_hash}
 use Rattle.spec_keys.specs.Keys.{value_of}
 use Rattle.ovs_fields.specs.Packed.{numbers}
-use Rattle.ovs_fields.specs.Runs.{ethernet, ipv4_addresses, ipv6_addresses, ip_header, arp_addresses, ports}
+use Rattle.ovs_fields.specs.Runs.{ethernet, ipv4_addresses, ipv6_addresses, ip_header, arp_addresses, ports, tags}
 use Rattle.ovs_fields.proofs.HashLaws.{then_fields}
 use Rattle.ovs_fields.proofs.hash.key_hash.Goals as goal
 
@@ -24,4 +24,5 @@ returns c =
     let e4 = then_fields _ _ ipv6_addresses key e3 c.hash_ipv6_addresses-hash.ensures in
     let e5 = then_fields _ _ ip_header key e4 c.hash_ip_header-hash.ensures in
     let e6 = then_fields _ _ arp_addresses key e5 c.hash_arp_addresses-hash.ensures in
-    then_fields _ _ ports key e6 c.hash_ports.ensures
+    let e7 = then_fields _ _ ports key e6 c.hash_ports-hash.ensures in
+    then_fields _ _ tags key e7 c.hash_tags.ensures
