@@ -1,11 +1,11 @@
 -- Tags pushed and popped, in the steps of a buffer.
-use Rattle.std.proofs.Common.{◌≡◌, ℕ, ◌+◌, ◌-◌, ◌≤◌, true, false, nat_le, nat_lt, List, ◌++◌, length, take, drop, sym, ap, ap₂, ◌∙◌, arith, append_assoc, length-append, length-drop}
+use Rattle.std.proofs.Common.{◌≡◌, ℕ, ◌+◌, ◌-◌, ◌≤◌, true, false, nat_lt, List, ◌++◌, length, take, drop, sym, ap, ap₂, ◌∙◌, arith, append_assoc, length-append, length-drop}
 use Rattle.std.specs.List.{copy_within}
-use Rattle.std.proofs.lemmas.Bool.{cond-true, cond-false, le-ltb, leb-true, and_parts}
+use Rattle.std.proofs.lemmas.Bool.{cond-true, cond-false, le-ltb}
 use Rattle.std.proofs.lemmas.List.{append-nil, length-take-le, take_all, take-take, take_at, take-append-le, drop_at, drop_all, drop-drop, drop-take}
 use Rattle.std.proofs.lemmas.List.Edits.{take-paste}
 use Rattle.spec_frames.specs.declared.layout.Layout.{Layout}
-use Rattle.spec_frames.specs.Ethernet.{header_size, tag_size, is_tagged}
+use Rattle.spec_frames.specs.Ethernet.{header_size, tag_size, tag_count}
 use Rattle.spec_frames.specs.Layout.{layout_of}
 use Rattle.spec_exec.specs.Rewriting.{pop_tag}
 
@@ -51,27 +51,22 @@ written-back bytes written n same all = take_at written (drop (length written) b
 
 -- ---- popped
 
-pub tagged-size : (frame : List ℕ) → is_tagged frame ≡ true → header_size + tag_size ≤ length frame
-unfolding is_tagged
-tagged-size frame tagged = leb-true (header_size + tag_size) (length frame) (and_parts (nat_le (header_size + tag_size) (length frame)) _ tagged).0
-
-layout-tagged : (frame : List ℕ) → header_size ≤ length frame → (layout_of frame).tagged ≡ is_tagged frame
+layout-tags : (frame : List ℕ) → header_size ≤ length frame → (layout_of frame).tags ≡ tag_count frame
 unfolding layout_of
-layout-tagged frame whole = ap (λ (l : Layout). l.tagged) (cond-false (nat_lt (length frame) header_size) _ _ (le-ltb (length frame) header_size whole))
+layout-tags frame whole = ap (λ (l : Layout). l.tags) (cond-false (nat_lt (length frame) header_size) _ _ (le-ltb (length frame) header_size whole))
 
-pub pop_tag-untagged : (frame : List ℕ) → header_size ≤ length frame → is_tagged frame ≡ false → pop_tag frame ≡ frame
+pub pop_tag-untagged : (frame : List ℕ) → header_size ≤ length frame → nat_lt 0 (tag_count frame) ≡ false → pop_tag frame ≡ frame
 unfolding pop_tag
-pop_tag-untagged frame whole untagged = cond-false (layout_of frame).tagged _ frame (layout-tagged frame whole ∙ untagged)
+pop_tag-untagged frame whole untagged = cond-false (nat_lt 0 (layout_of frame).tags) _ frame (ap (nat_lt 0) (layout-tags frame whole) ∙ untagged)
 
--- the bytes after the tag are moved down, and as many at the end cut off
-pub popped : (frame : List ℕ) → header_size ≤ length frame → is_tagged frame ≡ true
+-- the bytes after the outer tag are moved down, and as many at the end cut off
+pub popped : (frame : List ℕ) → header_size + tag_size ≤ length frame → nat_lt 0 (tag_count frame) ≡ true
     → take (length frame - 4) (copy_within frame 16 (length frame) 12) ≡ pop_tag frame
 unfolding pop_tag
 popped frame whole tagged =
-    let size = tagged-size frame tagged in
     let count : length frame - 4 ≡ 12 + (length frame - 16) = omega arith in
     let rest = length-drop 16 frame in
     ap (λ (n : ℕ). take n (copy_within frame 16 (length frame) 12)) count
     ∙ take-paste frame 12 (drop 16 frame) (length frame - 16) (omega arith) (omega arith)
     ∙ ap (λ (z : List ℕ). take 12 frame ++ z) (take_all (length frame - 16) (drop 16 frame) (omega arith))
-    ∙ sym (cond-true (layout_of frame).tagged (take 12 frame ++ drop 16 frame) frame (layout-tagged frame whole ∙ tagged))
+    ∙ sym (cond-true (nat_lt 0 (layout_of frame).tags) (take 12 frame ++ drop 16 frame) frame (ap (nat_lt 0) (layout-tags frame (omega arith)) ∙ tagged))

@@ -17,7 +17,7 @@ sent-other : (action : DpAction) (rest : List DpAction) (frame : List ℕ) → (
 unfolding sent
 sent-other (Output port) rest frame other = absurd (other port refl)
 sent-other PopVlan rest frame other = refl
-sent-other (PushVlan tci) rest frame other = refl
+sent-other (PushVlan tpid tci) rest frame other = refl
 sent-other (Set field value mask) rest frame other = refl
 
 module _ {F : Type 0} (g : Mut F (ℕ × (Bor (List ℕ) × Unit {0})) (Unit {0})) where
@@ -57,5 +57,5 @@ room-cons list rest action e = rw e (by action)
     by : (action : DpAction) → tag_size * count_by is_push (action ∷ rest) ≡ growth action + tag_size * count_by is_push rest
     by (Output port) = omega (arith, one (Output port))
     by PopVlan = omega (arith, one PopVlan)
-    by (PushVlan tci) = omega (arith, one (PushVlan tci))
+    by (PushVlan tpid tci) = omega (arith, one (PushVlan tpid tci))
     by (Set field value mask) = omega (arith, one (Set field value mask))

@@ -8,14 +8,14 @@ use Rattle.spec_frames.specs.Ethernet.{tag_size}
 use Rattle.spec_exec.specs.Sent.{Piece}
 
 abbrev pub is_push : DpAction → Bool
-is_push (PushVlan tci) = true
+is_push (PushVlan tpid tci) = true
 is_push PopVlan = false
 is_push (Output port) = false
 is_push (Set field value mask) = false
 
 -- how many bytes an action may add to a frame
 abbrev pub growth : DpAction → ℕ
-growth (PushVlan tci) = tag_size
+growth (PushVlan tpid tci) = tag_size
 growth PopVlan = 0
 growth (Output port) = 0
 growth (Set field value mask) = 0

@@ -31,7 +31,7 @@ pub(crate) fn run_action(frame: &mut Vec<u8>, action: &DpAction) -> Result<(), A
             pop_tag(frame);
             Ok(())
         }
-        DpAction::PushVlan { tci } => push_tag(frame, *tci),
+        DpAction::PushVlan { tpid, tci } => push_tag(frame, *tpid, *tci),
         DpAction::Set { field, value, mask } => {
             set_field(frame, *field, *value, *mask);
             Ok(())

@@ -20,7 +20,7 @@ use spec_keys::FieldId;
 
 /// A layout without headers: the addresses of Ethernet stand in it as in any other.
 const NO_HEADERS: Layout = Layout {
-    tagged: false,
+    tags: 0,
     l3: L3::None,
     l4: L4::None,
     routed: false,

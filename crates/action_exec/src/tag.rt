@@ -2,10 +2,10 @@
 ghost use Rattle.std.specs.Prelude.{◌≡◌, ◌+◌, ◌-◌, ◌≤◌, ◌++◌, length, take, drop, bit_and, OnOk, OnErr, IsOk};
 ghost use Rattle.std.specs.Vec.{vec_len, vec_capacity};
 ghost use Rattle.spec_base.specs.Bytes.{big_endian};
-ghost use Rattle.spec_frames.specs.Ethernet.{header_size, type_at, type_size, tag_size, customer_tag};
+ghost use Rattle.spec_frames.specs.Ethernet.{header_size, type_at, type_size, tag_size};
 ghost use Rattle.spec_exec.specs.Rewriting.{content_bits, push_tag, pop_tag};
 
-use frame_headers::is_tagged;
+use frame_headers::tag_count;
 use net_bytes::put16;
 use std::alloc::AllocError;
 
@@ -17,18 +17,15 @@ const TYPE_SIZE: usize = 2;
 /// How many bytes a tag has.
 pub const TAG_SIZE: usize = 4;
 
-/// The type of a tag of customers.
-const CUSTOMER_TAG: u16 = 0x8100;
-
 /// The bits of a tag's content that are sent: all but the one by which a key says that there is a tag.
 const CONTENT_BITS: u16 = 0xefff;
 
-/// A tag with this content.
-fn tag_bytes(tci: u16) -> [u8; TAG_SIZE]
-    ensures { result ≡ big_endian type_size customer_tag ++ big_endian type_size (bit_and tci content_bits) }
+/// A tag of this type with this content.
+fn tag_bytes(tpid: u16, tci: u16) -> [u8; TAG_SIZE]
+    ensures { result ≡ big_endian type_size tpid ++ big_endian type_size (bit_and tci content_bits) }
 {
     let mut tag = [0; TAG_SIZE];
-    put16(&mut tag, 0, CUSTOMER_TAG);
+    put16(&mut tag, 0, tpid);
     put16(&mut tag, TYPE_SIZE, tci & CONTENT_BITS);
     tag
 }
@@ -44,24 +41,24 @@ fn insert_tag(frame: &mut [u8], tag: &[u8; TAG_SIZE])
     frame[TAG_AT..TAG_AT + TAG_SIZE].copy_from_slice(tag);
 }
 
-/// Pushes a tag. The only error is out of memory, and then the frame is as before.
+/// Pushes a tag outside of those that there are. The only error is out of memory, and then the frame is as before.
 #[tactic(auto, unfolding(spec_exec::specs::Rewriting::push_tag))]
-pub fn push_tag(frame: &mut Vec<u8>, tci: u16) -> Result<(), AllocError>
+pub fn push_tag(frame: &mut Vec<u8>, tpid: u16, tci: u16) -> Result<(), AllocError>
     requires { header_size ≤ length frame.old.items }
-    ensures ok { OnOk result (frame.new.items ≡ push_tag tci frame.old.items) }
+    ensures ok { OnOk result (frame.new.items ≡ push_tag tpid tci frame.old.items) }
     ensures err { OnErr result (frame.new.items ≡ frame.old.items) }
     ensures grows { length frame.new.items ≤ length frame.old.items + tag_size }
     ensures room { vec_len frame.old + tag_size ≤ vec_capacity frame.old → IsOk result }
     ensures len { vec_len frame.new ≤ vec_len frame.old + tag_size }
     ensures capacity { vec_capacity frame.old ≤ vec_capacity frame.new }
 {
-    let tag = tag_bytes(tci);
+    let tag = tag_bytes(tpid, tci);
     frame.extend_from_slice(&tag)?;
     insert_tag(frame, &tag);
     Ok(())
 }
 
-/// Pops the tag of a frame, if it has one.
+/// Pops the outer tag of a frame, if it has one.
 #[tactic(auto, unfolding(spec_exec::specs::Rewriting::pop_tag))]
 pub fn pop_tag(frame: &mut Vec<u8>)
     requires { header_size ≤ length frame.old.items }
@@ -70,7 +67,7 @@ pub fn pop_tag(frame: &mut Vec<u8>)
     ensures len { vec_len frame.new ≤ vec_len frame.old }
     ensures capacity { vec_capacity frame.new ≡ vec_capacity frame.old }
 {
-    if is_tagged(frame) {
+    if tag_count(frame) > 0 {
         let end = frame.len();
         frame.copy_within(TAG_AT + TAG_SIZE..end, TAG_AT);
         frame.truncate(end - TAG_SIZE);

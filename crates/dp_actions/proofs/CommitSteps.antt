@@ -1,12 +1,11 @@
--- Commit, one field after the other, and the tags.
-use Rattle.std.proofs.Common.{◌≡◌, ℕ, ◌+◌, ◌<◌, ◌≤◌, Bool, if◌then◌else◌, List, [], ◌∷◌, ◌++◌, length, get_or, drop, map, bit_and, bit_xor, sym, ap, ap₂, ◌∙◌, append_assoc, append-nil, eq-eqb, ne_eqb}
+-- Commit, one field after the other.
+use Rattle.std.proofs.Common.{◌≡◌, ℕ, ◌+◌, ◌<◌, ◌≤◌, Bool, if◌then◌else◌, List, [], ◌∷◌, ◌++◌, length, get_or, drop, bit_and, bit_xor, sym, ap, ap₂, ◌∙◌, append_assoc, append-nil, eq-eqb, ne_eqb}
 use Rattle.std.proofs.lemmas.List.{drop_more, drop_all}
 use Rattle.spec_keys.specs.declared.field_id.FieldId.{FieldId}
 use Rattle.spec_keys.specs.Keys.{value_of}
 use Rattle.spec_actions.specs.declared.action.DpAction.{DpAction}
-use Rattle.spec_actions.specs.declared.action.DpAction.TheVariants.{PopVlan, PushVlan, Set}
+use Rattle.spec_actions.specs.declared.action.DpAction.TheVariants.{Set}
 use Rattle.spec_xlate.specs.Commit.{commit_field, commit_fields}
-use Rattle.spec_xlate.specs.Tags.{VlanTag, outer_tags, commit_tags}
 
 -- ---- one field
 
@@ -42,23 +41,6 @@ pub fields_done : (fields : List FieldId) (i : ℕ) (base current : List ℕ) (s
 unfolding commit_fields
 fields_done fields i base current start old all past so_far =
     sym (ap (λ (fs : List FieldId). old ++ commit_fields fs base current) (drop_all i fields past) ∙ append-nil old) ∙ so_far
-
--- ---- tags
-
--- the actions for two tags, by whether they are the same
-abbrev tag_actions : ℕ → ℕ → Bool → Bool → List DpAction
-tag_actions old tci same back =
-    let before : VlanTag = record { tci = old } in
-    let after : VlanTag = record { tci = tci } in
-    map (λ (t : VlanTag). PopVlan) (if same then [] else before ∷ []) ++ map (λ (t : VlanTag). PushVlan t.tci) (if back then [] else after ∷ [])
-
-pub tags_same : (old tci : ℕ) → old ≡ tci → commit_tags (record { tci = old } ∷ []) (record { tci = tci } ∷ []) ≡ []
-unfolding commit_tags outer_tags
-tags_same old tci same = ap₂ (tag_actions old tci) (eq-eqb old tci same) (eq-eqb tci old (sym same))
-
-pub tags_other : (old tci : ℕ) → (old ≡ tci → ⊥) → commit_tags (record { tci = old } ∷ []) (record { tci = tci } ∷ []) ≡ PopVlan ∷ PushVlan tci ∷ []
-unfolding commit_tags outer_tags
-tags_other old tci other = ap₂ (tag_actions old tci) (ne_eqb old tci other) (ne_eqb tci old (λ e. other (sym e)))
 
 -- ---- all of it
 

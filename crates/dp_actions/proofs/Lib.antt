@@ -1,2 +1,3 @@
 mod CommitSteps
 mod Growing
+mod TagSteps

@@ -1,19 +1,19 @@
 //! Commit: the actions that turn one key into another.
-ghost use Rattle.std.specs.Prelude.{◌≡◌, ◌++◌, OnOk, OnErr};
+ghost use Rattle.std.specs.Prelude.{◌≡◌, ◌≤◌, ◌++◌, drop, length, map, replicate, OnOk, OnErr};
+ghost use Rattle.spec_actions.specs.declared.action.DpAction.TheVariants as datapath;
 ghost use Rattle.spec_keys.specs.Keys.{value_of};
 ghost use Rattle.spec_xlate.specs.Commit.{fields_before_tags, fields_after_tags, commit_field, commit_fields, commit};
-ghost use Rattle.spec_xlate.specs.Tags.{tags_of, commit_tags};
+ghost use Rattle.spec_xlate.specs.Tags.{tags_of, outer_tags, commit_tags};
 ghost use Rattle.ovs_fields.specs.Packed.{numbers};
 ghost use Rattle.dp_actions.specs.Growth.{Extends};
-ghost use Rattle.dp_actions.specs.TagLists.{tag_list};
+ghost use Rattle.dp_actions.specs.TagLists.{tag_list, pushing};
 
 use crate::ActionList;
+use crate::key_tags::KeyTags;
+use named_fields::VlanTag;
 use ovs_fields::{FieldId, Key};
 use spec_actions::DpAction;
 use std::alloc::AllocError;
-
-/// The bit of `vlan_tci` that says that there is a tag (ovs-fields(7), "VLAN Fields").
-const TAG_BIT: u16 = 0x1000;
 
 // The fields that change in place, in the order of the key: those before the tag and those after it.
 static FIELDS_BEFORE_TAGS: [FieldId; 2] = [FieldId::DlSrc, FieldId::DlDst];
@@ -33,8 +33,9 @@ static FIELDS_AFTER_TAGS: [FieldId; 10] = [
 
 /// Appends the actions that make a frame of the key `base` into a frame of the key `current`.
 ///
-/// They stand in the order of the key. Of a field that differs the bits that differ are set; a tag that differs is popped
-/// and the other one pushed. Fields that no datapath action writes are passed over, as `in_port` and the registers.
+/// They stand in the order of the key. Of a field that differs the bits that differ are set; the tags outside of those that
+/// both keys share innermost are popped and the other ones pushed. Fields that no datapath action writes are passed over, as
+/// `in_port` and the registers.
 ///
 /// The only error is out of memory, and then the list is as before.
 pub fn commit(base: &Key, current: &Key, out: &mut ActionList) -> Result<(), AllocError>
@@ -57,7 +58,11 @@ fn append_changes(base: &Key, current: &Key, out: &mut ActionList) -> Result<(),
     ensures err { OnErr result (Extends out.old out.new) }
 {
     append_fields(&FIELDS_BEFORE_TAGS, base, current, out)?;
-    append_tags(tag_of(base), tag_of(current), out)?;
+    append_tags(
+        KeyTags::of(base).as_slice(),
+        KeyTags::of(current).as_slice(),
+        out,
+    )?;
     append_fields(&FIELDS_AFTER_TAGS, base, current, out)
 }
 
@@ -100,39 +105,64 @@ fn append_field(
     })
 }
 
-/// The content of a key's tag, with its bit 0x1000, if there is a tag.
-fn tag_of(key: &Key) -> Option<u16>
-    ensures { tag_list result ≡ tags_of (numbers key.now) }
+/// How many tags two lists share, the innermost first.
+fn shared(before: &[VlanTag], after: &[VlanTag]) -> usize
+    ensures before { tag_list (drop result before.now) ≡ outer_tags (tag_list before.now) (tag_list after.now) }
+    ensures after { tag_list (drop result after.now) ≡ outer_tags (tag_list after.now) (tag_list before.now) }
+    ensures of_before { result ≤ length before.now }
+    ensures of_after { result ≤ length after.now }
 {
-    let tci = key.get(FieldId::VlanTci) as u16;
-    if tci & TAG_BIT == 0 { None } else { Some(tci) }
-}
-
-/// Appends what turns a tag: nothing where it is the same.
-fn append_tags(
-    before: Option<u16>,
-    after: Option<u16>,
-    out: &mut ActionList,
-) -> Result<(), AllocError>
-    ensures ok { OnOk result (out.new ≡ out.old ++ commit_tags (tag_list before) (tag_list after)) }
-    ensures err { OnErr result (Extends out.old out.new) }
-{
-    match (before, after) {
-        (None, None) => Ok(()),
-        (None, Some(tci)) => out.push(DpAction::PushVlan { tci }),
-        (Some(_), None) => out.push(DpAction::PopVlan),
-        (Some(old), Some(tci)) => replace_tag(old, tci, out),
+    let Some((first, before)) = before.split_first() else {
+        return 0;
+    };
+    let Some((other, after)) = after.split_first() else {
+        return 0;
+    };
+    if first.is_same(*other) {
+        1 + shared(before, after)
+    } else {
+        0
     }
 }
 
-/// Appends what turns a tag into another.
-fn replace_tag(old: u16, tci: u16, out: &mut ActionList) -> Result<(), AllocError>
-    ensures ok { OnOk result (out.new ≡ out.old ++ commit_tags (tag_list (Some old)) (tag_list (Some tci))) }
+/// Appends what turns tags into others, the innermost of both first.
+fn append_tags(
+    before: &[VlanTag],
+    after: &[VlanTag],
+    out: &mut ActionList,
+) -> Result<(), AllocError>
+    ensures ok { OnOk result (out.new ≡ out.old ++ commit_tags (tag_list before.now) (tag_list after.now)) }
     ensures err { OnErr result (Extends out.old out.new) }
 {
-    if old == tci {
+    let shared = shared(before, after);
+    let (_, pushed) = after.split_at(shared);
+    append_pops(before.len() - shared, out)?;
+    append_pushes(pushed, out)
+}
+
+/// Appends so many pops.
+fn append_pops(count: usize, out: &mut ActionList) -> Result<(), AllocError>
+    ensures ok { OnOk result (out.new ≡ out.old ++ replicate count datapath.PopVlan) }
+    ensures err { OnErr result (Extends out.old out.new) }
+{
+    if count == 0 {
         return Ok(());
     }
     out.push(DpAction::PopVlan)?;
-    out.push(DpAction::PushVlan { tci })
+    append_pops(count - 1, out)
+}
+
+/// Appends a push of each of these tags.
+fn append_pushes(tags: &[VlanTag], out: &mut ActionList) -> Result<(), AllocError>
+    ensures ok { OnOk result (out.new ≡ out.old ++ pushing tags.now) }
+    ensures err { OnErr result (Extends out.old out.new) }
+{
+    let [tag, tags @ ..] = tags else {
+        return Ok(());
+    };
+    out.push(DpAction::PushVlan {
+        tpid: tag.tpid,
+        tci: tag.tci,
+    })?;
+    append_pushes(tags, out)
 }

@@ -32,6 +32,7 @@
 
 mod action_list;
 mod changes;
+mod key_tags;
 
 pub use action_list::ActionList;
 pub use changes::commit;

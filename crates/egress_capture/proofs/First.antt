@@ -17,7 +17,7 @@ unfolding rewritten next
 only_sending [] bytes all = refl
 only_sending (Output n ∷ actions) bytes all = only_sending actions bytes all
 only_sending (PopVlan ∷ actions) bytes all = absurd (false≢true all)
-only_sending (PushVlan tci ∷ actions) bytes all = absurd (false≢true all)
+only_sending (PushVlan tpid tci ∷ actions) bytes all = absurd (false≢true all)
 only_sending (Set f value mask ∷ actions) bytes all = absurd (false≢true all)
 
 module _ (ports : List ℕ) (time : ℕ) where
@@ -42,14 +42,14 @@ module _ (ports : List ℕ) (time : ℕ) where
   sending : (a : DpAction) (actions : List DpAction) (bytes : List ℕ) → sends_to_one ports a ≡ true → out (a ∷ actions) bytes ≡ Some (frame_of time bytes)
   sending (Output n) actions bytes is = output_first n actions bytes true is
   sending PopVlan actions bytes is = absurd (false≢true is)
-  sending (PushVlan tci) actions bytes is = absurd (false≢true is)
+  sending (PushVlan tpid tci) actions bytes is = absurd (false≢true is)
   sending (Set f value mask) actions bytes is = absurd (false≢true is)
 
   pub passing : (a : DpAction) (actions : List DpAction) (bytes : List ℕ) → sends_to_one ports a ≡ false → out (a ∷ actions) bytes ≡ out actions (next a bytes)
   unfolding sent next
   passing (Output n) actions bytes is = output_first n actions bytes false is
   passing PopVlan actions bytes is = refl
-  passing (PushVlan tci) actions bytes is = refl
+  passing (PushVlan tpid tci) actions bytes is = refl
   passing (Set f value mask) actions bytes is = refl
 
   none_before : (a : DpAction) (actions : List DpAction) → sends_to_one ports a ≡ true → before (a ∷ actions) ≡ 0

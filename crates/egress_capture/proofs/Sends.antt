@@ -56,7 +56,7 @@ module _ (port time : ℕ) where
       by_test true is = output_first n actions bytes true is ∙ sym (ap (λ (fs : List Frame). fs ++ out actions bytes) (output_first n [] bytes true is))
       by_test false is = output_first n actions bytes false is ∙ sym (ap (λ (fs : List Frame). fs ++ out actions bytes) (output_first n [] bytes false is))
   out_more PopVlan actions bytes = refl
-  out_more (PushVlan tci) actions bytes = refl
+  out_more (PushVlan tpid tci) actions bytes = refl
   out_more (Set f value mask) actions bytes = refl
 
   -- ---- lists one after the other
@@ -75,14 +75,14 @@ module _ (port time : ℕ) where
   unfolding sent
   out_sending (Output n) bytes is = output_first n [] bytes true is
   out_sending PopVlan bytes is = absurd (false≢true is)
-  out_sending (PushVlan tci) bytes is = absurd (false≢true is)
+  out_sending (PushVlan tpid tci) bytes is = absurd (false≢true is)
   out_sending (Set f value mask) bytes is = absurd (false≢true is)
 
   pub out_passing : (a : DpAction) (bytes : List ℕ) → sends_to port a ≡ false → out (a ∷ []) bytes ≡ []
   unfolding sent
   out_passing (Output n) bytes is = output_first n [] bytes false is
   out_passing PopVlan bytes is = refl
-  out_passing (PushVlan tci) bytes is = refl
+  out_passing (PushVlan tpid tci) bytes is = refl
   out_passing (Set f value mask) bytes is = refl
 
   -- ---- the lists that are cut at an action, or where the outputs that come first end
@@ -121,7 +121,7 @@ module _ (port time : ℕ) where
       ∙ ap (λ (fs : List Frame). cond (n == port) (frame ∷ fs) fs) (out_first actions bytes)
       ∙ copies_more (n == port) (count xs) frame ∙ ap (λ m. replicate m frame) (sym (counted (Output n) xs)))
   out_first (PopVlan ∷ actions) bytes = refl
-  out_first (PushVlan tci ∷ actions) bytes = refl
+  out_first (PushVlan tpid tci ∷ actions) bytes = refl
   out_first (Set f value mask ∷ actions) bytes = refl
 
   -- and leave it as it is
@@ -130,7 +130,7 @@ module _ (port time : ℕ) where
   first_leave [] bytes = refl
   first_leave (Output n ∷ actions) bytes = rw (take_while-cons is_output (Output n) actions) (first_leave actions bytes)
   first_leave (PopVlan ∷ actions) bytes = refl
-  first_leave (PushVlan tci ∷ actions) bytes = refl
+  first_leave (PushVlan tpid tci ∷ actions) bytes = refl
   first_leave (Set f value mask ∷ actions) bytes = refl
 
   -- what they send, and then what the others send of the frame as it is
@@ -154,5 +154,5 @@ module _ (port time : ℕ) where
           let rest = rw (counted (Output n) actions, is) at none in
           output_first n actions bytes false is ∙ others (omega (arith, rest))
   out_none (PopVlan ∷ actions) bytes none = let rest = rw (counted PopVlan actions) at none in out_none actions _ (omega (arith, rest))
-  out_none (PushVlan tci ∷ actions) bytes none = let rest = rw (counted (PushVlan tci) actions) at none in out_none actions _ (omega (arith, rest))
+  out_none (PushVlan tpid tci ∷ actions) bytes none = let rest = rw (counted (PushVlan tpid tci) actions) at none in out_none actions _ (omega (arith, rest))
   out_none (Set f value mask ∷ actions) bytes none = let rest = rw (counted (Set f value mask) actions) at none in out_none actions _ (omega (arith, rest))

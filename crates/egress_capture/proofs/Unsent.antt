@@ -30,7 +30,7 @@ module _ (bits : ℕ) where
   unsent : (a : DpAction) → ((port : ℕ) → Absent port → Passes port a) → (ports : List ℕ) → All Absent ports → sends_to_one ports a ≡ false
   unsent (Output n) others ports all = not_among n others ports all
   unsent PopVlan others ports all = refl
-  unsent (PushVlan tci) others ports all = refl
+  unsent (PushVlan tpid tci) others ports all = refl
   unsent (Set f value mask) others ports all = refl
 
   module _ (ports : List ℕ) (absent : All Absent ports) (time : ℕ) where

@@ -12,7 +12,7 @@ use Rattle.spec_run.specs.Mirrored.{first_to}
 abbrev pub sends_to : ℕ → DpAction → Bool
 sends_to port (Output n) = n == port
 sends_to port PopVlan = false
-sends_to port (PushVlan tci) = false
+sends_to port (PushVlan tpid tci) = false
 sends_to port (Set f value mask) = false
 
 -- a frame of a time
@@ -40,7 +40,7 @@ rewritten (a ∷ actions) bytes = rewritten actions (next a bytes)
 abbrev pub sends_to_one : List ℕ → DpAction → Bool
 sends_to_one ports (Output n) = is_among ports n
 sends_to_one ports PopVlan = false
-sends_to_one ports (PushVlan tci) = false
+sends_to_one ports (PushVlan tpid tci) = false
 sends_to_one ports (Set f value mask) = false
 
 -- the frame of a time that goes out first at one of these ports, if one does

@@ -18,9 +18,9 @@ length-sent (Output port ∷ actions) bytes =
 length-sent (PopVlan ∷ actions) bytes =
     let cons = sum_by-cons (λ action. cond (is_output action) 1 0) PopVlan actions in
     omega (arith, cons, length-sent actions (after_action PopVlan bytes))
-length-sent (PushVlan tci ∷ actions) bytes =
-    let cons = sum_by-cons (λ action. cond (is_output action) 1 0) (PushVlan tci) actions in
-    omega (arith, cons, length-sent actions (after_action (PushVlan tci) bytes))
+length-sent (PushVlan tpid tci ∷ actions) bytes =
+    let cons = sum_by-cons (λ action. cond (is_output action) 1 0) (PushVlan tpid tci) actions in
+    omega (arith, cons, length-sent actions (after_action (PushVlan tpid tci) bytes))
 length-sent (Set field value mask ∷ actions) bytes =
     let cons = sum_by-cons (λ action. cond (is_output action) 1 0) (Set field value mask) actions in
     omega (arith, cons, length-sent actions (after_action (Set field value mask) bytes))

@@ -85,7 +85,7 @@ module _ (sw : Switch) (sub : ℕ → State → State) (lookups : ℕ → State 
   act-counts (Set name value mask) s = keeps s (write name value mask s) (write-left name value mask s)
   act-counts (Move source target) s = keeps s (act sw sub (Move source target) s) (write-left target.name _ (slice_bits target) s)
   act-counts DecTtl s = keeps s (act sw sub DecTtl s) (either (is_met needs.Ip s.current) (lower_ttl s) s s.lookups_left (lower_ttl-left s) refl)
-  act-counts PushVlan s = keeps s (act sw sub PushVlan s) (either (is_full s.current) (stopped s) (with_current (pushed s.current) s) s.lookups_left refl refl)
+  act-counts (PushVlan tpid) s = keeps s (act sw sub (PushVlan tpid) s) (either (is_full s.current) (stopped s) (with_current (pushed tpid s.current) s) s.lookups_left refl refl)
   act-counts PopVlan s = keeps s (act sw sub PopVlan s) refl
   act-counts (SetVid vid) s = keeps s (act sw sub (SetVid vid) s) refl
   act-counts (SetPcp pcp) s = keeps s (act sw sub (SetPcp pcp) s) refl

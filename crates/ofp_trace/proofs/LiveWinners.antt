@@ -45,7 +45,7 @@ module _ (rules : List Rule) (ports : List ℕ) (runnable : AreRunnable rules) w
     act-live (Set name value mask) s = none
     act-live (Move source target) s = none
     act-live DecTtl s = none
-    act-live PushVlan s = none
+    act-live (PushVlan tpid) s = none
     act-live PopVlan s = none
     act-live (SetVid vid) s = none
     act-live (SetPcp pcp) s = none

@@ -43,7 +43,7 @@ module _ (events : ℕ → State → List Event) (paths : ℕ → State → List
   act-have (Set name value mask) s = refl
   act-have (Move source target) s = refl
   act-have DecTtl s = refl
-  act-have PushVlan s = refl
+  act-have (PushVlan tpid) s = refl
   act-have PopVlan s = refl
   act-have (SetVid vid) s = refl
   act-have (SetPcp pcp) s = refl

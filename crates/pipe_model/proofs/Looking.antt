@@ -1,12 +1,21 @@
 -- One action of a list, and one lookup.
-use Rattle.std.proofs.Common.{◌≡◌, ◌⊎◌, inl, inr, ℕ, zero, suc, true, ◌+◌, ◌-◌, ◌<◌, ◌≤◌, List, length, get_or, drop, Option, Some, None, refl, sym, ap, ap₂, ◌∙◌, arith}
+use Rattle.std.proofs.Common.{IsTrue, [], ◌∷◌, ◌≡◌, ◌⊎◌, inl, inr, ℕ, zero, suc, true, ◌+◌, ◌-◌, ◌<◌, ◌≤◌, List, length, get_or, drop, Option, Some, None, refl, sym, ap, ap₂, ◌∙◌, arith}
+use Rattle.std.specs.List.{list_all}
+use Rattle.std.proofs.lemmas.Bool.{and_parts}
 use Rattle.std.proofs.lemmas.List.{drop_more, drop_all}
 use Rattle.spec_actions.specs.declared.action.OfAction.{OfAction}
 use Rattle.spec_actions.specs.declared.action.OfAction.TheVariants.{Output, OutputField, InPort, All, Flood, Resubmit, Goto, Set, Move, DecTtl, PushVlan, PopVlan, SetVid, SetPcp}
+use Rattle.spec_actions.specs.Sound.{is_sound, AreSound}
 use Rattle.spec_tables.specs.Rules.{Rule, winner}
 use Rattle.spec_xlate.specs.Translation.{Switch, State, Mode, stopped, output, act, run, while_going, in_mode, resumed, follow, with_lookups_left, enter, look}
 use Rattle.spec_xlate.specs.Translation.Mode.{Going, ListEnded, Stopped}
 use Rattle.pipe_model.specs.States.{is_going, visiting, stepped}
+
+-- an action of a list of sound ones
+pub sound_at : (actions : List OfAction) (i : ℕ) (d : OfAction) → i < length actions → AreSound actions → IsTrue (is_sound (get_or actions i d))
+sound_at [] i d within sound = absurd (omega (arith, within))
+sound_at (a ∷ actions) zero d within sound = (and_parts (is_sound a) (list_all is_sound actions) sound).0
+sound_at (a ∷ actions) (suc i) d within sound = sound_at actions i d (omega (arith, within)) (and_parts (is_sound a) (list_all is_sound actions) sound).1
 
 -- an action that leads to no lookup does the same whatever lookups do
 pub stepped-act : (sw : Switch) (sub : ℕ → State → State) (a : OfAction) (s : State)
@@ -22,7 +31,7 @@ stepped-act sw sub (Goto table) s not_resubmit not_goto = absurd (not_goto table
 stepped-act sw sub (Set name value mask) s not_resubmit not_goto = refl
 stepped-act sw sub (Move source target) s not_resubmit not_goto = refl
 stepped-act sw sub DecTtl s not_resubmit not_goto = refl
-stepped-act sw sub PushVlan s not_resubmit not_goto = refl
+stepped-act sw sub (PushVlan tpid) s not_resubmit not_goto = refl
 stepped-act sw sub PopVlan s not_resubmit not_goto = refl
 stepped-act sw sub (SetVid vid) s not_resubmit not_goto = refl
 stepped-act sw sub (SetPcp pcp) s not_resubmit not_goto = refl

@@ -14,7 +14,7 @@ use crate::outputs::{append_outputs, append_outputs_but, cut_off};
 use crate::ports::{has_others, other_port};
 use dp_actions::ActionList;
 use named_fields::{
-    NamedField, Prerequisite, Slice, TAG_BIT, holds, is_tagged, named, read_slice, set_tag,
+    NamedField, Prerequisite, Slice, TAG_BIT, holds, is_full, named, pop_tag, push_tag, read_slice,
     slice_bits, write_bits, write_field,
 };
 use ovs_fields::{FieldId, Key};
@@ -161,7 +161,7 @@ impl Translating {
             OfAction::Set { name, value, mask } => self.write(name, value, mask),
             OfAction::Move { from, to } => self.copy_bits(from, to),
             OfAction::DecTtl => self.lower_ttl(),
-            OfAction::PushVlan => self.push_tag(),
+            OfAction::PushVlan(tpid) => self.push_tag(tpid),
             OfAction::PopVlan => self.pop_tag(),
             OfAction::SetVid(vid) => self.write_tag(vid, VID_BITS),
             OfAction::SetPcp(pcp) => self.write_tag(u16::from(pcp) * PCP_UNIT, PCP_BITS),
@@ -253,22 +253,22 @@ impl Translating {
         self.current.set(FieldId::NwTtl, ttl - 1);
     }
 
-    /// Adds a VLAN tag; a packet that has one has no room for another, and ends the translation.
-    fn push_tag(&mut self)
-        ensures { state_of self.new ≡ (if is_full (state_of self.old).current then stopped (state_of self.old) else with_current (pushed (state_of self.old).current) (state_of self.old)) }
+    /// Adds a VLAN tag of this type outside; a packet that has two has no room for another, and ends the translation.
+    fn push_tag(&mut self, tpid: u16)
+        ensures { state_of self.new ≡ (if is_full (state_of self.old).current then stopped (state_of self.old) else with_current (pushed tpid (state_of self.old).current) (state_of self.old)) }
     {
-        if is_tagged(&self.current) {
+        if is_full(&self.current) {
             self.mode = Mode::Stopped;
             return;
         }
-        set_tag(&mut self.current, TAG_BIT);
+        push_tag(&mut self.current, tpid);
     }
 
-    /// Takes the VLAN tag away.
+    /// Takes the outer VLAN tag away.
     fn pop_tag(&mut self)
         ensures { state_of self.new ≡ with_current (popped (state_of self.old).current) (state_of self.old) }
     {
-        set_tag(&mut self.current, 0);
+        pop_tag(&mut self.current);
     }
 
     /// Writes bits of the VLAN tag, and adds one where there is none.

@@ -7,7 +7,7 @@ ghost use Rattle.pmd_board.specs.BoardView.{state_of};
 
 use crate::board::Board;
 use run_case::{Case, Keyed};
-use spec_board::{BeginFault, EndFault, LookFault, OpenFault, PutFault, SettleFault};
+use spec_board::{BeginFault, LookFault, OpenFault, PutFault, SettleFault};
 
 impl<C: Case> Board<C> {
     pub(crate) fn is_next(&self, block: u32) -> bool

@@ -8,7 +8,7 @@ use Rattle.std.proofs.lemmas.Bool.{and_parts, eqb-true}
 use Rattle.spec_keys.specs.Keys.{same}
 use Rattle.spec_keys.specs.Fields.{place_of}
 use Rattle.spec_keys.specs.declared.field_id.FieldId.{FieldId}
-use Rattle.spec_keys.specs.declared.field_id.FieldId.TheVariants.{InPort, Metadata, Reg0, Reg1, Reg2, Reg3, Reg4, Reg5, Reg6, Reg7, Reg8, Reg9, Reg10, Reg11, Reg12, Reg13, Reg14, Reg15, DlSrc, DlDst, DlType, VlanTci, NwSrc, NwDst, Ipv6Src, Ipv6Dst, NwProto, NwTos, NwTtl, IpFrag, ArpSha, ArpTha, TpSrc, TpDst}
+use Rattle.spec_keys.specs.declared.field_id.FieldId.TheVariants.{InPort, Metadata, Reg0, Reg1, Reg2, Reg3, Reg4, Reg5, Reg6, Reg7, Reg8, Reg9, Reg10, Reg11, Reg12, Reg13, Reg14, Reg15, DlSrc, DlDst, DlType, VlanTci, NwSrc, NwDst, Ipv6Src, Ipv6Dst, NwProto, NwTos, NwTtl, IpFrag, ArpSha, ArpTha, TpSrc, TpDst, VlanTpid, VlanTci2, VlanTpid2}
 use Rattle.spec_keys.specs.contracts.field_id.FieldId.{the_type}
 use Rattle.spec_actions.specs.declared.action.DpAction.{DpAction}
 use Rattle.spec_actions.specs.declared.action.DpAction.TheVariants.{Output, PopVlan, PushVlan, Set}
@@ -58,6 +58,9 @@ tag_is ArpSha = refl
 tag_is ArpTha = refl
 tag_is TpSrc = refl
 tag_is TpDst = refl
+tag_is VlanTpid = refl
+tag_is VlanTci2 = refl
+tag_is VlanTpid2 = refl
 
 same_field : (f g : FieldId) → place_of f ≡ place_of g → f ≡ g
 same_field f g same = tag_one the_type tt f g (tag_is f ∙ same ∙ sym (tag_is g))
@@ -65,19 +68,19 @@ same_field f g same = tag_one the_type tt f g (tag_is f ∙ same ∙ sym (tag_is
 action_same : (x y : DpAction) → derived.eq-value.it x y ≡ is_same_action x y
 action_same (Output m) (Output n) = refl
 action_same (Output m) PopVlan = refl
-action_same (Output m) (PushVlan d) = refl
+action_same (Output m) (PushVlan u d) = refl
 action_same (Output m) (Set g w n) = refl
 action_same PopVlan (Output n) = refl
 action_same PopVlan PopVlan = refl
-action_same PopVlan (PushVlan d) = refl
+action_same PopVlan (PushVlan u d) = refl
 action_same PopVlan (Set g w n) = refl
-action_same (PushVlan c) (Output n) = refl
-action_same (PushVlan c) PopVlan = refl
-action_same (PushVlan c) (PushVlan d) = refl
-action_same (PushVlan c) (Set g w n) = refl
+action_same (PushVlan t c) (Output n) = refl
+action_same (PushVlan t c) PopVlan = refl
+action_same (PushVlan t c) (PushVlan u d) = refl
+action_same (PushVlan t c) (Set g w n) = refl
 action_same (Set f v m) (Output n) = refl
 action_same (Set f v m) PopVlan = refl
-action_same (Set f v m) (PushVlan d) = refl
+action_same (Set f v m) (PushVlan u d) = refl
 action_same (Set f v m) (Set g w n) = ap₂ (λ (a b : ℕ). (a == b) && ((v == w) && (m == n))) (tag_is f) (tag_is g)
 
 pub actions_same : (xs ys : List DpAction) → pointwise derived.eq-value.it xs ys ≡ are_same_actions xs ys
@@ -91,19 +94,21 @@ actions_same (x ∷ xs) (y ∷ ys) = ap₂ (λ s t. s && t) (action_same x y) (a
 same_action : (x y : DpAction) → is_same_action x y ≡ true → x ≡ y
 same_action (Output m) (Output n) is = ap Output (eqb-true m n is)
 same_action (Output m) PopVlan is = absurd (cc is)
-same_action (Output m) (PushVlan d) is = absurd (cc is)
+same_action (Output m) (PushVlan u d) is = absurd (cc is)
 same_action (Output m) (Set g w n) is = absurd (cc is)
 same_action PopVlan (Output n) is = absurd (cc is)
 same_action PopVlan PopVlan is = refl
-same_action PopVlan (PushVlan d) is = absurd (cc is)
+same_action PopVlan (PushVlan u d) is = absurd (cc is)
 same_action PopVlan (Set g w n) is = absurd (cc is)
-same_action (PushVlan c) (Output n) is = absurd (cc is)
-same_action (PushVlan c) PopVlan is = absurd (cc is)
-same_action (PushVlan c) (PushVlan d) is = ap PushVlan (eqb-true c d is)
-same_action (PushVlan c) (Set g w n) is = absurd (cc is)
+same_action (PushVlan t c) (Output n) is = absurd (cc is)
+same_action (PushVlan t c) PopVlan is = absurd (cc is)
+same_action (PushVlan t c) (PushVlan u d) is =
+    let parts = and_parts (t == u) (c == d) is in
+    ap₂ PushVlan (eqb-true t u parts.0) (eqb-true c d parts.1)
+same_action (PushVlan t c) (Set g w n) is = absurd (cc is)
 same_action (Set f v m) (Output n) is = absurd (cc is)
 same_action (Set f v m) PopVlan is = absurd (cc is)
-same_action (Set f v m) (PushVlan d) is = absurd (cc is)
+same_action (Set f v m) (PushVlan u d) is = absurd (cc is)
 same_action (Set f v m) (Set g w n) is =
     let parts = and_parts (place_of f == place_of g) ((v == w) && (m == n)) is in
     let numbers = and_parts (v == w) (m == n) parts.1 in

@@ -29,7 +29,7 @@ module _ (events : ℕ → State → List Event) (bits : ℕ → State → List 
   act-consults (Set name value mask) m s = refl
   act-consults (Move source target) m s = refl
   act-consults DecTtl m s = refl
-  act-consults PushVlan m s = refl
+  act-consults (PushVlan tpid) m s = refl
   act-consults PopVlan m s = refl
   act-consults (SetVid vid) m s = refl
   act-consults (SetPcp pcp) m s = refl

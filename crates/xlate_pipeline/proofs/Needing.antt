@@ -1,5 +1,5 @@
--- What a write consults where the packet is what it needs.
-use Rattle.std.proofs.Common.{◌≡◌, Bool, true, List, ◌++◌, map, ℕ, sym, ap, ◌∙◌}
+-- What a write consults, by whether the packet is what it needs.
+use Rattle.std.proofs.Common.{◌≡◌, Bool, true, false, List, ◌++◌, map, ℕ, sym, ap, ◌∙◌}
 use Rattle.spec_actions.specs.declared.named_field.Prerequisite.{Prerequisite}
 use Rattle.spec_xlate.specs.Needs.{is_met, fields_needed}
 use Rattle.spec_xlate.specs.Lookup.{added, when}
@@ -12,5 +12,13 @@ pub under-met : (need asked : Prerequisite) (key : List ℕ) (masks : List (List
 under-met need asked key masks m m' m'' is_need met needed consulted =
     consulted ∙ ap (λ (z : List ℕ). added z masks) needed
     ∙ ap (λ (t : Bool). added (added m (map whole (fields_needed asked))) (when t masks)) met
+    ∙ sym (added-append m (map whole (fields_needed asked)) (when (is_met asked key) masks))
+    ∙ ap (λ (n : Prerequisite). added m (map whole (fields_needed n) ++ when (is_met n key) masks)) is_need
+
+pub under-unmet : (need asked : Prerequisite) (key : List ℕ) (masks : List (List ℕ)) (m m' : List ℕ) → asked ≡ need → false ≡ is_met asked key
+    → m' ≡ added m (map whole (fields_needed asked)) → m' ≡ added m (under need key masks)
+under-unmet need asked key masks m m' is_need unmet needed =
+    needed
+    ∙ ap (λ (t : Bool). added (added m (map whole (fields_needed asked))) (when t masks)) unmet
     ∙ sym (added-append m (map whole (fields_needed asked)) (when (is_met asked key) masks))
     ∙ ap (λ (n : Prerequisite). added m (map whole (fields_needed n) ++ when (is_met n key) masks)) is_need

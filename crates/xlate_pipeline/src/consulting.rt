@@ -12,7 +12,9 @@ ghost use Rattle.spec_xlate.specs.Consulted.{whole, bits_written, slice_read, un
 ghost use Rattle.ovs_fields.specs.Packed.{numbers, bits};
 ghost use Rattle.xlate_pipeline.specs.Steps.{step_bits};
 
-use crate::fields::{consult_fields, consult_read, consult_tags, consult_whole, consult_written};
+use crate::fields::{
+    TAG_FIELDS, consult_fields, consult_read, consult_tags, consult_whole, consult_written,
+};
 use named_fields::{NamedField, Prerequisite, Slice, holds, named, slice_bits};
 use ovs_fields::{FieldId, Key, Mask};
 use rule_tables::OfAction;
@@ -31,7 +33,7 @@ fn fields_needed(needs: Prerequisite) -> &'static [FieldId]
             &[FieldId::DlType, FieldId::NwProto, FieldId::IpFrag]
         }
         Prerequisite::Icmp | Prerequisite::Icmp6 => &[FieldId::DlType, FieldId::NwProto],
-        Prerequisite::Tag => &[FieldId::VlanTci],
+        Prerequisite::Tag => &TAG_FIELDS,
     }
 }
 
@@ -118,7 +120,7 @@ pub(crate) fn consult(mask: &mut Mask, key: &Key, action: OfAction)
         } => consult_set(mask, key, name, written),
         OfAction::Move { from, to } => consult_move(mask, key, from, to),
         OfAction::DecTtl => consult_ttl(mask, key),
-        OfAction::PushVlan | OfAction::PopVlan | OfAction::SetVid(_) | OfAction::SetPcp(_) => {
+        OfAction::PushVlan(_) | OfAction::PopVlan | OfAction::SetVid(_) | OfAction::SetPcp(_) => {
             consult_tags(mask);
         }
     }

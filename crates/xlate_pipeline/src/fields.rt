@@ -11,6 +11,14 @@ ghost use Rattle.ovs_fields.specs.Packed.{bits};
 use named_fields::low_bits;
 use ovs_fields::{FieldId, Mask, width};
 
+/// The fields in which a key holds its tags, the outer one first.
+pub(crate) const TAG_FIELDS: [FieldId; 4] = [
+    FieldId::VlanTci,
+    FieldId::VlanTpid,
+    FieldId::VlanTci2,
+    FieldId::VlanTpid2,
+];
+
 /// All bits of a field.
 fn all_bits(field: FieldId) -> u128
     ensures all { result ≡ all_bits (width_of field) }
@@ -39,7 +47,7 @@ pub(crate) fn consult_fields(mask: &mut Mask, fields: &[FieldId])
 pub(crate) fn consult_tags(mask: &mut Mask)
     ensures { bits mask.new ≡ added (bits mask.old) (map whole tag_fields) }
 {
-    consult_whole(mask, FieldId::VlanTci);
+    consult_fields(mask, &TAG_FIELDS);
 }
 
 /// Adds bits of a field that are read. A tag is read whole.

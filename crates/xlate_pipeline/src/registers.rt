@@ -8,7 +8,7 @@ ghost use Rattle.xlate_pipeline.specs.Parts.{with_part};
 use ovs_fields::{FieldId, Mask};
 
 /// The fields that frames carry, and the ingress port: all but metadata and the registers.
-const PACKET_FIELDS: [FieldId; 17] = [
+const PACKET_FIELDS: [FieldId; 20] = [
     FieldId::InPort,
     FieldId::DlSrc,
     FieldId::DlDst,
@@ -26,6 +26,9 @@ const PACKET_FIELDS: [FieldId; 17] = [
     FieldId::ArpTha,
     FieldId::TpSrc,
     FieldId::TpDst,
+    FieldId::VlanTpid,
+    FieldId::VlanTci2,
+    FieldId::VlanTpid2,
 ];
 
 /// A mask without metadata and the registers.

@@ -1,15 +1,23 @@
-use Rattle.std.proofs.Common.{sym, append-nil}
-use Rattle.spec_xlate.specs.Tags.{outer_tags, commit_tags}
+use Rattle.std.proofs.Common.{◌≡◌, ◌-◌, List, ◌++◌, length, drop, replicate, refl, ap, ◌∙◌, append_assoc}
+use Rattle.std.proofs.lemmas.Result.{on_ok_weaker}
+use Rattle.spec_actions.specs.declared.action.DpAction.{DpAction}
+use Rattle.spec_actions.specs.declared.action.DpAction.TheVariants.{PopVlan}
+use Rattle.dp_actions.specs.TagLists.{pushing}
+use Rattle.dp_actions.proofs.TagSteps.{turned}
 use Rattle.dp_actions.proofs.changes.append_tags.Goals as goal
 
-pub returns-in-None-None-clause-ok : goal.returns-in-None-None-clause-ok
-unfolding commit_tags outer_tags
-returns-in-None-None-clause-ok c = rw (c.in-None-None.is-0, c.in-None-None.is-1) (sym (append-nil c.args.out.now))
+-- two pieces that were appended
+appended : (start one two first second all : List DpAction) → one ≡ start ++ first → two ≡ one ++ second → first ++ second ≡ all → two ≡ start ++ all
+appended start one two first second all a b e = b ∙ ap (λ xs. xs ++ second) a ∙ append_assoc start first second ∙ ap (λ xs. start ++ xs) e
 
-pub returns-in-None-Some-clause-ok : goal.returns-in-None-Some-clause-ok
-unfolding commit_tags outer_tags
-returns-in-None-Some-clause-ok c = rw (c.in-None-Some.is-0, c.in-None-Some.is-1) c.push.ensures.ok
-
-pub returns-in-Some-None-clause-ok : goal.returns-in-Some-None-clause-ok
-unfolding commit_tags outer_tags
-returns-in-Some-None-clause-ok c = rw (c.in-Some-None.is-0, c.in-Some-None.is-1) c.push-in-Some-None.ensures.ok
+pub returns-clause-ok : goal.returns-clause-ok
+returns-clause-ok c =
+    let before = c.args.before.now in
+    let after = c.args.after.now in
+    let n = c.shared-shared.result in
+    let popped : c.append_pops.new.out ≡ c.args.out.now ++ replicate (length before - n) PopVlan = c.in_ok-append_pops.ensures.ok in
+    on_ok_weaker c.append_pushes.result
+    (λ e.
+    appended c.args.out.now c.append_pops.new.out c.append_pushes.new.out (replicate (length before - n) PopVlan) (pushing (drop n after)) _ popped (e ∙ ap (λ xs. c.append_pops.new.out ++ pushing xs) c.split_at.ensures.back)
+    (turned before after n c.shared-shared.ensures.before c.shared-shared.ensures.after (length before - n) refl))
+    c.append_pushes.ensures.ok

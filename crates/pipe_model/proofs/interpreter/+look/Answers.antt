@@ -7,7 +7,7 @@ use Rattle.pipe_model.specs.Events.{Event, act_events, look_events}
 use Rattle.pipe_model.specs.Events.Event.{Looked, Acted}
 use Rattle.pipe_model.specs.States.{state_of, visiting, stepped}
 use Rattle.pipe_model.specs.Winning.{IsWinner}
-use Rattle.pipe_model.proofs.Looking.{going_from-test, test_from-going, stepped-act, run-end, run-on, run-off, look-none, look-nothing, look-found}
+use Rattle.pipe_model.proofs.Looking.{sound_at, going_from-test, test_from-going, stepped-act, run-end, run-on, run-off, look-none, look-nothing, look-found}
 use Rattle.pipe_model.proofs.RunEvents.{acted-one, run_events-end, run_events-on, run_events-off, look_events-none, look_events-nothing, look_events-found}
 use Rattle.pipe_model.proofs.interpreter.+look.Goals as goal
 use Rattle.pipe_model.proofs.interpreter.+look.Goals.{look-then-depths-eq0-via-then-depths-eq0, look-then-depths-eq0-via-else-depths-eq0+then-lookups_left-eq0}
@@ -47,6 +47,10 @@ act-returns-in_default g t c =
     }
 
 -- ---- a list of actions
+
+pub run-act-requires : goal.run-act-requires
+run-act-requires g t c κs within =
+    (omega (arith, c.decreases), (within.0, (within.1, (c.requires.can_run, sound_at c.args.actions.now c.actions.action-index _ c.actions-test.true c.requires.sound))))
 
 pub run-returns-then-not-is_going-clause-state : goal.run-returns-then-not-is_going-clause-state
 run-returns-then-not-is_going-clause-state g t c =

@@ -12,6 +12,9 @@ write-requires c =
     subst (λ (x : ℕ). IsTrue (fits_name c.args.to.name x)) (sym (moved-whole c.args.from c.args.to number is_move c.read_slice-number.ensures.within))
     (moved_fits c.args.from c.args.to number is_move c.read_slice-number.ensures.within)
 
+pub slice_bits-requires : goal.slice_bits-requires
+slice_bits-requires c = (move_from_sound c.args.from c.args.to c.requires).target_sound
+
 pub returns : goal.returns
 returns c =
     let is_move = move_from_sound c.args.from c.args.to c.requires in
