@@ -1,4 +1,5 @@
 pub mod Tables
+pub mod TextNames
 pub mod Forms
 pub mod CommaSteps
 pub mod WordLists

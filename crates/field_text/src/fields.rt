@@ -1,9 +1,11 @@
-ghost use Rattle.std.specs.Prelude.{◌≡◌, ◌<◌, map, length};
+ghost use Rattle.std.specs.Prelude.{◌≡◌, ◌<◌, map, length, not, IfSome, IsTrue};
+ghost use Rattle.spec_actions.specs.Named.{is_printed_alone};
 ghost use Rattle.spec_flow_text.specs.Names as names;
 
 use crate::words::{begins_with_one_of, is_one_of};
 use spec_actions::NamedField;
 
+// Those that a flow may name.
 const FIELDS: [NamedField; 49] = [
     NamedField::InPort,
     NamedField::Metadata,
@@ -111,6 +113,9 @@ fn names_of(field: NamedField) -> &'static [&'static str]
         NamedField::IcmpCode => &["icmp_code", "NXM_OF_ICMP_CODE"],
         NamedField::Icmpv6Type => &["icmpv6_type", "NXM_NX_ICMPV6_TYPE"],
         NamedField::Icmpv6Code => &["icmpv6_code", "NXM_NX_ICMPV6_CODE"],
+        NamedField::VlanTpid => &["vlan_tpid"],
+        NamedField::VlanTci2 => &["vlan_tci2"],
+        NamedField::VlanTpid2 => &["vlan_tpid2"],
     }
 }
 
@@ -128,12 +133,20 @@ fn is_called(name: &[u8], field: NamedField) -> bool
     is_one_of(names_of(field), name)
 }
 
-/// The field that a name means.
 #[tactic(auto, unfolding(spec_flow_text::specs::Names::field_named))]
-pub fn field_named(name: &[u8]) -> Option<NamedField>
+fn found(name: &[u8]) -> Option<NamedField>
     ensures { result ≡ names.field_named name.now }
 {
     FIELDS.iter().copied().find(|field| is_called(name, *field))
+}
+
+/// The field that a name means, which is one that a flow may name.
+#[tactic(auto, using(crate::proofs::TextNames::found_is_in_text))]
+pub fn field_named(name: &[u8]) -> Option<NamedField>
+    ensures value { result ≡ names.field_named name.now }
+    ensures in_text { IfSome result (λ field. IsTrue (not (is_printed_alone field))) }
+{
+    found(name)
 }
 
 // How the names of fields that are known and left out begin.

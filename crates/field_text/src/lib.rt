@@ -9,7 +9,8 @@
 //! # What is promised
 //!
 //! - A name means what the tables of `spec_flow_text` say, one that is known and left out is told from one that is
-//!   unknown, and `name_of` is the name that is printed. `own_name` is the one that a field of the key has by itself.
+//!   unknown, and `name_of` is the name that is printed. `own_name` is the one that a field of the key has by itself. The
+//!   type of a VLAN tag and an inner tag have names that are printed alone: `field_named` never answers their fields.
 //! - `read_value` reads a value and its mask exactly where the definition has one. Both are within the bits of the name.
 //! - `field_stated` and `vlan_stated` are the bits of a field of the key that an item of a match states, with what they
 //!   need of the flow. They are within the field, and the value within its mask.

@@ -46,5 +46,8 @@ pub fn own_name(field: FieldId) -> NamedField
         FieldId::ArpTha => NamedField::ArpTha,
         FieldId::TpSrc => NamedField::TpSrc,
         FieldId::TpDst => NamedField::TpDst,
+        FieldId::VlanTpid => NamedField::VlanTpid,
+        FieldId::VlanTci2 => NamedField::VlanTci2,
+        FieldId::VlanTpid2 => NamedField::VlanTpid2,
     }
 }

@@ -10,7 +10,7 @@ use crate::protocols::{
     ARP_TYPE, ICMP_PROTOCOL, ICMP6_PROTOCOL, IPV4_TYPE, IPV6_TYPE, TCP_PROTOCOL, UDP_PROTOCOL,
 };
 use crate::values::{Bits, read_value};
-use named_fields::{low_bits, named};
+use named_fields::named;
 use ovs_fields::FieldId;
 use spec_actions::NamedField;
 use spec_flow_text::{MatchPrerequisite, Part, Shorthand, TagPart};

@@ -53,7 +53,11 @@ fn printed_form(field: NamedField) -> PrintedForm
         NamedField::DlSrc | NamedField::DlDst | NamedField::ArpSha | NamedField::ArpTha => {
             PrintedForm::Mac
         }
-        NamedField::DlType | NamedField::VlanTci => PrintedForm::FourDigits,
+        NamedField::DlType
+        | NamedField::VlanTci
+        | NamedField::VlanTpid
+        | NamedField::VlanTci2
+        | NamedField::VlanTpid2 => PrintedForm::FourDigits,
         NamedField::NwSrc | NamedField::NwDst | NamedField::ArpSpa | NamedField::ArpTpa => {
             PrintedForm::Ipv4
         }
