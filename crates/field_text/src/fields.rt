@@ -1,4 +1,4 @@
-ghost use Rattle.std.specs.Prelude.{◌≡◌, ◌<◌, map, length, not, IfSome, IsTrue};
+ghost use Rattle.std.specs.Prelude.{◌≡◌, ◌<◌, ℕ, List, ◌∷◌, find, map, length, not, IfSome, IsTrue};
 ghost use Rattle.spec_actions.specs.Named.{is_printed_alone};
 ghost use Rattle.spec_flow_text.specs.Names as names;
 
@@ -133,11 +133,84 @@ fn is_called(name: &[u8], field: NamedField) -> bool
     is_one_of(names_of(field), name)
 }
 
-#[tactic(auto, unfolding(spec_flow_text::specs::Names::field_named))]
-fn found(name: &[u8]) -> Option<NamedField>
-    ensures { result ≡ names.field_named name.now }
+// Fields among which a name that begins with this byte is found as among all. For the letters of names in lower case they
+// are those that have such a name; none is called as `cookie`, `hard_age` or `priority` begin.
+fn fields_with(first: u8) -> &'static [NamedField]
+    ensures { (rest : List ℕ)
+        → find (names.is_called (first ∷ rest)) result.now ≡ names.field_named (first ∷ rest) }
 {
-    FIELDS.iter().copied().find(|field| is_called(name, *field))
+    match first {
+        b'a' => &[
+            NamedField::ArpSpa,
+            NamedField::ArpTpa,
+            NamedField::ArpOp,
+            NamedField::ArpSha,
+            NamedField::ArpTha,
+        ],
+        b'd' => &[
+            NamedField::DlSrc,
+            NamedField::DlDst,
+            NamedField::DlType,
+            NamedField::VlanPcp,
+        ],
+        b'e' => &[NamedField::DlSrc, NamedField::DlDst, NamedField::DlType],
+        b'i' => &[
+            NamedField::InPort,
+            NamedField::NwSrc,
+            NamedField::NwDst,
+            NamedField::Ipv6Src,
+            NamedField::Ipv6Dst,
+            NamedField::NwProto,
+            NamedField::IpDscp,
+            NamedField::NwEcn,
+            NamedField::IpFrag,
+            NamedField::IcmpType,
+            NamedField::IcmpCode,
+            NamedField::Icmpv6Type,
+            NamedField::Icmpv6Code,
+        ],
+        b'm' => &[NamedField::Metadata],
+        b'n' => &[
+            NamedField::NwSrc,
+            NamedField::NwDst,
+            NamedField::NwProto,
+            NamedField::NwTos,
+            NamedField::NwEcn,
+            NamedField::NwTtl,
+        ],
+        b't' => &[
+            NamedField::TpSrc,
+            NamedField::TpDst,
+            NamedField::TcpSrc,
+            NamedField::TcpDst,
+        ],
+        b'u' => &[NamedField::UdpSrc, NamedField::UdpDst],
+        b'v' => &[
+            NamedField::VlanTci,
+            NamedField::VlanVid,
+            NamedField::VlanPcp,
+        ],
+        b'c' | b'h' | b'p' => &[],
+        _ => &FIELDS,
+    }
+}
+
+// Fields among which a name is found as among all.
+#[tactic(auto, using(crate::proofs::FirstLetters::found_by_first, crate::proofs::FirstLetters::no_name))]
+fn candidates(name: &[u8]) -> &'static [NamedField]
+    ensures { find (names.is_called name.now) result.now ≡ names.field_named name.now }
+{
+    match name.first() {
+        None => &[],
+        Some(first) => fields_with(*first),
+    }
+}
+
+// The first of some fields that is called so.
+fn first_called(fields: &[NamedField], name: &[u8]) -> Option<NamedField>
+    ensures { result ≡ find (names.is_called name.now) fields.now }
+{
+    fields.iter().copied().find(|field| is_called(name, *field))
 }
 
 /// The field that a name means, which is one that a flow may name.
@@ -146,7 +219,7 @@ pub fn field_named(name: &[u8]) -> Option<NamedField>
     ensures value { result ≡ names.field_named name.now }
     ensures in_text { IfSome result (λ field. IsTrue (not (is_printed_alone field))) }
 {
-    found(name)
+    first_called(candidates(name), name)
 }
 
 // How the names of fields that are known and left out begin.

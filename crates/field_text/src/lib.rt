@@ -25,7 +25,8 @@
 //! # How
 //!
 //! Each table of the definitions is one in code, and a name is compared with each row in turn. A comparison begins with
-//! the lengths, so a look-up costs little more than a walk over them.
+//! the lengths, so a look-up costs little more than a walk over them. Fields are many, and each item of a flow is looked up
+//! among them: a name in lower case is compared with the names of those fields alone that have one with its first letter.
 //!
 //! # What is left to others
 //!
