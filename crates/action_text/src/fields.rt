@@ -1,5 +1,6 @@
 ghost use Rattle.std.specs.Prelude.{◌≡◌, ◌≤◌, ◌==◌, length, not, IfOk, IsTrue};
 ghost use Rattle.std.specs.List.{prefix_len};
+ghost use Rattle.spec_actions.specs.Named.{is_printed_alone};
 ghost use Rattle.spec_actions.specs.Sound.{is_written};
 ghost use Rattle.spec_numbers.specs.Characters.{left_bracket};
 ghost use Rattle.spec_flow_text.specs.Actions.{no_field, field_in, written_field, slice_name};
@@ -38,7 +39,8 @@ fn no_field(item: Word<'_>, name: Word<'_>) -> TextFault
 /// The field that a name in an item means.
 #[tactic(auto, unfolding(spec_flow_text::specs::Actions::field_in))]
 pub fn field_in(item: Word<'_>, name: Word<'_>) -> Result<NamedField, TextFault>
-    ensures { result ≡ field_in (word_view item.entry) (word_view name.entry) }
+    ensures value { result ≡ field_in (word_view item.entry) (word_view name.entry) }
+    ensures in_text { IfOk result (λ field. IsTrue (not (is_printed_alone field))) }
 {
     match field_named(name.text) {
         Some(field) => Ok(field),
@@ -57,6 +59,7 @@ fn is_written(field: NamedField) -> bool
 pub fn written_field(item: Word<'_>, name: Word<'_>) -> Result<NamedField, TextFault>
     ensures value { result ≡ written_field (word_view item.entry) (word_view name.entry) }
     ensures written { IfOk result (λ field. IsTrue (is_written field)) }
+    ensures in_text { IfOk result (λ field. IsTrue (not (is_printed_alone field))) }
 {
     let field = field_in(item, name)?;
     if is_written(field) {

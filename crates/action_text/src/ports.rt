@@ -1,6 +1,7 @@
 ghost use Rattle.std.specs.Prelude.{◌≡◌, ◌≤◌, IfOk, IfSome, IsTrue};
+ghost use Rattle.spec_keys.specs.Protocols.{is_tag_type};
 ghost use Rattle.spec_actions.specs.Sound.{is_sound};
-ghost use Rattle.spec_flow_text.specs.Actions.{port_of, number_argument, pushed, push_vlan, reserved, output_field, output_to, output};
+ghost use Rattle.spec_flow_text.specs.Actions.{port_of, number_argument, tag_type, push_vlan, reserved, output_field, output_to, output};
 ghost use Rattle.field_text.specs.WordViews.{word_view};
 
 use crate::fields::{field_in, slice_name};
@@ -10,10 +11,10 @@ use field_text::{ActionName, TextFault, Word, begins_with_digit, reserved_port_n
 use spec_actions::OfAction;
 use text_numbers::{LAST_PORT, as_port, read_number};
 
-// Types of VLAN tags: that of IEEE 802.1Q, and that of service tags.
-const TAG_TYPE: u128 = 0x8100;
+// The types of a VLAN tag, of a customer's network and of a service provider's (IEEE 802.1Q, table 9-1).
+const CUSTOMER_TAG: u128 = 0x8100;
 
-const SERVICE_TAG_TYPE: u128 = 0x88a8;
+const SERVICE_TAG: u128 = 0x88a8;
 
 /// An output to the port of a number.
 #[tactic(auto, unfolding(spec_flow_text::specs::Actions::port_of))]
@@ -41,16 +42,14 @@ pub fn number_argument(item: Word<'_>, most: u128) -> Result<u128, TextFault>
     }
 }
 
-fn pushed(item: Word<'_>, value: Word<'_>, number: u128) -> Result<OfAction, TextFault>
-    ensures value { result ≡ pushed (word_view item.entry) (word_view value.entry) number }
-    ensures sound { IfOk result (λ action. IsTrue (is_sound action)) }
+// The type of a VLAN tag, if a number is one.
+fn tag_type(number: u128) -> Option<u16>
+    ensures value { result ≡ tag_type number }
+    ensures is_one { IfSome result (λ tpid. IsTrue (is_tag_type tpid)) }
 {
     match number {
-        TAG_TYPE => Ok(OfAction::PushVlan),
-        SERVICE_TAG_TYPE => Err(TextFault::Unsupported { col: item.column() }),
-        _ => Err(TextFault::BadValue {
-            col: value.column(),
-        }),
+        CUSTOMER_TAG | SERVICE_TAG => Some(number as u16),
+        _ => None,
     }
 }
 
@@ -61,8 +60,8 @@ pub fn push_vlan(item: Word<'_>) -> Result<OfAction, TextFault>
     ensures sound { IfOk result (λ action. IsTrue (is_sound action)) }
 {
     let value = argument(item)?;
-    match read_number(value.text, u128::from(u16::MAX)) {
-        Some(number) => pushed(item, value, number),
+    match read_number(value.text, u128::from(u16::MAX)).and_then(tag_type) {
+        Some(tpid) => Ok(OfAction::PushVlan(tpid)),
         None => Err(TextFault::BadValue {
             col: value.column(),
         }),

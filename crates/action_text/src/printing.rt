@@ -8,7 +8,7 @@ ghost use Rattle.field_text.specs.Views.{Fits};
 use field_text::{Bits, ItemPrinter, name_of, print_list, print_value, within_mask};
 use spec_actions::{NamedField, OfAction, Slice};
 use std::alloc::AllocError;
-use text_numbers::{print_decimal, print_word};
+use text_numbers::{print_decimal, print_hexadecimal4, print_word};
 
 fn print_number_after(out: &mut String, start: &str, number: u128) -> Result<(), AllocError>
     ensures { Adds out.old out.new (start.now ++ decimal number) result }
@@ -58,6 +58,13 @@ fn print_move(out: &mut String, from: Slice, to: Slice) -> Result<(), AllocError
     print_slice_after(out, "->", to)
 }
 
+fn print_push(out: &mut String, tpid: u16) -> Result<(), AllocError>
+    ensures { Adds out.old out.new (printed.action_text (OfAction.PushVlan tpid)) result }
+{
+    print_word(out, "push_vlan:")?;
+    print_hexadecimal4(out, tpid)
+}
+
 #[tactic(auto, using(crate::proofs::Loads::set_fits))]
 fn print_action(out: &mut String, action: OfAction) -> Result<(), AllocError>
     requires { IsTrue (is_sound action) }
@@ -74,7 +81,7 @@ fn print_action(out: &mut String, action: OfAction) -> Result<(), AllocError>
         OfAction::Set { name, value, mask } => print_set(out, name, Bits { value, mask }),
         OfAction::Move { from, to } => print_move(out, from, to),
         OfAction::DecTtl => print_word(out, "dec_ttl"),
-        OfAction::PushVlan => print_word(out, "push_vlan:0x8100"),
+        OfAction::PushVlan(tpid) => print_push(out, tpid),
         OfAction::PopVlan => print_word(out, "pop_vlan"),
         OfAction::SetVid(vid) => print_number_after(out, "mod_vlan_vid:", u128::from(vid)),
         OfAction::SetPcp(pcp) => print_number_after(out, "mod_vlan_pcp:", u128::from(pcp)),

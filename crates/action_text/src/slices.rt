@@ -1,4 +1,5 @@
-ghost use Rattle.std.specs.Prelude.{◌≡◌, ◌∷◌, IfOk, IfSome, IsTrue};
+ghost use Rattle.std.specs.Prelude.{◌≡◌, ◌∷◌, not, IfOk, IfSome, IsTrue};
+ghost use Rattle.spec_actions.specs.Named.{is_printed_alone};
 ghost use Rattle.spec_actions.specs.Sound.{is_sound_slice};
 ghost use Rattle.spec_flow_text.specs.Actions.{bit_number, bits_between, bits_in, bracketed, whole_slice, sound_slice, slice_after, slice_of};
 ghost use Rattle.field_text.specs.WordViews.{word_view};
@@ -36,9 +37,10 @@ fn bits_between(name: NamedField, low: &[u8], rest: &[u8]) -> Option<SpelledSlic
     Some(SpelledSlice { name, low, high })
 }
 
-/// All bits of a named field.
+// All bits of a named field.
 #[tactic(auto, using(crate::proofs::NamedBits::some_bits, crate::proofs::NamedBits::whole_is_sound))]
 fn whole_slice(name: NamedField) -> Slice
+    requires { IsTrue (not (is_printed_alone name)) }
     ensures value { result ≡ whole_slice name }
     ensures sound { IsTrue (is_sound_slice result) }
     ensures name { result.name ≡ name }
@@ -53,6 +55,7 @@ fn whole_slice(name: NamedField) -> Slice
 // What stands between the brackets of a slice.
 #[tactic(auto, unfolding(spec_flow_text::specs::Actions::bits_in))]
 fn bits_in(name: NamedField, text: &[u8]) -> Option<SpelledSlice>
+    requires { IsTrue (not (is_printed_alone name)) }
     ensures value { spelled_found result ≡ bits_in name text.now }
     ensures name { IfSome result (λ s. s.name ≡ name) }
 {
@@ -79,6 +82,7 @@ fn bits_in(name: NamedField, text: &[u8]) -> Option<SpelledSlice>
 
 // The bits in brackets, which close at the end.
 fn bracketed(name: NamedField, inside: &[u8], rest: &[u8]) -> Option<SpelledSlice>
+    requires { IsTrue (not (is_printed_alone name)) }
     ensures value { spelled_found result ≡ bracketed name (inside.now, rest.now) }
     ensures name { IfSome result (λ s. s.name ≡ name) }
 {
@@ -90,6 +94,7 @@ fn bracketed(name: NamedField, inside: &[u8], rest: &[u8]) -> Option<SpelledSlic
 }
 
 fn sound_slice(spelled: SpelledSlice) -> Option<Slice>
+    requires { IsTrue (not (is_printed_alone spelled.name)) }
     ensures value { result ≡ sound_slice (spelled_view spelled) }
     ensures sound { IfSome result (λ slice. IsTrue (is_sound_slice slice)) }
     ensures name { IfSome result (λ slice. slice.name ≡ spelled.name) }
@@ -108,6 +113,7 @@ fn sound_slice(spelled: SpelledSlice) -> Option<Slice>
 // What stands after the name of a slice: nothing, or brackets.
 #[tactic(auto, unfolding(spec_flow_text::specs::Actions::slice_after))]
 fn slice_after(name: NamedField, text: &[u8]) -> Option<Slice>
+    requires { IsTrue (not (is_printed_alone name)) }
     ensures value { result ≡ slice_after name text.now }
     ensures sound { IfSome result (λ slice. IsTrue (is_sound_slice slice)) }
     ensures name { IfSome result (λ slice. slice.name ≡ name) }
@@ -125,6 +131,7 @@ fn slice_after(name: NamedField, text: &[u8]) -> Option<Slice>
 /// The slice of a word that begins with the name of a field: `NAME`, `NAME[]`, `NAME[BIT]` or `NAME[LOW..HIGH]`.
 #[tactic(auto, unfolding(spec_flow_text::specs::Actions::slice_of), using(crate::proofs::Prefixes::taken_length))]
 pub fn slice_of(name: NamedField, word: Word<'_>) -> Result<Slice, TextFault>
+    requires { IsTrue (not (is_printed_alone name)) }
     ensures value { result ≡ slice_of name (word_view word.entry) }
     ensures sound { IfOk result (λ slice. IsTrue (is_sound_slice slice)) }
     ensures name { IfOk result (λ slice. slice.name ≡ name) }

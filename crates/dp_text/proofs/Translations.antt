@@ -1,5 +1,5 @@
--- The actions of a translation are within the fields that they write: each of its keys is within the widths of the fields.
-use Rattle.std.proofs.Common.{ℕ, zero, suc, ◌+◌, ◌-◌, ◌*◌, ◌^◌, ◌<◌, Bool, true, false, ◌==◌, nat_le, if◌then◌else◌, List, [], ◌∷◌, map, set, length, bit_and, Option, Some, None, IsTrue, refl, arith, lit<, pow_mono, pow_pos, lt_of_lt_of_le}
+-- The actions of a translation are within the fields that they write, as each of its keys has numbers that fit these.
+use Rattle.std.proofs.Common.{◌≡◌, ℕ, zero, suc, ◌+◌, ◌-◌, ◌*◌, ◌^◌, ◌<◌, Bool, true, false, ◌==◌, nat_le, if◌then◌else◌, List, [], ◌∷◌, map, length, bit_and, Option, Some, None, IsTrue, refl, arith, lit<, pow_mono, lt_of_lt_of_le}
 use Rattle.std.specs.Prelude.{bit_xor}
 use Rattle.std.specs.List.{list_all}
 use Rattle.std.proofs.lemmas.Bool.{and_parts, and_from}
@@ -17,16 +17,16 @@ use Rattle.spec_actions.specs.declared.action.DpAction.{DpAction}
 use Rattle.spec_actions.specs.declared.action.DpAction.TheVariants as datapath
 use Rattle.spec_actions.specs.Named.{named}
 use Rattle.spec_tables.specs.Rules.{Rule, winner}
-use Rattle.spec_xlate.specs.Tags.{is_tag, tagged, is_full}
+use Rattle.spec_xlate.specs.Tags.{is_full}
 use Rattle.spec_xlate.specs.Needs.{is_met}
 use Rattle.spec_xlate.specs.Commit.{commit}
 use Rattle.spec_base.specs.Bits.{merged}
 use Rattle.spec_xlate.specs.Translation.{Switch, State, Mode, deepest, action_limit, emit, emit_all, committed, in_port_of, is_other_port, other_ports, output, output_all, slice_bits, slice_of, with_value, written, in_field, written_bits, write, vid_bits, pcp_bits, pcp_unit, write_tag, lower_ttl, act, in_mode, run, visited, follow, with_lookups_left, enter, look, start, last_state, kept, pipe}
 use Rattle.spec_xlate.specs.Translation.Mode.{Going, ListEnded, Stopped}
-use Rattle.ovs_fields.proofs.KeyLaws.{within_width, key_from_set}
 use Rattle.named_fields.proofs.NamedLaws.{named-within, writable-within}
 use Rattle.spec_dp_text.specs.Within.{is_within_field}
-use Rattle.dp_text.proofs.Commits.{are_within, joined, commit_within}
+use Rattle.dp_text.proofs.Numbers.{is_type_place, FitsFields, fits_from_key, value_fits, value_set, popped_fits, pushed_fits, tagged_fits}
+use Rattle.dp_text.proofs.Commits.{are_within, joined, commit_from_fits}
 
 -- ---- keys
 
@@ -34,25 +34,20 @@ if_below : (b : Bool) (bound m n : ℕ) → m < bound → n < bound → (if b th
 if_below true bound m n first second = first
 if_below false bound m n first second = second
 
-tagged-key : (tci : ℕ) (key : List ℕ) → tci < 2 ^ width_of field.VlanTci → IsKey key → IsKey (tagged tci key)
-tagged-key tci key below is_key =
-    let content = if is_tag tci then tci else 0 in
-    key_from_set key (tagged tci key) field.VlanTci content refl is_key (if_below (is_tag tci) (2 ^ width_of field.VlanTci) tci 0 below (pow_pos (width_of field.VlanTci)))
-
-with_value-key : (f : FieldId) (n : ℕ) (key : List ℕ) → n < 2 ^ width_of f → IsKey key → IsKey (with_value f n key)
-with_value-key field.VlanTci n key below is_key = tagged-key n key below is_key
-with_value-key f n key below is_key = key_from_set key (set key (place_of f) n) f n refl is_key below
+with_value-fits : (f : FieldId) (n : ℕ) (key : List ℕ) → (is_type_place (place_of f) ≡ false → n < 2 ^ width_of f) → FitsFields key → FitsFields (with_value f n key)
+with_value-fits field.VlanTci n key below fits = tagged_fits n key (below refl) fits
+with_value-fits f n key below fits = value_set key f n below fits
 
 merged-below : (width n value mask : ℕ) → n < 2 ^ width → mask < 2 ^ width → merged n value mask < 2 ^ width
 merged-below width n value mask below mask_below =
     let replaced = bit_and (bit_xor n value) mask in
     xor_lt width n replaced below (omega (arith, mask_below, and_le_r (bit_xor n value) mask))
 
-written-key : (f : FieldId) (value mask : ℕ) (key : List ℕ) → mask < 2 ^ width_of f → IsKey key → IsKey (written f value mask key)
-written-key f value mask key below is_key =
-    let changed : IsKey (with_value f (merged (value_of key f) value mask) key) =
-    with_value-key f (merged (value_of key f) value mask) key (merged-below (width_of f) (value_of key f) value mask (within_width key f is_key) below) is_key in
-    elim (mask == 0) as (λ b. IsKey (if b then key else with_value f (merged (value_of key f) value mask) key)) [ true ↦ is_key | false ↦ changed ]
+written-fits : (f : FieldId) (value mask : ℕ) (key : List ℕ) → mask < 2 ^ width_of f → FitsFields key → FitsFields (written f value mask key)
+written-fits f value mask key below fits =
+    let changed : FitsFields (with_value f (merged (value_of key f) value mask) key) =
+    with_value-fits f (merged (value_of key f) value mask) key (λ h. merged-below (width_of f) (value_of key f) value mask (value_fits key f fits h) below) fits in
+    elim (mask == 0) as (λ b. FitsFields (if b then key else with_value f (merged (value_of key f) value mask) key)) [ true ↦ fits | false ↦ changed ]
 
 written_bits-below : (n : NamedField) (bits : ℕ) → written_bits n bits < 2 ^ width_of (named n).field
 written_bits-below n bits =
@@ -62,14 +57,14 @@ written_bits-below n bits =
 
 -- ---- states
 
--- both keys are within the widths of the fields, and the actions within the fields that they write
+-- both keys fit the fields that datapath actions write, and the actions are within them
 record IsWithin (s : State) : Type 0 where
-  current : IsKey s.current
-  base : IsKey s.base
+  current : FitsFields s.current
+  base : FitsFields s.base
   actions : are_within s.actions
 
-with_key : (key : List ℕ) (s : State) → IsKey key → IsWithin s → IsWithin (record s { current = key })
-with_key key s is_key h = record { current = is_key; base = h.base; actions = h.actions }
+with_key : (key : List ℕ) (s : State) → FitsFields key → IsWithin s → IsWithin (record s { current = key })
+with_key key s fits h = record { current = fits; base = h.base; actions = h.actions }
 
 if_within : (b : Bool) (s t : State) → IsWithin s → IsWithin t → IsWithin (if b then s else t)
 if_within true s t first second = first
@@ -92,7 +87,7 @@ emit_all-within (a ∷ actions) s within h =
 committed-within : (s : State) → IsWithin s → IsWithin (committed s)
 unfolding committed
 committed-within s h =
-    let k = emit_all-within (commit s.base s.current) s (commit_within s.base s.current h.base h.current) h in
+    let k = emit_all-within (commit s.base s.current) s (commit_from_fits s.base s.current h.base h.current) h in
     record { current = k.current; base = k.current; actions = k.actions }
 
 outputs-within : (ports : List ℕ) → are_within (map datapath.Output ports)
@@ -111,18 +106,18 @@ output_all-within (p ∷ ports) s h = emit_all-within (map datapath.Output (p �
 write-within : (name : NamedField) (value bits : ℕ) (s : State) → IsWithin s → IsWithin (write name value bits s)
 unfolding write
 write-within name value bits s h =
-    let is_key = written-key (named name).field (in_field name value) (written_bits name bits) s.current (written_bits-below name bits) h.current in
-    if_within (is_met (named name).write_needs s.current) _ _ (with_key _ s is_key h) h
+    let fits = written-fits (named name).field (in_field name value) (written_bits name bits) s.current (written_bits-below name bits) h.current in
+    if_within (is_met (named name).write_needs s.current) _ _ (with_key _ s fits h) h
 
 write_tag-within : (value bits : ℕ) (s : State) → bits + tag_bit < 2 ^ width_of field.VlanTci → IsWithin s → IsWithin (write_tag value bits s)
-write_tag-within value bits s below h = with_key _ s (written-key field.VlanTci (value + tag_bit) (bits + tag_bit) s.current below h.current) h
+write_tag-within value bits s below h = with_key _ s (written-fits field.VlanTci (value + tag_bit) (bits + tag_bit) s.current below h.current) h
 
 lower_ttl-within : (s : State) → IsWithin s → IsWithin (lower_ttl s)
 lower_ttl-within s h =
     let ttl = value_of s.current field.NwTtl in
-    let below : ttl - 1 < 2 ^ width_of field.NwTtl = omega (arith, within_width s.current field.NwTtl h.current) in
+    let below : ttl - 1 < 2 ^ width_of field.NwTtl = omega (arith, value_fits s.current field.NwTtl h.current refl) in
     if_within (nat_le ttl 1) _ _ (record { current = h.current; base = h.base; actions = h.actions })
-    (with_key _ s (with_value-key field.NwTtl (ttl - 1) s.current below h.current) h)
+    (with_key _ s (with_value-fits field.NwTtl (ttl - 1) s.current (λ written. below) h.current) h)
 
 -- A lookup keeps a state so.
 unfoldable KeepsWithin : (ℕ → State → State) → Type 0
@@ -141,10 +136,10 @@ act-within sw sub keeps (Goto table) s h = keeps table s h
 act-within sw sub keeps (Set name value mask) s h = write-within name value mask s h
 act-within sw sub keeps (Move source target) s h = write-within target.name (slice_of s.current source * 2 ^ target.low) (slice_bits target) s h
 act-within sw sub keeps DecTtl s h = if_within (is_met needs.Ip s.current) (lower_ttl s) s (lower_ttl-within s h) h
-act-within sw sub keeps PushVlan s h =
+act-within sw sub keeps (PushVlan tpid) s h =
     if_within (is_full s.current) _ _ (record { current = h.current; base = h.base; actions = h.actions })
-    (with_key _ s (tagged-key tag_bit s.current (lit< tt) h.current) h)
-act-within sw sub keeps PopVlan s h = with_key _ s (tagged-key 0 s.current (lit< tt) h.current) h
+    (with_key _ s (pushed_fits tpid s.current h.current) h)
+act-within sw sub keeps PopVlan s h = with_key _ s (popped_fits s.current h.current) h
 act-within sw sub keeps (SetVid vid) s h = write_tag-within vid vid_bits s (lit< tt) h
 act-within sw sub keeps (SetPcp pcp) s h = write_tag-within (pcp * pcp_unit) pcp_bits s (lit< tt) h
 
@@ -181,7 +176,7 @@ look-within sw (suc depths) = λ table s h. enter-within sw (look sw depths) (lo
 
 last_state-within : (sw : Switch) (key : List ℕ) → IsKey key → IsWithin (last_state sw key)
 unfolding last_state KeepsWithin
-last_state-within sw key is_key = look-within sw (deepest + 1) 0 (start key) (record { current = is_key; base = is_key; actions = refl })
+last_state-within sw key is_key = look-within sw (deepest + 1) 0 (start key) (record { current = fits_from_key key is_key; base = fits_from_key key is_key; actions = refl })
 
 kept-within : (m : Mode) (actions : List DpAction) → are_within actions → are_within (kept m actions)
 kept-within Going actions h = h

@@ -11,8 +11,8 @@
 //!   it had, and perhaps a part of the text after it.
 //! - It is asked of a list that its values and masks are within the fields that they are written to. Of keys within
 //!   the widths of the fields each list that commit gives is so (`commit_is_within_fields`), and with it that of every
-//!   translation, whatever the rules are (`translation_is_within_fields`): keys stay within the widths, and of a field
-//!   the bits that differ are written.
+//!   translation, whatever the rules are (`translation_is_within_fields`): keys stay within the widths, but for the types
+//!   of tags, which aren't written as fields, and of a field the bits that differ are written.
 //!
 //! # How
 //!

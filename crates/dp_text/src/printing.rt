@@ -8,7 +8,7 @@ use field_text::{Bits, ItemPrinter, name_of, own_name, print_list, print_value, 
 use ovs_fields::FieldId;
 use spec_actions::DpAction;
 use std::alloc::AllocError;
-use text_numbers::{print_decimal, print_word};
+use text_numbers::{print_decimal, print_hexadecimal4, print_word};
 
 // The parts of a tag's content (IEEE 802.1Q, 9.6): the priority in the most significant bits, the VLAN identifier in the
 // least significant ones.
@@ -28,10 +28,27 @@ fn identifier_of(tci: u16) -> u16
     tci % (1 << IDENTIFIER_WIDTH)
 }
 
-fn print_push(out: &mut String, tci: u16) -> Result<(), AllocError>
-    ensures { Adds out.old out.new (printed.dp_action_text (DpAction.PushVlan tci)) result }
+// The type of a customer's tag (IEEE 802.1Q, table 9-1).
+const CUSTOMER_TAG: u16 = 0x8100;
+
+// The type of a tag, where it isn't a customer's.
+fn print_tag_type(out: &mut String, tpid: u16) -> Result<(), AllocError>
+    ensures { Adds out.old out.new (printed.tag_type_text tpid) result }
 {
-    print_word(out, "push_vlan(vid=")?;
+    if tpid == CUSTOMER_TAG {
+        return Ok(());
+    }
+    print_word(out, "tpid=")?;
+    print_hexadecimal4(out, tpid)?;
+    print_word(out, ",")
+}
+
+fn print_push(out: &mut String, tpid: u16, tci: u16) -> Result<(), AllocError>
+    ensures { Adds out.old out.new (printed.dp_action_text (DpAction.PushVlan tpid tci)) result }
+{
+    print_word(out, "push_vlan(")?;
+    print_tag_type(out, tpid)?;
+    print_word(out, "vid=")?;
     print_decimal(out, u128::from(identifier_of(tci)))?;
     print_word(out, ",pcp=")?;
     print_decimal(out, u128::from(priority_of(tci)))?;
@@ -59,7 +76,7 @@ fn print_action(out: &mut String, action: DpAction) -> Result<(), AllocError>
     match action {
         DpAction::Output(port) => print_decimal(out, u128::from(port)),
         DpAction::PopVlan => print_word(out, "pop_vlan"),
-        DpAction::PushVlan { tci } => print_push(out, tci),
+        DpAction::PushVlan { tpid, tci } => print_push(out, tpid, tci),
         DpAction::Set { field, value, mask } => print_set(out, field, Bits { value, mask }),
     }
 }

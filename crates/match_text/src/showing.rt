@@ -13,7 +13,7 @@ use field_text::{
     UDP_PROTOCOL, within_mask,
 };
 use named_fields::NamedField;
-use ovs_fields::{FieldId, width};
+use ovs_fields::FieldId;
 use rule_tables::Match;
 
 // What a match states of a field.

@@ -31,7 +31,7 @@ pub returns-in-DecTtl : goal.returns-in-DecTtl
 returns-in-DecTtl c = rw c.in-DecTtl.is c.print_word-in-DecTtl.ensures
 
 pub returns-in-PushVlan : goal.returns-in-PushVlan
-returns-in-PushVlan c = rw c.in-PushVlan.is c.print_word-in-PushVlan.ensures
+returns-in-PushVlan c = rw c.in-PushVlan.is c.print_push.ensures
 
 pub returns-in-PopVlan : goal.returns-in-PopVlan
 returns-in-PopVlan c = rw c.in-PopVlan.is c.print_word-in-PopVlan.ensures
