@@ -25,13 +25,14 @@
 //!
 //! The bytes are walked once, line by line. Lines and words are parts of the bytes: nothing is copied but the numbers that
 //! they spell. An edit takes memory for its actions, and for what its match states, which is given back with the line. A
-//! line is looked at a few times: for its end, for its comment, for white space, and by the readers of matches and actions.
+//! line is looked at a few times: for its end, for its comment and its first word, which tells what the line is, and by the
+//! readers of edits, matches and actions.
 //!
 //! What is read so far stands in one `Script`, to which each line adds, and beside it where the bundle was begun that the
 //! lines are in. A bundle is told by how many edits stand through it; an edit outside of one closes its own at once. A sync
 //! point counts the bundles that stand there.
 //!
-//! Each function reads what one definition says, and has its name.
+//! Most functions read what one definition says, and have its name.
 //!
 //! # What is left to others
 //!

@@ -1,19 +1,22 @@
-ghost use Rattle.std.specs.Prelude.{◌≡◌, ◌≤◌, length};
-ghost use Rattle.spec_script.specs.Script.{is_blank, begins_with};
+ghost use Rattle.std.specs.Prelude.{◌≡◌, ◌≤◌, ◌==◌, bytes_eq, length};
+ghost use Rattle.spec_flow_text.specs.Lines.{first_word as word_at_start};
+ghost use Rattle.spec_flow_text.specs.Matches.{uncommented};
+ghost use Rattle.spec_script.specs.Script.{is_blank};
 
-use field_text::{first_word, is_white, uncommented};
+use field_text::{first_word, uncommented};
 
-/// Whether a line has nothing but white space before its comment.
-pub fn is_blank(line: &[u8]) -> bool
-    ensures { result ≡ is_blank line.now }
+/// The first word of a line, before its comment. It is empty where nothing but white space stands there.
+pub fn word_in_front(line: &[u8]) -> &[u8]
+    requires { length line.now ≤ 4_294_967_294 }
+    ensures word { result.now ≡ (word_at_start (uncommented line.now)).text }
+    ensures blank { is_blank line.now ≡ (length result.now == 0) }
 {
-    uncommented(line).iter().all(|byte| is_white(*byte))
+    first_word(uncommented(line)).text
 }
 
-/// Whether this is a line's first word.
-pub fn begins_with(word: &str, line: &[u8]) -> bool
-    requires { length line.now ≤ 4_294_967_294 }
-    ensures { result ≡ begins_with word.now line.now }
+/// Whether a text is this word.
+pub fn is_word(word: &str, text: &[u8]) -> bool
+    ensures { result ≡ bytes_eq word.now text.now }
 {
-    word.as_bytes() == first_word(uncommented(line)).text
+    word.as_bytes() == text
 }

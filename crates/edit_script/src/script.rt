@@ -13,7 +13,7 @@ ghost use Rattle.edit_script.specs.ScriptViews.{script_view, reading_view};
 ghost use Rattle.edit_script.specs.WellFormed.{IsWellFormed};
 
 use crate::edit_line::read_edit;
-use crate::line_words::{begins_with, is_blank};
+use crate::line_words::{is_word, word_in_front};
 use crate::told::in_line;
 use crate::word_lines::{Begun, read_sync_time, read_word_alone};
 use field_text::TextFault;
@@ -204,14 +204,15 @@ fn with_line(
     if line.len() > MOST_LINE_BYTES {
         return Err(ScriptFault::LineTooLong);
     }
-    if is_blank(line) {
+    let word = word_in_front(line);
+    if word.is_empty() {
         return Ok(reading);
     }
-    if begins_with("sync", line) {
+    if is_word("sync", word) {
         with_sync(number, line, reading)
-    } else if begins_with("begin", line) {
+    } else if is_word("begin", word) {
         with_begin(number, line, reading)
-    } else if begins_with("commit", line) {
+    } else if is_word("commit", word) {
         with_commit(number, line, reading)
     } else {
         with_edit(alloc, number, line, reading)
