@@ -18,11 +18,11 @@ struct key {
     u128 ipv6_src, ipv6_dst;
     uint64_t metadata, dl_src, dl_dst, arp_sha, arp_tha;
     uint32_t nw_src, nw_dst, registers[16];
-    uint16_t in_port, dl_type, vlan_tci, tp_src, tp_dst;
+    uint16_t in_port, dl_type, vlan_tci, tp_src, tp_dst, vlan_tpid, vlan_tci2, vlan_tpid2;
     uint8_t nw_proto, nw_tos, nw_ttl, ip_frag;
 };
 
-enum { FIELDS = 34, WHOLE = 0, FIRST = 1, LATER = 3 };
+enum { FIELDS = 37, WHOLE = 0, FIRST = 1, LATER = 3 };
 
 static uint16_t be16(const uint8_t *b) { uint16_t n; memcpy(&n, b, 2); return __builtin_bswap16(n); }
 static uint32_t be32(const uint8_t *b) { uint32_t n; memcpy(&n, b, 4); return __builtin_bswap32(n); }
@@ -112,6 +112,11 @@ static void read_ipv6(struct key *key, const uint8_t *frame, size_t len, size_t 
     read_transport(key, frame, at, end, 58, 4);
 }
 
+/* Whether a whole tag stands here, with a type behind it. */
+static bool is_tag_at(const uint8_t *frame, size_t len, size_t at) {
+    return at + 6 <= len && (be16(frame + at) == 0x8100 || be16(frame + at) == 0x88a8);
+}
+
 static __attribute__((noinline)) void key_of(struct key *key, uint16_t port, const uint8_t *frame, size_t len) {
     memset(key, 0, sizeof *key);
     key->in_port = port;
@@ -120,9 +125,15 @@ static __attribute__((noinline)) void key_of(struct key *key, uint16_t port, con
     size_t at = 12;
     key->dl_dst = be48(frame);
     key->dl_src = be48(frame + 6);
-    if (len >= 18 && (be16(frame + 12) == 0x8100 || be16(frame + 12) == 0x88a8)) {
-        key->vlan_tci = be16(frame + 14) | 0x1000;
-        at = 16;
+    if (is_tag_at(frame, len, at)) {
+        key->vlan_tpid = be16(frame + at);
+        key->vlan_tci = be16(frame + at + 2) | 0x1000;
+        at += 4;
+        if (is_tag_at(frame, len, at)) {
+            key->vlan_tpid2 = be16(frame + at);
+            key->vlan_tci2 = be16(frame + at + 2) | 0x1000;
+            at += 4;
+        }
     }
     uint16_t type = be16(frame + at);
     at += 2;
@@ -163,6 +174,9 @@ static u128 get(const struct key *key, unsigned place) {
     case 31: return key->arp_tha;
     case 32: return key->tp_src;
     case 33: return key->tp_dst;
+    case 34: return key->vlan_tpid;
+    case 35: return key->vlan_tci2;
+    case 36: return key->vlan_tpid2;
     default: return key->registers[place - 2];
     }
 }

@@ -6,7 +6,7 @@ use std::test::Fail;
 const ADDRESSES: [u8; 12] = [0, 0, 0, 0, 0, 2, 0, 0, 0, 0, 0, 1];
 
 const NOWHERE: Layout = Layout {
-    tagged: false,
+    tags: 0,
     l3: L3::None,
     l4: L4::None,
     routed: false,
@@ -24,15 +24,27 @@ fn frame(alloc: Global, parts: &[&[u8]]) -> Result<Vec<u8>, AllocError> {
 fn tag_is_found(rt: HostRuntime) -> Result<(), Fail> {
     // VLAN 5 of priority 5, and the type 0x88b5 for local experiments.
     let mut bytes = frame(rt.alloc(), &[&[0x81, 0, 0xa0, 5, 0x88, 0xb5]])?;
-    let layout = Layout {
-        tagged: true,
-        ..NOWHERE
-    };
+    let layout = Layout { tags: 1, ..NOWHERE };
     assert_eq!(rt; layout_of(&bytes), layout);
 
     // Without its last byte the frame has no whole tag.
     bytes.truncate(17);
     assert_eq!(rt; layout_of(&bytes), NOWHERE);
+    Ok(())
+}
+
+#[test]
+fn two_tags_are_found_and_no_third(rt: HostRuntime) -> Result<(), Fail> {
+    // A provider's tag of VLAN 7, and customers' of VLAN 5 and 6.
+    let tags = [0x88, 0xa8, 0, 7, 0x81, 0, 0, 5, 0x81, 0, 0, 6, 0x88, 0xb5];
+    let mut bytes = frame(rt.alloc(), &[&tags])?;
+    let layout = Layout { tags: 2, ..NOWHERE };
+    assert_eq!(rt; layout_of(&bytes), layout);
+
+    // In 21 bytes there is one whole tag with a type after it.
+    bytes.truncate(21);
+    let layout = Layout { tags: 1, ..NOWHERE };
+    assert_eq!(rt; layout_of(&bytes), layout);
     Ok(())
 }
 
@@ -142,7 +154,7 @@ fn extension_headers_are_passed(rt: HostRuntime) -> Result<(), Fail> {
         ],
     )?;
     let layout = Layout {
-        tagged: false,
+        tags: 0,
         l3: L3::Ipv6(14),
         l4: L4::Udp(78),
         routed: true,

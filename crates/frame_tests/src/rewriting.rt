@@ -95,7 +95,10 @@ fn tag_is_pushed_and_popped(rt: HostRuntime) -> Result<(), Fail> {
     let bytes = plain(rt.alloc())?;
     let mut frame = FrameBuffer::new(rt.alloc());
     frame.load(&bytes)?;
-    frame.apply(&DpAction::PushVlan { tci: 0x1005 })?;
+    frame.apply(&DpAction::PushVlan {
+        tpid: 0x8100,
+        tci: 0x1005,
+    })?;
     assert_eq!(rt; frame.as_slice().len(), 64);
     assert_eq!(rt; &frame.as_slice()[..12], ADDRESSES.as_slice());
     assert_eq!(rt;
@@ -104,6 +107,37 @@ fn tag_is_pushed_and_popped(rt: HostRuntime) -> Result<(), Fail> {
     );
     frame.apply(&DpAction::PopVlan)?;
     assert_eq!(rt; frame.as_slice(), bytes.as_slice());
+    Ok(())
+}
+
+const INNER_TAG: DpAction = DpAction::PushVlan {
+    tpid: 0x8100,
+    tci: 0x1005,
+};
+
+#[test]
+fn second_tag_is_pushed_outside_of_the_first(rt: HostRuntime) -> Result<(), Fail> {
+    let bytes = plain(rt.alloc())?;
+    let mut once = FrameBuffer::new(rt.alloc());
+    once.load(&bytes)?;
+    once.apply(&INNER_TAG)?;
+
+    let mut twice = FrameBuffer::new(rt.alloc());
+    twice.load(&bytes)?;
+    twice.apply(&INNER_TAG)?;
+    twice.apply(&DpAction::PushVlan {
+        tpid: 0x88a8,
+        tci: 0x7064,
+    })?;
+    assert_eq!(rt; twice.as_slice().len(), 68);
+    assert_eq!(rt;
+        &twice.as_slice()[12..22],
+        [0x88, 0xa8, 0x60, 100, 0x81, 0, 0, 5, 0x88, 0xb5].as_slice()
+    );
+    twice.apply(&DpAction::PopVlan)?;
+    assert_eq!(rt; twice.as_slice(), once.as_slice());
+    twice.apply(&DpAction::PopVlan)?;
+    assert_eq!(rt; twice.as_slice(), bytes.as_slice());
     Ok(())
 }
 

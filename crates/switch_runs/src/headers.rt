@@ -13,6 +13,12 @@ pub const IPV4: &str = "0800";
 /// A tag of VLAN 5.
 pub const TAG_5: &str = "81000005";
 
+/// A tag of VLAN 10.
+pub const TAG_10: &str = "8100000a";
+
+/// A service tag of VLAN 100.
+pub const SERVICE_TAG_100: &str = "88a80064";
+
 /// A header of IPv4 from 10.0.0.1 to 10.0.0.2 for UDP, with TTL 64.
 pub const TTL_64: &str = "4500001c00000000401166cf0a0000010a000002";
 

@@ -1,10 +1,7 @@
 //! Runs that show which fields a megaflow is about.
 
-use switch_runs::cases::{Bytes, NO_FRAMES, Run, TWO_TRACES, WORDS};
-use switch_runs::headers::{
-    ARP, FIRST_FRAGMENT, FROM_WEB, IPV4, NEAR, NEAR_TCP, QUESTION, TCP, TCP_ANSWER, TO_2, TO_FAR,
-    TO_WEB, TO_WEB_LOWERED, UDP,
-};
+use switch_runs::cases::{Bytes, NO_FRAMES, Run, WORDS};
+use switch_runs::headers::{FIRST_FRAGMENT, IPV4, NEAR, NEAR_TCP, TO_2, TO_FAR, UDP};
 use switch_runs::known::WEB;
 
 /// Runs with rules about packets of IPv4.

@@ -2,8 +2,7 @@
 
 use switch_runs::cases::{Bytes, NO_FRAMES, Outlets, Run};
 use switch_runs::headers::{
-    ARP, FROM_9, FROM_WEB, IPV4, QUESTION, TCP, TCP_ANSWER, TO_2, TO_WEB, TO_WEB_LOWERED, TTL_64,
-    UDP,
+    ARP, FROM_WEB, IPV4, QUESTION, TCP, TCP_ANSWER, TO_2, TO_WEB, TO_WEB_LOWERED, UDP,
 };
 use switch_runs::known::{FORWARDED, MIRRORED_FLOW, TWO_DATAGRAMS, WEB};
 

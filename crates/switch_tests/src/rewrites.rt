@@ -1,12 +1,10 @@
 //! Runs that show how frames are rewritten.
 
 use switch_runs::cases::{Bytes, NO_FRAMES, Run, THREE_PORTS, WORDS};
-use switch_runs::headers::{
-    FIRST_FRAGMENT, FROM_9, IPV4, TAG_5, TO_2, TTL_1, TTL_63, TTL_64, UDP, UNKNOWN,
-};
+use switch_runs::headers::{FIRST_FRAGMENT, FROM_9, IPV4, TO_2, TTL_1, TTL_63, TTL_64, UDP};
 
 /// Runs that rewrite frames.
-pub static REWRITES: [Run<'static>; 10] = [
+pub static REWRITES: [Run<'static>; 8] = [
     Run {
         shows: "a source address is written, its checksum follows, and UDP without a checksum stays so",
         words: WORDS,
@@ -157,39 +155,5 @@ pub static REWRITES: [Run<'static>; 10] = [
         journal: "port 1|begin 1|end|look 1 miss|settle 1 1 installed 1|port 2|begin 1|end|port 3|begin 1|end",
         summary: "ports=3 frames=1 edits=1 blocks=1|exact=0 mega=0 miss=1|installed=1 present=0 full=0|\
             sent=4 dropped=0 entries=1",
-    },
-    Run {
-        shows: "a VLAN identifier pushes a tag",
-        words: WORDS,
-        edits: "in_port=1,actions=mod_vlan_vid:5,2",
-        traces: &[("a.pcap", Bytes::At(&[1]))],
-        sent: &[
-            (1, NO_FRAMES),
-            (2, Bytes::Headers(&[(1, &[TO_2, TAG_5, UNKNOWN])])),
-        ],
-        rules: "cookie=0x0, table=0, n_packets=1, n_bytes=60, priority=32768,in_port=1 \
-            actions=mod_vlan_vid:5,output:2 # rule=1",
-        megaflows: "port=1 entry=1 version=1 packets=0 bytes=0 owed_packets=0 owed_bytes=0 used=1.000000000 \
-            visits=1 match=in_port=1,dl_type=0x88b5,vlan_tci=0x0000 actions=push_vlan(vid=5,pcp=0),2",
-        journal: "port 1|begin 1|end|look 1 miss|settle 1 1 installed 1|port 2|begin 1|end",
-        summary: "ports=2 frames=1 edits=1 blocks=1|exact=0 mega=0 miss=1|installed=1 present=0 full=0|\
-            sent=1 dropped=0 entries=1",
-    },
-    Run {
-        shows: "a tag is popped",
-        words: WORDS,
-        edits: "in_port=1,vlan_tci=0x1000/0x1000,actions=pop_vlan,2",
-        traces: &[(
-            "a.pcap",
-            Bytes::Headers(&[(1, &[TO_2, "88a86005", UNKNOWN])]),
-        )],
-        sent: &[(1, NO_FRAMES), (2, Bytes::At(&[1]))],
-        rules: "cookie=0x0, table=0, n_packets=1, n_bytes=64, \
-            priority=32768,in_port=1,vlan_tci=0x1000/0x1000 actions=pop_vlan,output:2 # rule=1",
-        megaflows: "port=1 entry=1 version=1 packets=0 bytes=0 owed_packets=0 owed_bytes=0 used=1.000000000 \
-            visits=1 match=in_port=1,dl_type=0x88b5,vlan_tci=0x7005 actions=pop_vlan,2",
-        journal: "port 1|begin 1|end|look 1 miss|settle 1 1 installed 1|port 2|begin 1|end",
-        summary: "ports=2 frames=1 edits=1 blocks=1|exact=0 mega=0 miss=1|installed=1 present=0 full=0|\
-            sent=1 dropped=0 entries=1",
     },
 ];

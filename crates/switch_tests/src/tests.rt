@@ -7,6 +7,7 @@ use crate::rewrites::REWRITES;
 use crate::rules::RULES;
 use crate::schedules::SCHEDULES;
 use crate::sending::{IN_NANOSECONDS, SENDING};
+use crate::tags::TAGS;
 use edge_memory::MemoryShelf;
 use std::alloc::{AllocError, Global};
 use std::sync::Wait;
@@ -67,6 +68,12 @@ fn caches_decide_as_the_tables_do(rt: HostRuntime) -> Result<(), Fail> {
 #[test]
 fn each_frame_is_sent_as_its_actions_rewrite_it(rt: HostRuntime) -> Result<(), Fail> {
     assert_eq!(rt; first_that_differs(&rt, rt.alloc(), &REWRITES)?, None);
+    Ok(())
+}
+
+#[test]
+fn tags_are_pushed_and_popped(rt: HostRuntime) -> Result<(), Fail> {
+    assert_eq!(rt; first_that_differs(&rt, rt.alloc(), &TAGS)?, None);
     Ok(())
 }
 

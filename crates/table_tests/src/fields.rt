@@ -7,7 +7,7 @@ fn the_zero_key_has_0_in_each_field(rt: HostRuntime) {
     let fields = all_fields();
     assert_eq!(rt; fields.len(), FIELD_COUNT);
     assert_eq!(rt; fields[0], FieldId::InPort);
-    assert_eq!(rt; fields[FIELD_COUNT - 1], FieldId::TpDst);
+    assert_eq!(rt; fields[FIELD_COUNT - 1], FieldId::VlanTpid2);
     for field in fields {
         assert_eq!(rt; Key::zero().get(*field), 0);
     }
@@ -19,6 +19,8 @@ fn fields_have_widths_and_stages(rt: HostRuntime) {
     assert_eq!(rt; width(FieldId::IpFrag), 2);
     assert_eq!(rt; stage(FieldId::InPort), 0);
     assert_eq!(rt; stage(FieldId::TpDst), 3);
+    assert_eq!(rt; width(FieldId::VlanTpid2), 16);
+    assert_eq!(rt; stage(FieldId::VlanTci2), 1);
 }
 
 #[test]
@@ -60,7 +62,7 @@ fn keys_agree_under_a_mask(rt: HostRuntime) {
 
 #[test]
 fn hash_of_the_zero_key(rt: HostRuntime) {
-    assert_eq!(rt; key_hash(&Key::zero()), 0xb0f1_e1ed_2939_f27d);
+    assert_eq!(rt; key_hash(&Key::zero()), 0xeb4f_6126_0020_abd5);
 }
 
 #[test]
@@ -76,7 +78,7 @@ fn hash_of_a_udp_frame(rt: HostRuntime) {
     key.set(FieldId::NwTtl, 64);
     key.set(FieldId::TpSrc, 1000);
     key.set(FieldId::TpDst, 53);
-    assert_eq!(rt; key_hash(&key), 0x9737_545b_cada_6fe7);
+    assert_eq!(rt; key_hash(&key), 0xe381_0faf_50a6_946f);
 }
 
 #[test]
@@ -85,12 +87,15 @@ fn hash_of_the_fields_that_a_udp_frame_leaves_zero(rt: HostRuntime) {
     key.set(FieldId::Metadata, 0x0102_0304_0506_0708);
     key.set(FieldId::Reg0, 1);
     key.set(FieldId::Reg15, 0xffff_fffe);
-    key.set(FieldId::VlanTci, 0x100a);
+    key.set(FieldId::VlanTci, 0x1014);
+    key.set(FieldId::VlanTpid, 0x88a8);
+    key.set(FieldId::VlanTci2, 0x100a);
+    key.set(FieldId::VlanTpid2, 0x8100);
     key.set(FieldId::Ipv6Src, 0x2001_0db8_0000_0000_0000_0000_0000_0001);
     key.set(FieldId::Ipv6Dst, 0xff02_0000_0000_0000_0000_0000_0000_0002);
     key.set(FieldId::NwTos, 0xb8);
     key.set(FieldId::IpFrag, 3);
     key.set(FieldId::ArpSha, 0x0200_0000_00a1);
     key.set(FieldId::ArpTha, 0x0200_0000_00b2);
-    assert_eq!(rt; key_hash(&key), 0x7a5a_9805_46ce_4661);
+    assert_eq!(rt; key_hash(&key), 0xeef0_9530_e6ad_d5ec);
 }

@@ -13,6 +13,8 @@ const IN_PORT_BITS: u128 = 0xffff;
 
 const DL_DST_BITS: u128 = 0xffff_ffff_ffff;
 
+const VLAN_TCI_BITS: u128 = 0xffff;
+
 /// `in_port=1`
 pub fn port_1() -> Match {
     let mut key = Key::zero();
@@ -30,6 +32,15 @@ pub fn port_1_to_2() -> Match {
     let mut mask = Mask::none();
     mask.add(FieldId::InPort, IN_PORT_BITS);
     mask.add(FieldId::DlDst, DL_DST_BITS);
+    Match { key, mask }
+}
+
+/// `vlan_tci=0x100a`
+fn vlan_10() -> Match {
+    let mut key = Key::zero();
+    key.set(FieldId::VlanTci, 0x100a);
+    let mut mask = Mask::none();
+    mask.add(FieldId::VlanTci, VLAN_TCI_BITS);
     Match { key, mask }
 }
 
@@ -102,6 +113,30 @@ fn a_rule_is_told_as_it_was_added_and_found_where_it_matches(rt: HostRuntime) ->
     assert_eq!(rt; rules.scan(0, 0, &key), None);
     assert_eq!(rt; rules.scan(3, 0, &key), Some(1));
     assert_eq!(rt; rules.scan(4, 0, &key), None);
+    Ok(())
+}
+
+/// A rule for the packets whose outer tag is of VLAN 10.
+fn rule_of_vlan_10(alloc: Global) -> Result<VersionedRules, AllocError>
+    ensures { IfOk result (λ rules. newest rules ≡ 1) }
+{
+    let mut rules = VersionedRules::new(alloc);
+    rules.apply(&[edit(alloc, EditWord::Add, None, vlan_10(), 2)?])?;
+    Ok(rules)
+}
+
+#[test]
+fn of_two_tags_the_outer_one_is_matched(rt: HostRuntime) -> Result<(), Fail> {
+    let rules = rule_of_vlan_10(rt.alloc())?;
+    let mut key = Key::zero();
+    key.set(FieldId::VlanTpid, 0x88a8);
+    key.set(FieldId::VlanTci, 0x1014);
+    key.set(FieldId::VlanTpid2, 0x8100);
+    key.set(FieldId::VlanTci2, 0x100a);
+    assert_eq!(rt; rules.scan(1, 0, &key), None);
+    key.set(FieldId::VlanTci, 0x100a);
+    key.set(FieldId::VlanTci2, 0x1014);
+    assert_eq!(rt; rules.scan(1, 0, &key), Some(1));
     Ok(())
 }
 

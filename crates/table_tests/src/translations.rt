@@ -167,3 +167,102 @@ fn a_flood_goes_out_in_rising_order(rt: HostRuntime) -> Result<(), Fail> {
     assert_eq!(rt; nowhere.actions.len(), 0);
     Ok(())
 }
+
+/// The type of a customer's tag, and of a service provider's (IEEE 802.1Q, table 9-1).
+const CUSTOMER: u16 = 0x8100;
+
+const SERVICE: u16 = 0x88a8;
+
+/// The key of a packet with a customer's tag of VLAN 10.
+fn one_tag() -> Key {
+    let mut key = Key::zero();
+    key.set(FieldId::InPort, 1);
+    key.set(FieldId::VlanTpid, u128::from(CUSTOMER));
+    key.set(FieldId::VlanTci, 0x100a);
+    key
+}
+
+/// The key of a packet with a service provider's tag of VLAN 20, outside of a customer's of VLAN 10.
+fn two_tags() -> Key {
+    let mut key = Key::zero();
+    key.set(FieldId::InPort, 1);
+    key.set(FieldId::VlanTpid, u128::from(SERVICE));
+    key.set(FieldId::VlanTci, 0x1014);
+    key.set(FieldId::VlanTpid2, u128::from(CUSTOMER));
+    key.set(FieldId::VlanTci2, 0x100a);
+    key
+}
+
+/// What is done with a packet of this key by these actions.
+fn done(alloc: Global, actions: &[OfAction], key: &Key) -> Result<Vec<DpAction>, AllocError>
+    requires { AreSound actions.now }
+{
+    let rules = two_tables(alloc, actions, &[])?;
+    let made = plain(alloc, &rules, 2, &PORTS, key)?;
+    Ok(made.actions.into_vec())
+}
+
+#[test]
+fn a_tag_is_pushed_outside_of_another(rt: HostRuntime) -> Result<(), Fail> {
+    let actions = [
+        OfAction::PushVlan(SERVICE),
+        OfAction::SetVid(20),
+        OfAction::Output(2),
+    ];
+    let pushed = DpAction::PushVlan {
+        tpid: SERVICE,
+        tci: 0x1014,
+    };
+    let actions = done(rt.alloc(), &actions, &one_tag())?;
+    assert_eq!(rt;
+        actions.as_slice(),
+        [pushed, DpAction::Output(2)].as_slice()
+    );
+    Ok(())
+}
+
+#[test]
+fn a_third_tag_ends_a_translation(rt: HostRuntime) -> Result<(), Fail> {
+    let actions = [
+        OfAction::Output(2),
+        OfAction::PushVlan(CUSTOMER),
+        OfAction::Output(2),
+    ];
+    let actions = done(rt.alloc(), &actions, &two_tags())?;
+    assert_eq!(rt; actions.len(), 0);
+    Ok(())
+}
+
+#[test]
+fn a_pop_takes_the_outer_tag(rt: HostRuntime) -> Result<(), Fail> {
+    let actions = [
+        OfAction::PopVlan,
+        OfAction::Output(2),
+        OfAction::PopVlan,
+        OfAction::Output(2),
+    ];
+    let actions = done(rt.alloc(), &actions, &two_tags())?;
+    let out = DpAction::Output(2);
+    assert_eq!(rt;
+        actions.as_slice(),
+        [DpAction::PopVlan, out, DpAction::PopVlan, out].as_slice()
+    );
+    Ok(())
+}
+
+// The identifier that is written is that of the inner tag, which keeps its type.
+#[test]
+fn after_a_pop_the_inner_tag_is_written(rt: HostRuntime) -> Result<(), Fail> {
+    let actions = [OfAction::PopVlan, OfAction::SetVid(30), OfAction::Output(2)];
+    let pushed = DpAction::PushVlan {
+        tpid: CUSTOMER,
+        tci: 0x101e,
+    };
+    let actions = done(rt.alloc(), &actions, &two_tags())?;
+    let pop = DpAction::PopVlan;
+    assert_eq!(rt;
+        actions.as_slice(),
+        [pop, pop, pushed, DpAction::Output(2)].as_slice()
+    );
+    Ok(())
+}

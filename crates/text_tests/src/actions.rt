@@ -1,6 +1,5 @@
 use action_text::{OfAction, TextFault, print_actions, read_actions};
 use spec_actions::{NamedField, Slice};
-use std::process::Abort;
 use std::test::Fail;
 
 #[test]
@@ -27,6 +26,31 @@ fn actions_of_a_line_and_their_text(rt: HostRuntime) -> Result<(), Fail> {
     print_actions(actions.as_slice(), &mut text)?;
     let printed = "set_field:0x50/0xf0->reg0,output:in_port[0..15],resubmit(,1),goto_table:254";
     assert_eq!(rt; text.as_str(), printed);
+    Ok(())
+}
+
+#[test]
+fn tags_of_both_types_are_pushed(rt: HostRuntime) -> Result<(), Fail> {
+    let line = b"actions=push_vlan:33024,push_vlan:0x88a8,strip_vlan";
+    let actions = read_actions(rt.alloc(), line, 8)?;
+    let expected = [
+        OfAction::PushVlan(0x8100),
+        OfAction::PushVlan(0x88a8),
+        OfAction::PopVlan,
+    ];
+    assert_eq!(rt; actions.as_slice(), expected.as_slice());
+    let mut text = String::new(rt.alloc());
+    print_actions(actions.as_slice(), &mut text)?;
+    assert_eq!(rt; text.as_str(), "push_vlan:0x8100,push_vlan:0x88a8,pop_vlan");
+    Ok(())
+}
+
+#[test]
+fn a_tag_of_another_type_is_refused(rt: HostRuntime) -> Result<(), Fail> {
+    match read_actions(rt.alloc(), b"actions=push_vlan:0x9100", 8) {
+        Err(TextFault::BadValue { col }) => assert_eq!(rt; col, 19),
+        _ => assert!(rt; false),
+    }
     Ok(())
 }
 

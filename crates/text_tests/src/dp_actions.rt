@@ -1,6 +1,5 @@
 use dp_text::{DpAction, print_dp_actions};
 use ovs_fields::FieldId;
-use std::process::Abort;
 use std::test::Fail;
 
 #[test]
@@ -8,7 +7,17 @@ fn datapath_actions_have_their_texts(rt: HostRuntime) -> Result<(), Fail> {
     let mut text = String::new(rt.alloc());
     print_dp_actions(&[], &mut text)?;
     text.push('\n')?;
-    let tagged = [DpAction::PushVlan { tci: 0x1005 }, DpAction::Output(2)];
+    let tagged = [
+        DpAction::PushVlan {
+            tpid: 0x8100,
+            tci: 0x1005,
+        },
+        DpAction::PushVlan {
+            tpid: 0x88a8,
+            tci: 0x1064,
+        },
+        DpAction::Output(2),
+    ];
     print_dp_actions(&tagged, &mut text)?;
     text.push('\n')?;
     let written = [
@@ -42,7 +51,7 @@ fn datapath_actions_have_their_texts(rt: HostRuntime) -> Result<(), Fail> {
         },
     ];
     print_dp_actions(&written, &mut text)?;
-    let expected = "drop\npush_vlan(vid=5,pcp=0),2\n\
+    let expected = "drop\npush_vlan(vid=5,pcp=0),push_vlan(tpid=0x88a8,vid=100,pcp=0),2\n\
         set(dl_dst=00:00:00:00:00:00/00:00:00:00:00:05),pop_vlan,set(nw_src=0.0.0.8/0.0.0.8),\
         set(nw_ttl=0x3f/0x7f),2,set(nw_ttl=255),3,\
         set(reg0=0x1/0x3)";

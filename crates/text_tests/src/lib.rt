@@ -11,6 +11,8 @@ mod dp_actions;
 #[cfg(test)]
 mod matches;
 #[cfg(test)]
+mod megaflows;
+#[cfg(test)]
 mod scripts;
 #[cfg(test)]
 mod values;

@@ -31,6 +31,18 @@ fn a_trace_is_through_the_rules_of_all_bundles(rt: HostRuntime) -> Result<(), Fa
 }
 
 #[test]
+fn two_tags_are_told_with_their_types(rt: HostRuntime) -> Result<(), Fail> {
+    let trace = Trace {
+        edits: "actions=push_vlan:0x8100,push_vlan:0x88a8,2\n",
+        words: &words_for("in_port=1"),
+        status: 0,
+        text: "flow: in_port=1\n0 table=0 rule=1 priority=32768 actions=push_vlan:0x8100,push_vlan:0x88a8,output:2\nlast: in_port=1,vlan_tci=0x1000,vlan_tpid=0x88a8,vlan_tci2=0x1000,vlan_tpid2=0x8100\nmegaflow: in_port=1,dl_type=0x0000,vlan_tci=0x0000,vlan_tpid=0x0000,vlan_tci2=0x0000,vlan_tpid2=0x0000\ndatapath: push_vlan(vid=0,pcp=0),push_vlan(tpid=0x88a8,vid=0,pcp=0),2\n",
+    };
+    assert!(rt; ends_as_shown(rt.alloc(), &trace, NONE, NONE)?);
+    Ok(())
+}
+
+#[test]
 fn the_port_of_the_flow_is_one_of_the_switch(rt: HostRuntime) -> Result<(), Fail> {
     let trace = Trace {
         edits: TO_AN_EMPTY_TABLE,
