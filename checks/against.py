@@ -1,5 +1,5 @@
 #!/usr/bin/env python3
-"""Runs tools/against-ovs on the examples: no frame may leave otherwise than in Open vSwitch.
+"""Runs tools/against-ovs on the examples: no frame may leave otherwise than in Open vSwitch, but those that are known to.
 
     python3 against.py PROGRAM
 
@@ -19,6 +19,17 @@ LEFT_OUT = {
     "replaced-entry": "its steps say which version decides a frame",
     "swapped-rules": "its steps say which version decides a frame",
 }
+# The frames that leave otherwise, each with the difference of docs/OPEN_VSWITCH.md that it shows.
+KNOWN = {
+    "provider-bridge": {"frame 4 of port 1": "a tag is pushed on two tags"},
+}
+
+
+def is_as_known(name, ran):
+    """Whether the frames that left otherwise are those that are known, and nothing else went wrong."""
+    known = KNOWN.get(name, {})
+    frames = {line.partition(",")[0] for line in ran.stdout.splitlines() if line.startswith("frame ")}
+    return frames == known.keys() and ran.returncode == bool(known)
 
 
 def main(words):
@@ -27,7 +38,7 @@ def main(words):
         if example.name not in LEFT_OUT:
             tool = [os.path.join(TOP, "tools", "against-ovs"), "--program", program]
             ran = subprocess.run([*tool, example.edits, *example.ports], cwd=TOP, capture_output=True, text=True)
-            if ran.returncode:
+            if not is_as_known(example.name, ran):
                 print(f"{example.name}: {ran.stdout}{ran.stderr}".strip())
                 wrong += 1
     return wrong > 0

@@ -145,7 +145,6 @@ set_field to a VLAN without its tag bit              | actions=set_field:5->vlan
 a move between widths                                | actions=move:reg0[0..3]->reg1[0..4]        | 1:26 bad value
 a move from a field that is none                     | actions=move:foo[]->in_port[]              | 1:14 unknown name
 a VLAN of thirteen bits to set                       | actions=mod_vlan_vid:4096                  | 1:22 bad value
-a service tag                                        | actions=push_vlan:0x88a8                   | 1:9 unsupported
 a tag of another type                                | actions=push_vlan:0x9100                   | 1:19 bad value
 an address with a mask to set                        | actions=mod_nw_src:10.0.0.0/8              | 1:20 bad value
 """
@@ -185,6 +184,7 @@ a VLAN with its tag bit                              | actions=set_field:0x1005-
 a set_field of no bits                               | actions=set_field:0/0->vlan_tci            |  set_field:0x0000/0x0000->vlan_tci
 the mod actions                                      | actions=mod_dl_src:a:b:c:d:e:f,mod_nw_tos:8,mod_tp_dst:0x50,mod_vlan_vid:0,mod_vlan_pcp:7 |  set_field:0a:0b:0c:0d:0e:0f->dl_src,set_field:8->nw_tos,set_field:80->tp_dst,mod_vlan_vid:0,mod_vlan_pcp:7
 tags                                                 | actions=push_vlan:33024,strip_vlan,pop_vlan |  push_vlan:0x8100,pop_vlan,pop_vlan
+a service tag                                        | actions=push_vlan:34984                    |  push_vlan:0x88a8
 outputs                                              | actions=2,output:0x3,IN_PORT,output:FLOOD,output:in_port[],output:reg1 |  output:2,output:3,in_port,flood,output:in_port[0..15],output:reg1[0..31]
 slices                                               | actions=move:icmp_type->reg0[0..15],move:vlan_vid[]->metadata[51..63],move:reg1[7]->nw_ecn[0x1] |  move:icmp_type[0..15]->reg0[0..15],move:vlan_vid[0..12]->metadata[51..63],move:reg1[7..7]->nw_ecn[1..1]
 tables                                               | actions=resubmit(,0),dec_ttl,goto_table:254 |  resubmit(,0),dec_ttl,goto_table:254

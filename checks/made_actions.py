@@ -151,7 +151,8 @@ class ActionMaker(Picker):
 
     def tag_action(self):
         vlan, priority = self.one(0, 5, 100, 4095), self.one(0, 3, 7)
-        push = self.one("push_vlan:0x8100", f"pop_vlan,push_vlan:33024,set_field:{TAG | vlan}->vlan_vid")
+        kind = self.one("0x8100", "33024", "0x88a8", "34984")
+        push = self.one(f"push_vlan:{kind}", f"pop_vlan,push_vlan:{kind},set_field:{TAG | vlan}->vlan_vid")
         return self.one(f"mod_vlan_vid:{vlan}", f"mod_vlan_pcp:{priority}", "pop_vlan", "strip_vlan", push)
 
     def write(self):

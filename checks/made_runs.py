@@ -43,7 +43,8 @@ ODD_LINES += ["delete actions=1", "ip,tcp,actions=1"]
 ODD_ACTIONS = [["drop", "1"], ["drop "], ["0"], ["65280"], [""], ["1", ""], ["output:"], ["1"] * 64, ["1"] * 65]
 ODD_ACTIONS += [["normal"], ["all"] * 64, ["flood"] * 33, ["resubmit(,0)"], ["resubmit(,1)"] * 64, ["dec_ttl"] * 64]
 WORDS = ["modify", "modify_strict", "delete", "delete_strict"]
-# The fields that may be matched in part, and those of the headers, which need a type and a protocol to be matched.
+# The fields that may be matched, and matched in part, and those of the headers, which need a type and a protocol to be matched.
+MATCHED = {field.key for field in NAMED_FIELDS}
 MASKED = {field.key for field in NAMED_FIELDS if field.masked}
 ETHERNET = ("dl_src", "dl_dst", "vlan_tci")
 NETWORK = ("nw_src", "nw_dst", "ipv6_src", "ipv6_dst", "nw_tos", "nw_ttl", "ip_frag", "arp_sha", "arp_tha")
@@ -338,7 +339,7 @@ class CacheMaker(Maker):
     def veil(self):
         """A rule above the others that tells a frame from another, so that entries are narrow while it is there."""
         key, other = (key_of(self.ports[0], frame) for frame in (self.frames[0], self.one(*self.frames)))
-        names = [name for name in key if key[name] != other.get(name)] or ["dl_dst"]
+        names = [name for name in key if name in MATCHED and key[name] != other.get(name)] or ["dl_dst"]
         mask = {name: full(KEY_FIELD[name].width) for name in ["dl_type", "nw_proto", *names] if name in key}
         items = f"table=0,priority=65535,{print_match(Match(packed(key) & packed(mask), packed(mask)))}"
         self.added += [(0, items)] * VEIL_DELETES

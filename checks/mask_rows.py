@@ -204,7 +204,8 @@ ROWS = {
     # tags
     "a tag that is added": (
         to(2), 1, "in_port=1,actions=mod_vlan_vid:5,2",
-        "1 in_port=1,dl_type=0x88b5,vlan_tci=0x0000 push_vlan(vid=5,pcp=0),2",
+        "1 in_port=1,dl_type=0x88b5,vlan_tci=0x0000,vlan_tpid=0x0000,vlan_tci2=0x0000,vlan_tpid2=0x0000 "
+        "push_vlan(vid=5,pcp=0),2",
     ),
     "a tag is consulted whole, whatever of it is read": (
         plain("8100e007"), 1, "actions=move:vlan_tci[13..15]->reg1[0..2],2",
@@ -214,12 +215,28 @@ ROWS = {
         plain("8100e007"), 1, "dl_vlan=7,actions=2", "1 in_port=1,dl_type=0x88b5,vlan_tci=0x1007/0x1fff 2",
     ),
     "a tag that would be written, without a tag": (
-        to(2), 1, "actions=set_field:3->vlan_pcp,2", "1 in_port=1,dl_type=0x88b5,vlan_tci=0x0000 2",
+        to(2), 1, "actions=set_field:3->vlan_pcp,2",
+        "1 in_port=1,dl_type=0x88b5,vlan_tci=0x0000,vlan_tpid=0x0000,vlan_tci2=0x0000,vlan_tpid2=0x0000 2",
     ),
     "no bits of a tag": (to(2), 1, "actions=set_field:0/0->vlan_tci,2", "1 in_port=1,dl_type=0x88b5 2"),
     "a second tag": (
-        plain("81000007"), 1, "actions=2,push_vlan:0x8100,mod_dl_dst:0:0:0:0:0:7,3",
-        "1 in_port=1,dl_type=0x88b5,vlan_tci=0x1007 drop",
+        plain("8100000a"), 1, "in_port=1,actions=push_vlan:0x88a8,mod_vlan_vid:100,2",
+        "1 in_port=1,dl_type=0x88b5,vlan_tci=0x100a,vlan_tpid=0x8100,vlan_tci2=0x0000,vlan_tpid2=0x0000 "
+        "push_vlan(tpid=0x88a8,vid=100,pcp=0),2",
+    ),
+    "a service tag that is taken away": (
+        plain("88a800648100000a"), 1, "in_port=1,actions=pop_vlan,2",
+        "1 in_port=1,dl_type=0x88b5,vlan_tci=0x1064,vlan_tpid=0x88a8,vlan_tci2=0x100a,vlan_tpid2=0x8100 pop_vlan,2",
+    ),
+    "a third tag": (
+        plain("88a800648100000a"), 1, "actions=2,push_vlan:0x8100,mod_dl_dst:0:0:0:0:0:7,3",
+        "1 in_port=1,dl_type=0x88b5,vlan_tci=0x1064,vlan_tpid=0x88a8,vlan_tci2=0x100a,vlan_tpid2=0x8100 drop",
+    ),
+    "what is matched is the outer tag": (
+        plain("88a800648100000a"), 1, "dl_vlan=100,actions=2", "1 in_port=1,dl_type=0x88b5,vlan_tci=0x1064/0x1fff 2",
+    ),
+    "and not the inner one": (
+        plain("88a800648100000a"), 1, "dl_vlan=10,actions=2", "- in_port=1,dl_type=0x88b5,vlan_tci=0x1064/0x1fff drop",
     ),
     # tables and registers
     "registers are left out": (

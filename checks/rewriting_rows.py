@@ -133,7 +133,7 @@ WORKED = {
     # tags
     "a VLAN for a frame without a tag": (plain(), "actions=mod_vlan_vid:5,2", [(2, plain("81000005"))]),
     "a VLAN of a tag": (plain("8100e007"), "actions=mod_vlan_vid:5,2", [(2, plain("8100e005"))]),
-    "a priority of a tag of type 0x88a8": (plain("88a80007"), "actions=mod_vlan_pcp:3,2", [(2, plain("81006007"))]),
+    "a priority of a tag of type 0x88a8": (plain("88a80007"), "actions=mod_vlan_pcp:3,2", [(2, plain("88a86007"))]),
     "a tag that is taken away": (plain("88a80007"), "actions=strip_vlan,2", [(2, plain())]),
     "a tag that is written as none": (plain("8100e007"), "actions=load:0->vlan_tci[12],2", [(2, plain())]),
     "parts of a tag that isn't there": (
@@ -141,7 +141,14 @@ WORKED = {
     ),
     "a tag that is pushed": (plain(), "actions=push_vlan:0x8100,2", [(2, plain("81000000"))]),
     "no bits of a tag": (plain(), "actions=set_field:0/0->vlan_tci,2", [(2, plain())]),
-    "a tag on a tag": (plain("81000007"), "actions=2,push_vlan:0x8100,3", []),
+    "a tag on a tag": (
+        plain("81000007"), "actions=2,push_vlan:0x8100,3", [(2, plain("81000007")), (3, plain("8100000081000007"))],
+    ),
+    "a service tag around a customer's": (
+        plain("8100000a"), "actions=push_vlan:0x88a8,mod_vlan_vid:100,2", [(2, plain("88a800648100000a"))],
+    ),
+    "a service tag that is taken away again": (plain("88a800648100000a"), "actions=pop_vlan,2", [(2, plain("8100000a"))]),
+    "a tag on two tags": (plain("88a800648100000a"), "actions=2,push_vlan:0x8100,3", []),
     "the outer of two tags": (plain("8100000781000008"), "actions=pop_vlan,2", [(2, plain("81000008"))]),
     # tables, registers and ports
     "a register that another table matches": (
@@ -248,20 +255,20 @@ TRANSPORT_NAMES = {PROTOCOL_TCP: "Tcp", PROTOCOL_UDP: "Udp", PROTOCOL_ICMP: "Icm
 
 
 def layout_of(frame):
-    """Whether a frame has a tag, its network and its transport header with their offsets, and whether it is routed."""
+    """How many tags a frame has, its network and its transport header with their offsets, and whether it is routed."""
     if len(frame) < ETHERNET_HEADER:
         return False, None, None, False
     headers = headers_of(frame)
-    tagged, network, protocol = headers.tci is not None, headers.network, transport_protocol(headers)
+    tags, network, protocol = len(headers.tags), headers.network, transport_protocol(headers)
     if network is None:
-        return tagged, None, None, False
+        return tags, None, None, False
     transport = None if protocol is None else (TRANSPORT_NAMES[protocol], transport_begin(headers))
-    return tagged, (NETWORK_NAMES[headers.dl_type], headers.begin), transport, network.routed
+    return tags, (NETWORK_NAMES[headers.dl_type], headers.begin), transport, network.routed
 
 
 def printed_layout(frame, printed):
     layout = expected.by_the_rules(printed[frame.name], frame.difference)
-    return layout.tagged, layout.l3, layout.l4, layout.routed
+    return layout.tags, layout.l3, layout.l4, layout.routed
 
 
 def all_rows():

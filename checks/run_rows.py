@@ -203,7 +203,7 @@ RUNS = {
         "sent by 2": [ipv4_frame("4500001c00000000401166c70a0000090a000002", UDP)],
     }),
     "a tag that is added": Row("in_port=1,actions=mod_vlan_vid:5,2", [F], {
-        "match in out.megaflows": "in_port=1,dl_type=0x88b5,vlan_tci=0x0000",
+        "match in out.megaflows": "in_port=1,dl_type=0x88b5,vlan_tci=0x0000,vlan_tpid=0x0000,vlan_tci2=0x0000,vlan_tpid2=0x0000",
         "actions in out.megaflows": "push_vlan(vid=5,pcp=0),2",
         "sent by 2": [F[:12] + bytes.fromhex("81000005") + F[12:]],
         "n_bytes in out.rules": "60",

@@ -11,8 +11,11 @@ PORT = 7
 TAG_BIT = 0x1000
 NO_TYPE = 0x05FF
 
-# The protocols of tags, with the field that has the type after.
+# The protocols of tags, with the field that has the type after; and how many tags a key has.
 TAGS = {"vlan": "vlan.etype", "ieee8021ad": "ieee8021ah.etype"}
+MOST_TAGS = 2
+# The fields of a key that hold the type and the content of each of its tags, the outer one first.
+TAG_FIELDS = (("VlanTpid", "VlanTci"), ("VlanTpid2", "VlanTci2"))
 
 # The extension headers of IPv6 by number, with the field that says what follows.
 FOLLOWING = {
@@ -41,8 +44,8 @@ NUMBERS = {
 # The names of headers in a layout.
 PLACES = {"arp": "Arp", "ip": "Ipv4", "ipv6": "Ipv6", "tcp": "Tcp", "udp": "Udp", "icmp": "Icmp", "icmpv6": "Icmp6"}
 
-# The fields that keys of frames have, in their order: those of the port and the Ethernet header first.
-ETHERNET_FIELDS = ("InPort", "DlSrc", "DlDst", "DlType", "VlanTci")
+# The fields that keys of frames have: those of the port and the Ethernet header first.
+ETHERNET_FIELDS = ("InPort", "DlSrc", "DlDst", "DlType", *(name for names in TAG_FIELDS for name in names))
 KEY_FIELDS = ETHERNET_FIELDS + (
     "NwSrc", "NwDst", "Ipv6Src", "Ipv6Dst", "NwProto", "NwTos", "NwTtl", "IpFrag", "ArpSha", "ArpTha", "TpSrc", "TpDst",
 )
@@ -53,7 +56,7 @@ class Expected:
     """A key by its fields, and a layout, in which l3 and l4 are the names of headers with their offsets."""
 
     key: dict = field(default_factory=lambda: {"InPort": PORT})
-    tagged: bool = False
+    tags: int = 0
     l3: tuple | None = None
     l4: tuple | None = None
     routed: bool = False
@@ -97,14 +100,23 @@ class Printed:
 def read_ethernet(printed, expected):
     key = expected.key
     key["DlDst"], key["DlSrc"] = printed.mac("eth.dst"), printed.mac("eth.src")
-    tag = printed.outermost({name: [f"{name}.id"] for name in TAGS})
-    if tag:
-        expected.tagged = True
-        key["VlanTci"] = printed.number(f"{tag}.priority") << 13 | printed.number(f"{tag}.id") | TAG_BIT
-    kind = TAGS[tag] if tag else "eth.type"
-    if not printed.has(kind):
-        kind = "llc.type"
-    key["DlType"] = printed.number(kind) if printed.has(kind) else NO_TYPE
+    types, tags = printed.numbers("eth.type"), tags_of(printed)
+    for (tpid_field, tci_field), (_, tci, types_after) in zip(TAG_FIELDS, tags):
+        key[tpid_field], key[tci_field] = types[0], tci
+        types = types_after
+    expected.tags = min(len(tags), MOST_TAGS)
+    types = types or printed.numbers("llc.type")
+    key["DlType"] = types[0] if types else NO_TYPE
+
+
+def tags_of(printed):
+    """Where each tag stands, the outer one first, its content, and the type after it, if that is one."""
+    tags = []
+    for name, kind in TAGS.items():
+        contents = zip(printed.numbers(f"@{name}"), printed.numbers(f"{name}.priority"), printed.numbers(f"{name}.id"))
+        types = printed.numbers(kind)
+        tags += [(at, priority << 13 | vlan | TAG_BIT, types[n : n + 1]) for n, (at, priority, vlan) in enumerate(contents)]
+    return sorted(tags)
 
 
 # ---- the network header

@@ -37,7 +37,7 @@ def unread(why):
 
 
 def no_tag(why, kind):
-    return Difference(why, key={"DlType": kind, "VlanTci": 0}, layout={"tagged": False})
+    return Difference(why, key={"DlType": kind, "VlanTpid": 0, "VlanTci": 0}, layout={"tags": 0})
 
 
 def not_shown(why):
@@ -115,10 +115,18 @@ TAGS = (
     Frame("a_priority_tag", "Priority 3 and VLAN 0.", tagged(0x6000, EXPERIMENT, bytes(42))),
     Frame("a_service_tag", "802.1ad: priority 1 and VLAN 200.",
           tagged(0x20C8, EXPERIMENT, bytes(42), tag_type=SERVICE_TAG)),
-    Frame("two_tags", "The outer tag is read; its type is that of the inner one.",
+    Frame("two_tags", "Both are read, with the type after the inner one.",
           tagged(0xA064, CUSTOMER_TAG, word(0x0065), word(EXPERIMENT), bytes(38))),
-    Frame("a_service_tag_and_a_customer_tag", "The outer tag is read; its type is that of the inner one.",
+    Frame("a_service_tag_and_a_customer_tag", "Both are read, each with its own type.",
           tagged(0x20C8, CUSTOMER_TAG, word(0x0065), word(EXPERIMENT), bytes(38), tag_type=SERVICE_TAG)),
+    Frame("a_customer_tag_and_a_service_tag", "Both are read in this order too.",
+          tagged(0x20C8, SERVICE_TAG, word(0x4065), word(EXPERIMENT), bytes(38))),
+    Frame("two_tags_with_their_type_alone", "22 bytes are enough for two tags.",
+          tagged(0xA064, CUSTOMER_TAG, word(0x0065), word(EXPERIMENT))),
+    Frame("an_inner_tag_cut", "Of 22 bytes the last one is missing.", tagged(0xA064, CUSTOMER_TAG, word(0x0065), b"\x88"),
+          Difference(READS_VLAN, key={"DlType": CUSTOMER_TAG, "VlanTpid2": 0, "VlanTci2": 0}, layout={"tags": 1})),
+    Frame("two_tags_and_snap", "Two tags, a length, and the type after SNAP.",
+          tagged(0xA064, CUSTOMER_TAG, word(0x0065), word(38), snap(EXPERIMENT), bytes(30))),
     Frame("a_tag_with_its_type_alone", "18 bytes are enough for a tag.", tagged(0xA064, EXPERIMENT)),
     Frame("a_tag_cut", "Of 18 bytes the last one is missing.", under(CUSTOMER_TAG, word(0xA064), b"\x88"),
           no_tag(READS_VLAN, CUSTOMER_TAG)),
@@ -248,9 +256,12 @@ IPV4_FRAGMENTS = (
 
 IPV4_BEHIND = (
     Frame("tcp_and_a_tag", "TCP in VLAN 100.", tagged(0x0064, IPV4, ipv4(TCP, 20), tcp())),
-    Frame("udp_and_two_tags", "Nothing is read after the second tag.",
-          tagged(0x20C8, CUSTOMER_TAG, word(0x0065), word(IPV4), ipv4(UDP, 8), udp(), tag_type=SERVICE_TAG),
-          unread("it reads both tags, and the packet.")),
+    Frame("udp_and_two_tags", "UDP in customer VLAN 101 of service VLAN 200.",
+          tagged(0x20C8, CUSTOMER_TAG, word(0x0065), word(IPV4), ipv4(UDP, 8), udp(), tag_type=SERVICE_TAG)),
+    Frame("udp_and_three_tags", "Nothing is read after the second tag but the type of the third.",
+          tagged(0x20C8, CUSTOMER_TAG, word(0x0065), word(CUSTOMER_TAG), word(0x0066), word(IPV4), ipv4(UDP, 8), udp(),
+                 tag_type=SERVICE_TAG),
+          unread("it reads all tags, and the packet.")),
     Frame("udp_after_snap", "UDP in a frame with a length.", under(36, snap(IPV4), ipv4(UDP, 8), udp())),
     Frame("udp_after_a_tag_and_snap", "UDP in a frame with a priority tag and a length.",
           tagged(0x6000, 36, snap(IPV4), ipv4(UDP, 8), udp())),

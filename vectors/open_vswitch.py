@@ -25,6 +25,8 @@ NEEDS_NEWER = re.compile("set_field|push_vlan|goto_table")
 PATIENCE, NAP = 5.0, 0.05
 # The longest packets that a port lets out.
 MTU = 65000
+# How many tags are read of a frame (vlan-limit): as many as there can be.
+TAGS = 2
 CAPTURE_HEADER, RECORD_HEADER = 24, 16
 
 
@@ -81,6 +83,7 @@ class Switch:
         self.run("ovsdb-tool", "create", "conf.db", SCHEMA)
         self.run("ovsdb-server", "conf.db", f"--remote=punix:{room}/db.sock", "--pidfile", "--detach", "--no-chdir")
         self.configure("--no-wait", "init")
+        self.configure("--no-wait", "set", "Open_vSwitch", ".", f"other_config:vlan-limit={TAGS}")
         self.run("ovs-vswitchd", f"unix:{room}/db.sock", "--enable-dummy=override", "--disable-system", "--pidfile",
                  "--detach", "--no-chdir")
         self.configure("add-br", "br0", "--", "set", "bridge", "br0", "datapath_type=dummy", "fail_mode=secure",

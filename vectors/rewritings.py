@@ -201,6 +201,9 @@ ARP_ROWS = (
 TAGGED = over_ipv4(TCP, tags=tag(0x6007))
 PLAIN_TAGGED = ethernet(EXPERIMENT, bytes(42), tag(0x6007))
 
+TWO_TAGS = tag(0x6064, SERVICE_TAG) + tag(0x2007)
+TAGGED_TWICE = over_ipv4(TCP, tags=TWO_TAGS)
+
 TAG_ROWS = (
     Row("a_tag_for_a_frame_without", PLAIN, "", "mod_vlan_vid:5,2"),
     Row("a_priority_for_a_frame_without_a_tag", TCP_4, "tcp", "mod_vlan_pcp:3,2"),
@@ -217,9 +220,21 @@ TAG_ROWS = (
     Row("a_tag_cleared_by_a_load", PLAIN_TAGGED, "", "load:0->NXM_OF_VLAN_TCI[],2"),
     Row("a_vlan_as_a_port", PLAIN_TAGGED[:14] + word(0x6003) + PLAIN_TAGGED[16:], "dl_vlan=3",
         "move:NXM_OF_VLAN_TCI[0..11]->NXM_NX_REG0[0..11],strip_vlan,output:NXM_NX_REG0[0..15]"),
-    Row("a_service_tag_rewritten", ethernet(EXPERIMENT, bytes(42), tag(0x6007, SERVICE_TAG)), "", "mod_vlan_vid:5,2",
-        differs="a tag of type 0x88a8 keeps its type"),
-    Row("a_tag_on_a_tag", PLAIN_TAGGED, "dl_vlan=7", "push_vlan:0x8100,2", differs="a second tag is pushed"),
+    Row("a_service_tag_rewritten", ethernet(EXPERIMENT, bytes(42), tag(0x6007, SERVICE_TAG)), "", "mod_vlan_vid:5,2"),
+    Row("a_tag_on_a_tag", PLAIN_TAGGED, "dl_vlan=7", "push_vlan:0x8100,2"),
+    Row("a_service_tag_on_a_tag", TAGGED, "dl_vlan=7,tcp", "push_vlan:0x88a8,set_field:0x1064->vlan_vid,2"),
+    Row("a_service_tag_with_the_priority_of_the_tag_inside", TAGGED, "dl_vlan=7,tcp",
+        "move:NXM_OF_VLAN_TCI[13..15]->NXM_NX_REG0[0..2],push_vlan:0x88a8,mod_vlan_vid:100,move:NXM_NX_REG0[0..2]->NXM_OF_VLAN_TCI[13..15],2"),
+    Row("the_outer_of_two_tags_popped", TAGGED_TWICE, "dl_vlan=100,tcp", "strip_vlan,2"),
+    Row("two_tags_popped", TAGGED_TWICE, "tcp", "strip_vlan,2,strip_vlan,3"),
+    Row("the_outer_of_two_tags_rewritten", TAGGED_TWICE, "tcp", "mod_vlan_vid:5,mod_vlan_pcp:1,2"),
+    Row("the_inner_of_two_tags_rewritten", TAGGED_TWICE, "dl_vlan=100,tcp",
+        "pop_vlan,load:5->NXM_OF_VLAN_TCI[0..11],push_vlan:0x88a8,set_field:0x1064->vlan_vid,2"),
+    Row("two_tags_pushed", TCP_4, "vlan_tci=0,tcp",
+        "push_vlan:0x8100,set_field:0x1007->vlan_vid,push_vlan:0x88a8,set_field:0x1064->vlan_vid,2"),
+    Row("an_address_after_two_tags", TAGGED_TWICE, "tcp", "mod_nw_dst:10.0.0.9,2"),
+    Row("a_tag_on_two_tags", TAGGED_TWICE, "tcp", "push_vlan:0x8100,2", differs="a third tag is pushed, and the innermost is lost"),
+    Row("the_outer_of_two_tags_cleared_by_a_load", TAGGED_TWICE, "tcp", "load:0->NXM_OF_VLAN_TCI[],2", differs="both tags go"),
 )
 
 FRAGMENT_ROWS = (

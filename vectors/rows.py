@@ -136,7 +136,7 @@ def truth(value):
 
 
 def layout_text(expected):
-    return (f"record {{ tagged = {truth(expected.tagged)}; l3 = {place('l3', expected.l3)}; "
+    return (f"record {{ tags = {expected.tags}; l3 = {place('l3', expected.l3)}; "
             f"l4 = {place('l4', expected.l4)}; routed = {truth(expected.routed)} }}")
 
 

@@ -62,13 +62,13 @@ def fields_in(capture):
 
 
 def positions_in(capture):
-    """For each frame the first position of each protocol that it has, under the protocol's name after an @."""
+    """For each frame the positions of each protocol that it has, under the protocol's name after an @, joined by commas."""
     for packet in xml.etree.ElementTree.fromstring(tshark(*OPTIONS, "-r", capture, "-T", "pdml")).iter("packet"):
         positions = {}
         for proto in packet.iter("proto"):
             if proto.get("name") in PLACED:
-                positions.setdefault("@" + proto.get("name"), proto.get("pos"))
-        yield positions
+                positions.setdefault("@" + proto.get("name"), []).append(proto.get("pos"))
+        yield {name: ",".join(places) for name, places in positions.items()}
 
 
 def ask(frames):

@@ -9,6 +9,8 @@ from .flow_fields import KEY_FIELD, KEY_FIELDS, full, packed, prefix, prefix_len
 
 # The fields that a lookup has compared at the end of each of its stages but the last one, by the last of them.
 LAST_OF_STAGES = ("reg15", "vlan_tci", "arp_tha")
+# What stands behind all others in a key, and is compared with the Ethernet header.
+TAGS = ("vlan_tpid", "vlan_tci2", "vlan_tpid2")
 METADATA, ETHERNET, NETWORK = range(3)
 
 # The fields whose prefixes are told apart, in the order in which they are tried.
@@ -29,7 +31,13 @@ def through(last):
     return sum(WHOLE[name] for name in names[: names.index(last) + 1])
 
 
-STAGES = [through(last) for last in LAST_OF_STAGES]
+def stages():
+    """The bits of the fields up to the end of each stage but the last one."""
+    metadata, *others = map(through, LAST_OF_STAGES)
+    return [metadata, *(stage | sum(WHOLE[name] for name in TAGS) for stage in others)]
+
+
+STAGES = stages()
 
 
 class Tables:

@@ -1,5 +1,5 @@
 """The texts of what caches hold: the match of an entry, and datapath actions."""
-from .flow_fields import KEY_FIELD, KEY_FIELDS, print_value, unpacked
+from .flow_fields import CUSTOMER_TAG, KEY_FIELD, KEY_FIELDS, print_value, unpacked
 from .translation import PRIORITY_SHIFT, VLAN_BITS
 
 
@@ -18,9 +18,14 @@ def print_datapath_actions(actions):
     return ",".join(PRINT[action.kind](*action.arguments) for action in actions) or "drop"
 
 
+def print_push(tpid, tci):
+    kind = "" if tpid == CUSTOMER_TAG else f"tpid={tpid:#06x},"
+    return f"push_vlan({kind}vid={tci & VLAN_BITS},pcp={tci >> PRIORITY_SHIFT})"
+
+
 PRINT = {
     "Output": str,
     "PopVlan": lambda: "pop_vlan",
-    "PushVlan": lambda tci: f"push_vlan(vid={tci & VLAN_BITS},pcp={tci >> PRIORITY_SHIFT})",
+    "PushVlan": print_push,
     "Set": lambda name, value, mask: f"set({print_bits(name, value & mask, mask)})",
 }

@@ -34,6 +34,10 @@ KEY_FIELDS = [
     KeyField("arp_tha", 48, MAC),
     KeyField("tp_src", 16, DECIMAL),
     KeyField("tp_dst", 16, DECIMAL),
+    # The type of the outer tag, and the inner one. Flow text has no names for them.
+    KeyField("vlan_tpid", 16, TYPE),
+    KeyField("vlan_tci2", 16, TYPE),
+    KeyField("vlan_tpid2", 16, TYPE),
 ]
 KEY_FIELD = {field.name: field for field in KEY_FIELDS}
 
@@ -69,8 +73,14 @@ def unpacked(key):
     return {name: key >> at & bits for name, at, bits in PLACES}
 
 
-# In vlan_tci, that there is a tag.
+# In vlan_tci and vlan_tci2, that there is a tag.
 TAG = 0x1000
+
+# The types of tags, of a customer's network and of a service provider's.
+CUSTOMER_TAG, SERVICE_TAG = 0x8100, 0x88A8
+
+# The outer tag of a key, and its inner one: a type and a content.
+TAG_FIELDS = (("vlan_tpid", "vlan_tci"), ("vlan_tpid2", "vlan_tci2"))
 
 ETHERTYPE_IPV4, ETHERTYPE_ARP, ETHERTYPE_IPV6 = 0x0800, 0x0806, 0x86DD
 PROTOCOL_ICMP, PROTOCOL_TCP, PROTOCOL_UDP, PROTOCOL_ICMPV6 = 1, 6, 17, 58

@@ -6,9 +6,9 @@ import re
 from collections import namedtuple
 
 from .flow_fields import (
-    BadValue, ETHERTYPE_ARP, ETHERTYPE_IPV4, ETHERTYPE_IPV6, KEY_FIELD, KEY_FIELDS, NAMED_FIELD, PROTOCOL_ICMP,
-    PROTOCOL_ICMPV6, PROTOCOL_TCP, PROTOCOL_UDP, TAG, full, is_stated, packed, print_value, read_decimal, read_number,
-    read_value, unpacked,
+    BadValue, CUSTOMER_TAG, ETHERTYPE_ARP, ETHERTYPE_IPV4, ETHERTYPE_IPV6, KEY_FIELD, KEY_FIELDS, NAMED_FIELD,
+    PROTOCOL_ICMP, PROTOCOL_ICMPV6, PROTOCOL_TCP, PROTOCOL_UDP, SERVICE_TAG, TAG, full, is_stated, packed,
+    print_value, read_decimal, read_number, read_value, unpacked,
 )
 
 LIMITS = {
@@ -30,7 +30,6 @@ LAST_SECOND = 4294967295
 NO_TAG = 0xFFFF
 DEFAULT_PRIORITY = 32768
 SECOND = 1000000000
-CUSTOMER_TAG, SERVICE_TAG = 0x8100, 0x88A8
 
 WORDS = ("add", "modify", "modify_strict", "delete", "delete_strict")
 DELETES = ("delete", "delete_strict")
@@ -490,10 +489,9 @@ def read_number_action(item, rest, kind, most):
 
 def read_push_vlan(item, rest):
     value = argument(item, rest)
-    number = number_of(value, full(16))
-    require(number != SERVICE_TAG, UNSUPPORTED, item)
-    require(number == CUSTOMER_TAG, BAD_VALUE, value)
-    return Action("PushVlan", ())
+    tpid = number_of(value, full(16))
+    require(tpid in (CUSTOMER_TAG, SERVICE_TAG), BAD_VALUE, value)
+    return Action("PushVlan", (tpid,))
 
 
 def set_action(field, value, mask):
@@ -621,7 +619,7 @@ ACTION_PRINTERS = {
     "Set": print_set,
     "Move": lambda source, target: f"move:{print_slice(source)}->{print_slice(target)}",
     "DecTtl": lambda: "dec_ttl",
-    "PushVlan": lambda: "push_vlan:0x8100",
+    "PushVlan": "push_vlan:{:#06x}".format,
     "PopVlan": lambda: "pop_vlan",
     "SetVid": "mod_vlan_vid:{}".format,
     "SetPcp": "mod_vlan_pcp:{}".format,

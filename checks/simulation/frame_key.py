@@ -1,16 +1,18 @@
 """The headers of a frame, and its key: the numbers of its headers that flow text matches.
 
 After IEEE 802.1Q, RFC 826 (ARP), 791 (IPv4), 8200 (IPv6), 9293 (TCP), 768 (UDP), 792 (ICMP) and 4443 (ICMPv6), in the
-profile of docs/FORMATS.md: one tag, no ports of fragments, and nothing of a header that is malformed.
+profile of docs/FORMATS.md: two tags, no ports of fragments, and nothing of a header that is malformed.
 """
 from collections import namedtuple
 
 from .flow_fields import (
-    ETHERTYPE_ARP, ETHERTYPE_IPV4, ETHERTYPE_IPV6, PROTOCOL_ICMP, PROTOCOL_ICMPV6, PROTOCOL_TCP, PROTOCOL_UDP, TAG,
+    CUSTOMER_TAG, ETHERTYPE_ARP, ETHERTYPE_IPV4, ETHERTYPE_IPV6, PROTOCOL_ICMP, PROTOCOL_ICMPV6, PROTOCOL_TCP, PROTOCOL_UDP,
+    SERVICE_TAG, TAG, TAG_FIELDS,
 )
 
 ETHERNET_HEADER = 14
-TAG_TYPES = (0x8100, 0x88A8)
+# A tag stands in the place of the type, and has a type and a content of two bytes each; no third one is read.
+TYPE_AT, TAG_SIZE, MOST_TAGS = 12, 4, 2
 LEAST_TYPE = 0x0600
 NO_TYPE = 0x05FF
 SNAP = bytes.fromhex("aaaa03000000")
@@ -31,8 +33,9 @@ TRANSPORT_HEADERS = {
     (ETHERTYPE_IPV6, PROTOCOL_ICMPV6): 4,
 }
 
-# The content of the tag or None; the type, and where what is behind it begins; the network header or None.
-Headers = namedtuple("Headers", "tci dl_type begin network")
+# The tags, the outer one first, as pairs of type and content; the type, and where what is behind it begins; the network
+# header or None.
+Headers = namedtuple("Headers", "tags dl_type begin network")
 # A network header: its fields, the bytes behind it, how far on in the packet these begin, and whether a routing header
 # was passed.
 Network = namedtuple("Network", "fields rest rest_at routed")
@@ -51,19 +54,25 @@ def key_of(port, frame):
         return key
     headers = headers_of(frame)
     key |= {"dl_dst": number(frame, 0, 6), "dl_src": number(frame, 6, 12), "dl_type": headers.dl_type}
-    if headers.tci is not None:
-        key["vlan_tci"] = headers.tci | TAG
+    for (tpid_field, tci_field), (tpid, tci) in zip(TAG_FIELDS, headers.tags):
+        key |= {tpid_field: tpid, tci_field: tci | TAG}
     return key | (headers.network.fields | shown_transport(headers) if headers.network else {})
 
 
 def headers_of(frame):
     """The headers of a frame that has a whole Ethernet header."""
-    at, tci = 12, None
-    if number(frame, at, at + 2) in TAG_TYPES and len(frame) >= 18:
-        at, tci = 16, number(frame, 14, 16)
+    at, tags = TYPE_AT, []
+    while len(tags) < MOST_TAGS and has_tag(frame, at):
+        tags.append((number(frame, at, at + 2), number(frame, at + 2, at + 4)))
+        at += TAG_SIZE
     dl_type, begin = type_at(frame, at)
     read = {ETHERTYPE_ARP: read_arp, ETHERTYPE_IPV4: read_ipv4, ETHERTYPE_IPV6: read_ipv6}.get(dl_type)
-    return Headers(tci, dl_type, begin, read(frame[begin:]) if read else None)
+    return Headers(tags, dl_type, begin, read(frame[begin:]) if read else None)
+
+
+def has_tag(frame, at):
+    """Whether a whole tag stands at a place, with a type behind it."""
+    return number(frame, at, at + 2) in (CUSTOMER_TAG, SERVICE_TAG) and len(frame) >= at + TAG_SIZE + 2
 
 
 def type_at(frame, at):

@@ -11,8 +11,7 @@ from .frame_key import ETHERNET_HEADER, PORT_HEADERS, headers_of, number, transp
 # The bytes of a frame in which a field stands, and how many of their bits are below its own.
 Span = namedtuple("Span", "begin size shift", defaults=[0])
 
-CUSTOMER_TAG = b"\x81\x00"
-# A tag stands after the addresses.
+# The outer tag stands after the addresses.
 TAG_BEGIN, TAG_END = 12, 16
 ALL_ONES = 0xFFFF
 
@@ -40,13 +39,13 @@ def sent(actions, frame):
             frame = CHANGES[action.kind](frame, *action.arguments)
 
 
-def push_tag(frame, tci):
-    """With a tag; the bit that says in a key that there is one is sent as 0."""
-    return frame[:TAG_BEGIN] + CUSTOMER_TAG + (tci & ~TAG).to_bytes(2, "big") + frame[TAG_BEGIN:]
+def push_tag(frame, tpid, tci):
+    """With a tag outside of those that there are; the bit that says in a key that there is one is sent as 0."""
+    return frame[:TAG_BEGIN] + tpid.to_bytes(2, "big") + (tci & ~TAG).to_bytes(2, "big") + frame[TAG_BEGIN:]
 
 
 def pop_tag(frame):
-    return frame if headers_of(frame).tci is None else frame[:TAG_BEGIN] + frame[TAG_END:]
+    return frame[:TAG_BEGIN] + frame[TAG_END:] if headers_of(frame).tags else frame
 
 
 def set_field(frame, name, value, mask):

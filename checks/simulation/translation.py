@@ -11,7 +11,7 @@ and has consulted the bits that it writes, as well as those that it reads.
 from collections import namedtuple
 
 from .classifier import WHOLE, bits_of
-from .flow_fields import ETHERTYPE_IPV4, ETHERTYPE_IPV6, TAG, full, is_stated, packed, unpacked
+from .flow_fields import CUSTOMER_TAG, ETHERTYPE_IPV4, ETHERTYPE_IPV6, TAG, TAG_FIELDS, full, is_stated, packed, unpacked
 from .flow_text import Action
 
 # The first lookup is at depth 0.
@@ -28,9 +28,9 @@ PRIORITY_BITS, PRIORITY_SHIFT = 0xE000, 13
 # What no frame carries: it is 0 at first, so that no bit of it tells keys apart.
 REGISTERS = WHOLE["metadata"] | sum(WHOLE[f"reg{number}"] for number in range(16))
 
-# The fields of a frame that are written where they stand, before its tag changes and after.
-BEFORE_TAG = ("dl_src", "dl_dst")
-AFTER_TAG = (
+# The fields of a frame that are written where they stand, before its tags change and after.
+BEFORE_TAGS = ("dl_src", "dl_dst")
+AFTER_TAGS = (
     "nw_src", "nw_dst", "ipv6_src", "ipv6_dst", "nw_tos", "nw_ttl", "arp_sha", "arp_tha", "tp_src", "tp_dst",
 )
 
@@ -45,7 +45,7 @@ Traced = namedtuple("Traced", "path last translated")
 
 
 class Stopped(Exception):
-    """The packet is dropped: a limit was passed, or a tag pushed onto a tag."""
+    """The packet is dropped: a limit was passed, or a tag pushed onto two tags."""
 
 
 class ListEnded(Exception):
@@ -71,7 +71,7 @@ def translate(tables, ports, key):
 def fields_needed(field):
     """The fields of a key that say whether a packet is what a write to a named field needs."""
     if field.name in ("vlan_vid", "vlan_pcp"):
-        return ["vlan_tci"]
+        return [name for fields in TAG_FIELDS for name in fields]
     if field.key in ("tp_src", "tp_dst"):
         return ["dl_type", "nw_proto", "ip_frag"]
     return ["dl_type"] if field.needs else []
@@ -107,11 +107,16 @@ def changed_bits(name, before, after):
     return [Action("Set", (name, after[name] & mask, mask))] if mask else []
 
 
-def changed_tag(before, after):
-    """A tag that differs is taken away, and the new one added."""
-    if before == after:
-        return []
-    return [Action("PopVlan", ())] * bool(before) + [Action("PushVlan", (after,))] * bool(after)
+def tags_of(key):
+    """The tags of a key, the innermost first."""
+    return [(key[tpid], key[tci]) for tpid, tci in reversed(TAG_FIELDS) if key[tci] & TAG]
+
+
+def changed_tags(before, after):
+    """The tags outside of those that are the same, the innermost first, are taken away, and the new ones added."""
+    while before and after and before[0] == after[0]:
+        before, after = before[1:], after[1:]
+    return [Action("PopVlan", ()) for _ in before] + [Action("PushVlan", tag) for tag in after]
 
 
 class Translation:
@@ -161,10 +166,10 @@ class Translation:
     def send(self, ports):
         """Brings the frame up to date, and sends it to each port."""
         before, after = self.frame, self.packet
-        for name in BEFORE_TAG:
+        for name in BEFORE_TAGS:
             self.emit(changed_bits(name, before, after))
-        self.emit(changed_tag(before["vlan_tci"], after["vlan_tci"]))
-        for name in AFTER_TAG:
+        self.emit(changed_tags(tags_of(before), tags_of(after)))
+        for name in AFTER_TAGS:
             self.emit(changed_bits(name, before, after))
         self.frame = dict(self.packet)
         self.emit([Action("Output", (port,)) for port in ports])
@@ -208,12 +213,18 @@ class Translation:
             self.replace(field.key, value << field.low, mask << field.low)
 
     def replace(self, name, value, mask):
-        """Writes bits of the key. A tag whose bit 0x1000 is taken away is no tag."""
+        """Writes bits of the key. An outer tag whose bit 0x1000 is taken away is no tag, and a new one is a customer's."""
         if not mask:
             return
-        self.consult(name, mask)
         number = with_bits(self.packet[name], value, mask)
-        self.packet[name] = 0 if name == "vlan_tci" and not number & TAG else number
+        if name != "vlan_tci":
+            self.consult(name, mask)
+            self.packet[name] = number
+        elif number & TAG:
+            self.consult_tags()
+            self.packet |= {name: number, "vlan_tpid": self.packet["vlan_tpid"] or CUSTOMER_TAG}
+        else:
+            self.pop_tag()
 
     def move(self, source, target):
         """Nothing is read for a packet that isn't what the target needs."""
@@ -231,15 +242,22 @@ class Translation:
 
     # ---- tags
 
-    def push_tag(self):
-        self.consult("vlan_tci")
-        if self.packet["vlan_tci"] & TAG:
+    def consult_tags(self):
+        for fields in TAG_FIELDS:
+            for name in fields:
+                self.consult(name)
+
+    def push_tag(self, tpid):
+        self.consult_tags()
+        if self.packet["vlan_tci2"] & TAG:
             raise Stopped
-        self.packet["vlan_tci"] = TAG
+        inner = {"vlan_tpid2": self.packet["vlan_tpid"], "vlan_tci2": self.packet["vlan_tci"]}
+        self.packet |= {"vlan_tpid": tpid, "vlan_tci": TAG, **inner}
 
     def pop_tag(self):
-        self.consult("vlan_tci")
-        self.packet["vlan_tci"] = 0
+        self.consult_tags()
+        outer = {"vlan_tpid": self.packet["vlan_tpid2"], "vlan_tci": self.packet["vlan_tci2"]}
+        self.packet |= {**outer, "vlan_tpid2": 0, "vlan_tci2": 0}
 
     def write_vlan(self, number):
         self.replace("vlan_tci", number | TAG, VLAN_BITS | TAG)
