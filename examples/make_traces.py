@@ -19,6 +19,8 @@ import sys
 ETHERTYPE_IPV4 = 0x0800
 ETHERTYPE_ARP = 0x0806
 ETHERTYPE_IPV6 = 0x86DD
+CUSTOMER_TAG = 0x8100
+SERVICE_TAG = 0x88A8
 ETHERTYPES = {4: ETHERTYPE_IPV4, 6: ETHERTYPE_IPV6}
 PROTOCOL_ICMP = 1
 PROTOCOL_TCP = 6
@@ -66,9 +68,9 @@ def ethernet(target, source, ethertype, payload):
     return frame.ljust(SHORTEST_FRAME, b"\0")
 
 
-def tagged(frame, vlan, priority=0):
-    """A frame with a tag (IEEE 802.1Q, 9.3)."""
-    return frame[:12] + struct.pack("!HH", 0x8100, priority << 13 | vlan) + frame[12:]
+def tagged(frame, vlan, priority=0, tag_type=CUSTOMER_TAG):
+    """A frame with a tag (IEEE 802.1Q, 9.3), outside of those that it has."""
+    return frame[:12] + struct.pack("!HH", tag_type, priority << 13 | vlan) + frame[12:]
 
 
 def arp(operation, sender_mac, sender, target_mac, target):
@@ -471,6 +473,43 @@ def from_the_trunk():
     )
 
 
+# ---- provider-bridge
+
+FIRST_SERVICE, SECOND_SERVICE, OTHER_SERVICE = 100, 200, 300
+
+
+def from_a_customer():
+    """What comes from a customer's site: with tags of its own, without, and with two."""
+    question = arp(1, *DESK, NO_MAC, OTHER_DESK[1])
+    return trace(
+        (MORNING + after, frame)
+        for after, frame in [
+            (0, tagged(ping(DESK, OTHER_DESK, 0x1001, 1), DATA_VLAN)),
+            (100000, voice(PHONE, CALL_SERVER, 1)),
+            (200000, ethernet(BROADCAST, DESK[0], ETHERTYPE_ARP, question)),
+            (300000, tagged(tagged(ping(DESK, OTHER_DESK, 0x1002, 2), DATA_VLAN), OTHER_VLAN)),
+        ]
+    )
+
+
+def from_another_customer():
+    """What comes from another customer, whose VLANs and addresses are the same by chance."""
+    return trace([(MORNING + 50000, tagged(ping(DESK, OTHER_DESK, 0x2001, 1), DATA_VLAN))])
+
+
+def from_the_provider():
+    """What comes from the provider's network, all of it with a service tag."""
+    answer = ping(OTHER_DESK, DESK, 0x3001, 1, ECHO_REPLY)
+    return trace(
+        [
+            (MORNING + 10000, tagged(tagged(answer, DATA_VLAN), FIRST_SERVICE, tag_type=SERVICE_TAG)),
+            (MORNING + 60000, tagged(tagged(answer, DATA_VLAN), SECOND_SERVICE, tag_type=SERVICE_TAG)),
+            (MORNING + 110000, tagged(voice(CALL_SERVER, PHONE, 2), FIRST_SERVICE, VOICE_PRIORITY, SERVICE_TAG)),
+            (MORNING + 400000, tagged(answer, OTHER_SERVICE, tag_type=SERVICE_TAG)),
+        ]
+    )
+
+
 # ---- cache-sweeps
 
 OTHER_SITE, MAIL_SITE = "203.0.113.80", "198.51.100.9"
@@ -560,6 +599,9 @@ TRACES = {
     "flow-limit/desks.pcap": scan,
     "four-workers/desk.pcap": lambda: some_pings(DESK, 40, 200000),
     "four-workers/other-desk.pcap": lambda: some_pings(OTHER_DESK, 40, 200000),
+    "provider-bridge/first-customer.pcap": from_a_customer,
+    "provider-bridge/provider.pcap": from_the_provider,
+    "provider-bridge/second-customer.pcap": from_another_customer,
     "replaced-entry/desk.pcap": lambda: some_pings(DESK, 5),
     "router/lan.pcap": from_the_lan,
     "router/servers.pcap": from_the_servers,
