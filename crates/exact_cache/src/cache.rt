@@ -3,11 +3,11 @@ ghost use Rattle.spec_board.specs.Cache.{cached, with_cached};
 ghost use Rattle.ovs_fields.specs.Packed.{numbers};
 ghost use Rattle.exact_cache.specs.SameSlots.{AreSameSlots};
 
+use crate::hashed_key::HashedKey;
 use crate::kept::Kept;
 use crate::slots::{
     KeptSlots, empty_slots, entry_for, first_slot, kept_in, second_slot, slot_for, write,
 };
-use ovs_fields::{Key, key_hash};
 use std::alloc::{AllocError, Global};
 use std::marker::Model;
 
@@ -40,28 +40,25 @@ impl ExactCache {
     }
 
     /// The entry that the cache names for a key. It may be live no more, which the caller tests.
-    pub fn look(&self, key: &Key) -> Option<u32>
-        ensures { result ≡ cached self.now (numbers key.now) }
+    pub fn look(&self, key: HashedKey<'_>) -> Option<u32>
+        ensures { result ≡ cached self.now (numbers key.entry.key.now) }
     {
-        let hash = key_hash(key);
-        match entry_for(kept_in(&self.slots, first_slot(hash)), key, hash) {
+        match entry_for(kept_in(&self.slots, first_slot(key.hash)), key) {
             Some(entry) => Some(entry),
-            None => entry_for(kept_in(&self.slots, second_slot(hash)), key, hash),
+            None => entry_for(kept_in(&self.slots, second_slot(key.hash)), key),
         }
     }
 
     /// Names an entry for a key, in place of the one that it named; another key may be forgotten for it. It takes no
     /// memory.
-    pub fn put(&mut self, key: &Key, entry: u32)
-        ensures { AreSameSlots self.new (with_cached (numbers key.now) entry self.old) }
+    pub fn put(&mut self, key: HashedKey<'_>, entry: u32)
+        ensures { AreSameSlots self.new (with_cached (numbers key.entry.key.now) entry self.old) }
     {
-        let hash = key_hash(key);
-        let slot = slot_for(&self.slots, key, hash);
         let kept = Kept {
-            slot,
+            slot: slot_for(&self.slots, key),
             entry,
-            hash,
-            key: *key,
+            hash: key.hash,
+            key: *key.key,
         };
         write(&mut self.slots, kept);
     }

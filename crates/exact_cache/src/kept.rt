@@ -3,6 +3,7 @@ ghost use Rattle.spec_keys.specs.Keys.{same};
 ghost use Rattle.spec_keys.specs.Hash.{key_hash};
 ghost use Rattle.ovs_fields.specs.Packed.{numbers};
 
+use crate::hashed_key::HashedKey;
 use ovs_fields::Key;
 
 /// What a slot keeps: a key, and the number of the entry that decided it last.
@@ -18,11 +19,10 @@ pub(crate) struct Kept {
 }
 
 impl Kept {
-    /// Whether it keeps this key, which has this hash.
-    pub(crate) fn is_of(&self, key: &Key, hash: u64) -> bool
-        requires { hash ≡ key_hash (numbers key.now) }
-        ensures { result ≡ same (numbers self.now.key) (numbers key.now) }
+    /// Whether it keeps this key.
+    pub(crate) fn is_of(&self, key: HashedKey<'_>) -> bool
+        ensures { result ≡ same (numbers self.now.key) (numbers key.entry.key.now) }
     {
-        self.hash == hash && self.key == *key
+        self.hash == key.hash && self.key == *key.key
     }
 }

@@ -15,6 +15,7 @@
 //! Contracts see an `ExactCache` as the slots that were written: a list as in the definition of the cache in
 //! `spec_board`, each slot number at most once. Their order plays no part.
 //!
+//! - A `HashedKey` has the hash of its key, by its type.
 //! - `new` has no slot. It takes all memory that the cache will ever take, so that no later call can fail.
 //! - `look` answers the entry that `cached` names for a key: that of the first of its slots that holds the key.
 //! - After `put` each slot holds what it does after `with_cached`: the key is put where it stands already; else where
@@ -31,7 +32,10 @@
 //!
 //! What the slots keep stands in one vector, in the order of their first writes. An index beside it has for each slot the
 //! place there, or says that there is none. A look reads the index and the hash that is kept, and the key only where the
-//! hashes are equal, so that a slot of another key costs little. `look` and `put` hash the key once each.
+//! hashes are equal, so that a slot of another key costs little.
+//!
+//! The hash takes a good part of the time of a look. So `look` and `put` are given a key with its hash (`HashedKey`), and
+//! a key that is looked up and then put is hashed once.
 //!
 //! `new` makes room for all slots, which is 1.6 MB, and 50 MB for 32 boards. But it writes only the index, 32 kB, and what
 //! is never written the system doesn't have to provide. A run of few connections writes the beginning of the vector, where
@@ -47,8 +51,10 @@
 #![tactic(auto)]
 
 mod cache;
+mod hashed_key;
 mod kept;
 mod slots;
 mod threads;
 
 pub use cache::ExactCache;
+pub use hashed_key::HashedKey;

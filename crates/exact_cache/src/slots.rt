@@ -3,12 +3,11 @@
 ghost use Rattle.std.specs.Prelude.{◌≡◌, ◌==◌, ◌<◌, ◌/◌, ◌%◌, ◌^◌, ℕ, [], Some, IfOk, if◌then◌else◌};
 ghost use Rattle.std.specs.Option.{option_copied};
 ghost use Rattle.spec_board.specs.Cache.{slot_count, slot_for};
-ghost use Rattle.spec_keys.specs.Hash.{key_hash};
 ghost use Rattle.ovs_fields.specs.Packed.{numbers};
 ghost use Rattle.exact_cache.specs.Kept.{slots_view, keeps, entry_in, kept_in, slot_of_two, IsCache};
 
+use crate::hashed_key::HashedKey;
 use crate::kept::Kept;
-use ovs_fields::Key;
 use std::alloc::{AllocError, Global};
 
 /// How many slots a cache has.
@@ -59,58 +58,53 @@ pub(crate) fn second_slot(hash: u64) -> u32
     ((hash >> 32) % SLOT_COUNT) as u32
 }
 
-/// Whether a slot keeps a key, which has this hash.
-fn keeps(slot: Option<&Kept>, key: &Key, hash: u64) -> bool
-    requires { hash ≡ key_hash (numbers key.now) }
-    ensures { result ≡ keeps (numbers key.now) (option_copied slot.entry) }
+/// Whether a slot keeps a key.
+fn keeps(slot: Option<&Kept>, key: HashedKey<'_>) -> bool
+    ensures { result ≡ keeps (numbers key.entry.key.now) (option_copied slot.entry) }
 {
     match slot {
-        Some(kept) => kept.is_of(key, hash),
+        Some(kept) => kept.is_of(key),
         None => false,
     }
 }
 
-/// The entry that a slot names for a key, which has this hash.
-pub(crate) fn entry_for(slot: Option<&Kept>, key: &Key, hash: u64) -> Option<u32>
-    requires { hash ≡ key_hash (numbers key.now) }
-    ensures { result ≡ entry_in (numbers key.now) (option_copied slot.entry) }
+/// The entry that a slot names for a key.
+pub(crate) fn entry_for(slot: Option<&Kept>, key: HashedKey<'_>) -> Option<u32>
+    ensures { result ≡ entry_in (numbers key.entry.key.now) (option_copied slot.entry) }
 {
     match slot {
-        Some(kept) if kept.is_of(key, hash) => Some(kept.entry),
+        Some(kept) if kept.is_of(key) => Some(kept.entry),
         _ => None,
     }
 }
 
-/// The slot where a key is put, which has this hash.
-pub(crate) fn slot_for(slots: &KeptSlots, key: &Key, hash: u64) -> u32
-    requires cache { IsCache slots.now }
-    requires hash { hash ≡ key_hash (numbers key.now) }
-    ensures slot { result ≡ slot_for (slots_view slots.now) (numbers key.now) }
+/// The slot where a key is put.
+pub(crate) fn slot_for(slots: &KeptSlots, key: HashedKey<'_>) -> u32
+    requires { IsCache slots.now }
+    ensures slot { result ≡ slot_for (slots_view slots.now) (numbers key.entry.key.now) }
     ensures within { result < slot_count }
 {
-    let first = first_slot(hash);
-    let second = second_slot(hash);
+    let first = first_slot(key.hash);
+    let second = second_slot(key.hash);
     let in_first = kept_in(slots, first);
     let in_second = kept_in(slots, second);
-    slot_of_two(key, hash, first, in_first, second, in_second)
+    slot_of_two(key, first, in_first, second, in_second)
 }
 
-/// Of two slots the one that keeps a key, which has this hash; else one that was never written; else the first.
+/// Of two slots the one that keeps a key; else one that was never written; else the first.
 fn slot_of_two(
-    key: &Key,
-    hash: u64,
+    key: HashedKey<'_>,
     first: u32,
     in_first: Option<&Kept>,
     second: u32,
     in_second: Option<&Kept>,
 ) -> u32
-    requires { hash ≡ key_hash (numbers key.now) }
-    ensures { result ≡ slot_of_two (numbers key.now) first (option_copied in_first.entry) second
-        (option_copied in_second.entry) }
+    ensures { result ≡ slot_of_two (numbers key.entry.key.now) first (option_copied in_first.entry)
+        second (option_copied in_second.entry) }
 {
-    if keeps(in_first, key, hash) {
+    if keeps(in_first, key) {
         first
-    } else if keeps(in_second, key, hash) {
+    } else if keeps(in_second, key) {
         second
     } else if in_first.is_none() {
         first

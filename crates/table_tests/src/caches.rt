@@ -1,4 +1,4 @@
-use exact_cache::ExactCache;
+use exact_cache::{ExactCache, HashedKey};
 use ovs_fields::{FieldId, Key};
 use std::test::Fail;
 
@@ -16,12 +16,14 @@ fn from_address(address: u32) -> Key {
 fn a_key_is_named_the_entry_that_was_put_last(rt: HostRuntime) -> Result<(), Fail> {
     let mut cache = ExactCache::new(rt.alloc())?;
     let key = from_address(0x0a00_0001);
-    assert_eq!(rt; cache.look(&key), None);
-    cache.put(&key, 1);
-    assert_eq!(rt; cache.look(&key), Some(1));
-    cache.put(&key, 2);
-    assert_eq!(rt; cache.look(&key), Some(2));
-    assert_eq!(rt; cache.look(&from_address(0x0a00_0002)), None);
+    let hashed = HashedKey::of(&key);
+    let other = from_address(0x0a00_0002);
+    assert_eq!(rt; cache.look(hashed), None);
+    cache.put(hashed, 1);
+    assert_eq!(rt; cache.look(hashed), Some(1));
+    cache.put(hashed, 2);
+    assert_eq!(rt; cache.look(hashed), Some(2));
+    assert_eq!(rt; cache.look(HashedKey::of(&other)), None);
     Ok(())
 }
 
@@ -30,8 +32,9 @@ fn a_full_cache_takes_more_keys(rt: HostRuntime) -> Result<(), Fail> {
     let mut cache = ExactCache::new(rt.alloc())?;
     for address in 0..MANY {
         let key = from_address(address);
-        cache.put(&key, address);
-        assert_eq!(rt; cache.look(&key), Some(address));
+        let hashed = HashedKey::of(&key);
+        cache.put(hashed, address);
+        assert_eq!(rt; cache.look(hashed), Some(address));
     }
     Ok(())
 }

@@ -9,10 +9,10 @@ use Rattle.exact_cache.proofs.slots.slot_for.Goals as goal
 pub returns-clause-slot : goal.returns-clause-slot
 returns-clause-slot c =
     let slots = c.args.slots.now in
-    let key = numbers c.args.key.now in
-    let first : c.first_slot-first.result ≡ first_slot key = c.first_slot-first.ensures ∙ ap (λ (h : ℕ). h % slot_count) c.requires.hash in
-    let second : c.second_slot-second.result ≡ second_slot key = c.second_slot-second.ensures ∙ ap (λ (h : ℕ). h / 2 ^ 32 % slot_count) c.requires.hash in
+    let key = numbers c.args.key.key.now in
+    let first : c.first_slot-first.result ≡ first_slot key = c.first_slot-first.ensures ∙ ap (λ (h : ℕ). h % slot_count) c.args.key.hashed in
+    let second : c.second_slot-second.result ≡ second_slot key = c.second_slot-second.ensures ∙ ap (λ (h : ℕ). h / 2 ^ 32 % slot_count) c.args.key.hashed in
     c.slot_of_two.ensures
     ∙ ap₂ (λ (a b : Option Kept). slot_of_two key c.first_slot-first.result a c.second_slot-second.result b) c.kept_in-in_first.ensures c.kept_in-in_second.ensures
     ∙ ap₂ (λ (f s : ℕ). slot_of_two key f (kept_in slots f) s (kept_in slots s)) first second
-    ∙ sym (slot_for-slots_view slots key c.requires.cache)
+    ∙ sym (slot_for-slots_view slots key c.requires)

@@ -17,8 +17,8 @@ at_slot slots key found kept number slot named holds is = named ∙ ap (entry_in
 pub returns-in-Some : goal.returns-in-Some
 returns-in-Some c =
     let slots = c.self.inside.slots in
-    let key = numbers c.args.key.now in
-    let first = at_slot slots key (Some c.in-Some.entry) _ _ (first_slot key) c.in-Some.ensures c.kept_in.ensures (c.first_slot.ensures ∙ ap (λ (h : ℕ). h % slot_count) c.key_hash-hash.ensures) in
+    let key = numbers c.args.key.key.now in
+    let first = at_slot slots key (Some c.in-Some.entry) _ _ (first_slot key) c.in-Some.ensures c.kept_in.ensures (c.first_slot.ensures ∙ ap (λ (h : ℕ). h % slot_count) c.args.key.hashed) in
     ap (λ (o : Option ℕ). option_or o (entry_in key (kept_in slots (second_slot key)))) first
     ∙ sym (cached-slots_view slots key c.self.invariant)
     ∙ ap (λ (l : List Slot). cached l key) c.self.view_is
@@ -26,9 +26,9 @@ returns-in-Some c =
 pub returns-in-None : goal.returns-in-None
 returns-in-None c =
     let slots = c.self.inside.slots in
-    let key = numbers c.args.key.now in
-    let first = at_slot slots key None _ _ (first_slot key) c.in-None.ensures c.kept_in.ensures (c.first_slot.ensures ∙ ap (λ (h : ℕ). h % slot_count) c.key_hash-hash.ensures) in
-    let second = at_slot slots key c.entry_for-in-None.result _ _ (second_slot key) c.entry_for-in-None.ensures c.kept_in-in-None.ensures (c.second_slot.ensures ∙ ap (λ (h : ℕ). h / 2 ^ 32 % slot_count) c.key_hash-hash.ensures) in
+    let key = numbers c.args.key.key.now in
+    let first = at_slot slots key None _ _ (first_slot key) c.in-None.ensures c.kept_in.ensures (c.first_slot.ensures ∙ ap (λ (h : ℕ). h % slot_count) c.args.key.hashed) in
+    let second = at_slot slots key c.entry_for-in-None.result _ _ (second_slot key) c.entry_for-in-None.ensures c.kept_in-in-None.ensures (c.second_slot.ensures ∙ ap (λ (h : ℕ). h / 2 ^ 32 % slot_count) c.args.key.hashed) in
     second
     ∙ ap (λ (o : Option ℕ). option_or o (entry_in key (kept_in slots (second_slot key)))) first
     ∙ sym (cached-slots_view slots key c.self.invariant)

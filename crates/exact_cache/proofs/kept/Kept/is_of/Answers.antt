@@ -6,13 +6,13 @@ use Rattle.ovs_fields.specs.Packed.{numbers}
 use Rattle.ovs_fields.specs.Equality.{equal_from_same}
 use Rattle.exact_cache.proofs.kept.Kept.is_of.Goals as goal
 
-pub returns-else-self-hash : goal.returns-else-self-hash
-returns-else-self-hash c =
-    at (same (numbers c.args.self.now.key) (numbers c.args.key.now)) refl
+pub returns-else-self-key : goal.returns-else-self-key
+returns-else-self-key c =
+    at (same (numbers c.args.self.now.key) (numbers c.args.key.key.now)) refl
   where
     -- equal keys have equal hashes
-    at : (t : Bool) → same (numbers c.args.self.now.key) (numbers c.args.key.now) ≡ t → nat_eq c.args.self.now.hash c.args.hash ≡ t
+    at : (t : Bool) → same (numbers c.args.self.now.key) (numbers c.args.key.key.now) ≡ t → nat_eq c.args.self.now.hash c.args.key.hash ≡ t
     at true alike =
-        let equal = equal_from_same (numbers c.args.self.now.key) (numbers c.args.key.now) alike in
-        eq-eqb c.args.self.now.hash c.args.hash (c.args.self.now.hashed ∙ ap key_hash equal ∙ sym c.requires)
-    at false unlike = ne_eqb c.args.self.now.hash c.args.hash c.if-self-hash.false
+        let equal = equal_from_same (numbers c.args.self.now.key) (numbers c.args.key.key.now) alike in
+        eq-eqb c.args.self.now.hash c.args.key.hash (c.args.self.now.hashed ∙ ap key_hash equal ∙ sym c.args.key.hashed)
+    at false unlike = ne_eqb c.args.self.now.hash c.args.key.hash c.if-self-key.false
