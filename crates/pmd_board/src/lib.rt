@@ -38,6 +38,8 @@
 //! memory. No count overflows: what a rule is due is at most a packet for each frame and lookup, with 2^32 frames, 2^9
 //! lookups and 2^18 bytes a frame at most.
 //!
+//! A look hashes the frame's key once, though it may both ask the exact-match cache and put the key there.
+//!
 //! # What is left to others
 //!
 //! Translation, and which step is taken when: a board refuses what isn't legal and chooses nothing.

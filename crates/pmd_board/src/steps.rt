@@ -17,17 +17,16 @@ use crate::board::Board;
 use crate::place::Place;
 use crate::sweep_list::SweepList;
 use board_steps::Step;
-use ovs_fields::Key;
-use port_caches::{PortCaches, Revalidated};
+use port_caches::{HashedKey, PortCaches, Revalidated};
 use run_case::{Case, Keyed};
 use run_xlate::Xlated;
 use spec_board::{BeginFault, EndFault, LookFault, Looked, OpenFault, PutFault, SettleFault};
 use std::alloc::AllocError;
 
 // The exact-match cache keeps which entry a look found among the megaflows.
-fn remember(caches: &mut PortCaches, key: &Key, found: Looked)
+fn remember(caches: &mut PortCaches, key: HashedKey<'_>, found: Looked)
     ensures slots { AreSameSlots caches.new.slots
-        (slots_after found (numbers key.now) caches.old.slots) }
+        (slots_after found (numbers key.entry.key.now) caches.old.slots) }
     ensures rest { caches.new ≡ record caches.old { slots = caches.new.slots } }
 {
     if let Looked::Mega(number) = found {
@@ -73,9 +72,10 @@ impl<C: Case> Board<C> {
             self.laws_hold();
             return Err(fault);
         }
-        let found = self.caches.look(&at.key);
+        let key = HashedKey::of(&at.key);
+        let found = self.caches.look(key);
         match found {
-            Looked::Exact(number) | Looked::Mega(number) => self.hit(at, number, found),
+            Looked::Exact(number) | Looked::Mega(number) => self.hit(at, key, number, found),
             Looked::Miss => self.miss(at),
         }
         self.laws_hold();
@@ -83,8 +83,9 @@ impl<C: Case> Board<C> {
     }
 
     // The frame is decided by the entry that its look found.
-    fn hit(&mut self, at: &Keyed<C>, number: u32, found: Looked)
+    fn hit(&mut self, at: &Keyed<C>, key: HashedKey<'_>, number: u32, found: Looked)
         requires port { at.now.port ≡ self.old.port }
+        requires key { key.key.now ≡ at.now.key }
         requires may { look_fault C.run self.old.port (state_of C.run self.old) at.now.place
             ≡ None }
         requires found { looked (numbers at.now.key) (state_of C.run self.old) ≡ found }
@@ -92,7 +93,7 @@ impl<C: Case> Board<C> {
         ensures { Appends C.run self.old (steps.Look at.now.place found) self.new }
     {
         let (version, list) = self.caches.hit(number, at.length, at.time);
-        remember(&mut self.caches, &at.key, found);
+        remember(&mut self.caches, key, found);
         self.next += 1;
         self.clock = self.clock.max(at.time);
         self.places[at.place as usize - 1] = Place::Decided { version, list };

@@ -17,7 +17,7 @@ ghost use Rattle.port_caches.specs.Steps.{AreRules, CanHit, HasFewTotals, IsCred
 use crate::entries::{displace, judged, named_by, new_entry, pay, spare_lists, visits_of};
 use crate::lists::{HeldList, WrittenList, hold, list_for, push_list, reserve_lists};
 use board_steps::{EntryNumbers, Settled};
-use exact_cache::ExactCache;
+use exact_cache::{ExactCache, HashedKey};
 use flow_stats::Totals;
 use megaflow_table::Megaflows;
 use ovs_fields::{Key, Mask};
@@ -142,15 +142,16 @@ impl PortCaches {
     }
 
     /// What knows a key: the exact-match cache, where it names a live entry; else the entry that covers the key.
-    pub fn look(&self, key: &Key) -> Looked
-        ensures { (s : State) → AreCachesOf self.now s → result ≡ looked (numbers key.now) s }
+    pub fn look(&self, key: HashedKey<'_>) -> Looked
+        ensures { (s : State) → AreCachesOf self.now s
+            → result ≡ looked (numbers key.entry.key.now) s }
     {
         if let Some(number) = self.exact.look(key) {
             if self.flows.get(number).is_some() {
                 return Looked::Exact(number);
             }
         }
-        match self.flows.find(key) {
+        match self.flows.find(key.key) {
             Some(number) => Looked::Mega(number),
             None => Looked::Miss,
         }
@@ -170,9 +171,9 @@ impl PortCaches {
     }
 
     /// The exact-match cache keeps that an entry covers a key. It takes no memory.
-    pub fn remember(&mut self, key: &Key, number: u32)
+    pub fn remember(&mut self, key: HashedKey<'_>, number: u32)
         ensures slots { AreSameSlots self.new.slots
-            (with_cached (numbers key.now) number self.old.slots) }
+            (with_cached (numbers key.entry.key.now) number self.old.slots) }
         ensures rest { self.new ≡ record self.old { slots = self.new.slots } }
     {
         self.exact.put(key, number);

@@ -43,6 +43,8 @@
 //! There may be 2^32 lists, since entries name them by 32 bits. The room ends there too, and `reserve` and `settle` say
 //! that there is no memory.
 //!
+//! `look` and `remember` take a key with its hash (`HashedKey`), since a frame that hits a megaflow comes to both.
+//!
 //! `settle` asks for all its memory first: the list, the numbers of the entries that the new one overlaps, and the
 //! table's room for it. From there on nothing is refused.
 //!
@@ -62,5 +64,6 @@ mod threads;
 
 pub use board_steps::{EntryNumbers, Settled};
 pub use caches::{PortCaches, Revalidated, SettledFrame};
+pub use exact_cache::HashedKey;
 pub use flow_stats::Totals;
 pub use megaflow_table::{Entry, Megaflows};

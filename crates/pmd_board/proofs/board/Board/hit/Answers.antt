@@ -55,7 +55,7 @@ invariant_of-self g c =
     let live = found_live run b.port b.caches.limit (steps_view b.journal.items) k.legal (key_at run b.port at.place) r number c.requires.number found in
     let hit = c.hit-version.ensures in
     let decided = hit.decided live.0 (ap (λ es. entry_of number es) (sym k.caches.caches.entries) ∙ live.1) in
-    let key : numbers at.key ≡ key_at run b.port at.place = at.key_is ∙ ap (λ q. key_at run q at.place) port in
+    let key : numbers c.args.key.key.now ≡ key_at run b.port at.place = ap numbers c.requires.key ∙ at.key_is ∙ ap (λ q. key_at run q at.place) port in
     let rest = c.remember.ensures.rest in
     let caches_hit = hit.effect (advanced frame s) at.place frame (record { length_is = rw (← port) at.length_is; time_is = time })
     (recast b.caches s (advanced frame s) refl refl refl (λ rule. refl) k.caches.caches) in

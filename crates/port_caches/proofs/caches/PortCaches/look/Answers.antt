@@ -11,7 +11,7 @@ use Rattle.port_caches.proofs.caches.PortCaches.look.Goals.{in-Some+else-is_some
 pub returns-then-is_some : goal.returns-then-is_some
 returns-then-is_some c s of =
     let of_fields : AreCachesOf (caches_in c.self.inside) s = subst (λ (v : Caches). AreCachesOf v s) (sym c.self.view_is) of in
-    looked_exact c.self.inside s of_fields (numbers c.args.key.now) c.in-Some.number (sym c.in-Some.ensures)
+    looked_exact c.self.inside s of_fields (numbers c.args.key.key.now) c.in-Some.number (sym c.in-Some.ensures)
     (ap is_some (sym c.get.ensures) ∙ is_some-option_copied c.get.result ∙ sym c.is_some.ensures ∙ c.if-is_some.true)
 
 pub returns-in-Some-find : goal.returns-in-Some-find
@@ -19,13 +19,13 @@ returns-in-Some-find c s of =
     let of_fields : AreCachesOf (caches_in c.self.inside) s = subst (λ (v : Caches). AreCachesOf v s) (sym c.self.view_is) of in
     elim c.match-look.branch [
       | in-Some+else-is_some w ↦
-          looked_mega c.self.inside s of_fields (numbers c.args.key.now)
-          (not_live c.self.inside s of_fields (numbers c.args.key.now) w.in-Some.number (sym w.in-Some.ensures)
+          looked_mega c.self.inside s of_fields (numbers c.args.key.key.now)
+          (not_live c.self.inside s of_fields (numbers c.args.key.key.now) w.in-Some.number (sym w.in-Some.ensures)
           (ap is_some (sym w.get.ensures) ∙ is_some-option_copied w.get.result ∙ sym w.is_some.ensures ∙ w.if-is_some.false))
           c.in-Some-find.number c.in-Some-find.ensures
       | in_default w ↦
-          looked_mega c.self.inside s of_fields (numbers c.args.key.now)
-          (not_cached c.self.inside s of_fields (numbers c.args.key.now) (sym c.look.ensures ∙ w.in_default.is))
+          looked_mega c.self.inside s of_fields (numbers c.args.key.key.now)
+          (not_cached c.self.inside s of_fields (numbers c.args.key.key.now) (sym c.look.ensures ∙ w.in_default.is))
           c.in-Some-find.number c.in-Some-find.ensures
     ]
 
@@ -34,12 +34,12 @@ returns-in-None c s of =
     let of_fields : AreCachesOf (caches_in c.self.inside) s = subst (λ (v : Caches). AreCachesOf v s) (sym c.self.view_is) of in
     elim c.match-look.branch [
       | in-Some+else-is_some w ↦
-          looked_miss c.self.inside s of_fields (numbers c.args.key.now)
-          (not_live c.self.inside s of_fields (numbers c.args.key.now) w.in-Some.number (sym w.in-Some.ensures)
+          looked_miss c.self.inside s of_fields (numbers c.args.key.key.now)
+          (not_live c.self.inside s of_fields (numbers c.args.key.key.now) w.in-Some.number (sym w.in-Some.ensures)
           (ap is_some (sym w.get.ensures) ∙ is_some-option_copied w.get.result ∙ sym w.is_some.ensures ∙ w.if-is_some.false))
           c.in-None.ensures
       | in_default w ↦
-          looked_miss c.self.inside s of_fields (numbers c.args.key.now)
-          (not_cached c.self.inside s of_fields (numbers c.args.key.now) (sym c.look.ensures ∙ w.in_default.is))
+          looked_miss c.self.inside s of_fields (numbers c.args.key.key.now)
+          (not_cached c.self.inside s of_fields (numbers c.args.key.key.now) (sym c.look.ensures ∙ w.in_default.is))
           c.in-None.ensures
     ]
