@@ -6,16 +6,17 @@ ghost use Rattle.board_steps.specs.StepViews.{settled_view, step_view};
 ghost use Rattle.board_steps.specs.Printable.{IsPrintable, IsPrintableLooked, IsPrintableSettled, IsPrintableStep};
 
 use crate::step::{Settled, Step};
+use itoa::Buffer;
 use spec_board::{Looked, PutDone};
 use std::alloc::AllocError;
-use std::fmt::Write;
 
 // Adds a space and a number.
 fn push_number(line: &mut String, number: u32) -> Result<(), AllocError>
     ensures text { OnOk result (string_bytes line.new ≡ string_bytes line.old ++ (codes " " ++ decimal number)) }
     ensures printable { IsPrintable number }
 {
-    write!(line, " {number}")
+    line.push(' ')?;
+    line.push_str(Buffer::new().format(number))
 }
 
 // Adds a word, a space and a number.

@@ -1,5 +1,8 @@
 -- What is written of a step, and of a board.
-use Rattle.std.proofs.Common.{◌≡◌, ℕ, List}
+use Rattle.std.proofs.Common.{◌≡◌, ℕ, ◌+◌, ◌<◌, List, [], ◌∷◌, ◌++◌, length, get_or, take, drop, ap, sym, ◌∙◌, add-one, append_assoc, append-nil, take-suc}
+use Rattle.std.specs.Prelude.{codes}
+use Rattle.std.proofs.lemmas.List.{take-append-drop}
+use Rattle.std.proofs.lemmas.Grind.{flat_map-append}
 use Rattle.std.specs.List.{flat_map}
 use Rattle.std.proofs.lemmas.List.Folds.{flat_map-map}
 use Rattle.spec_case.specs.Run.{Run}
@@ -22,3 +25,35 @@ steps_text-is steps = flat_map-map (λ step. line_of (step_text step)) step_view
 
 pub dump_text-is : (what : OfBoard) (run : Run) (boards : List BoardView) → dump_text what run (journals_view boards) ≡ flat_map (text_of_board what run) boards
 dump_text-is what run boards = flat_map-map (board_text what run) journal_view boards
+
+-- the lines of the steps up to one, and that step's
+pub lines_to : (steps : List Step) (i : ℕ) (d : Step) → i < length steps
+    → flat_map line_of_step (take (i + 1) steps) ≡ flat_map line_of_step (take i steps) ++ line_of_step (get_or steps i d)
+lines_to steps i d lt =
+    rw add-one (ap (flat_map line_of_step) (take-suc steps i d lt))
+    ∙ flat_map-append line_of_step (take i steps) (get_or steps i d ∷ [])
+    ∙ ap (λ (xs : List ℕ). flat_map line_of_step (take i steps) ++ xs) (append-nil (line_of_step (get_or steps i d)))
+
+-- To a text that ends with these the line of one more step is added: the text of the step, and a line feed.
+pub lines_more : (steps : List Step) (i : ℕ) (d : Step) → i < length steps → (front before text after : List ℕ)
+    → before ≡ front ++ flat_map line_of_step (take i steps) → text ≡ before ++ step_text (step_view (get_or steps i d))
+    → after ≡ text ++ codes "\n" → after ≡ front ++ flat_map line_of_step (take (i + 1) steps)
+lines_more steps i d lt front before text after was is fed =
+    let step = step_text (step_view (get_or steps i d)) in
+    let lines = flat_map line_of_step (take i steps) in
+    fed ∙ ap (λ (t : List ℕ). t ++ codes "\n") (is ∙ ap (λ (t : List ℕ). t ++ step) was)
+    ∙ append_assoc (front ++ lines) step (codes "\n") ∙ append_assoc front lines (line_of_step (get_or steps i d))
+    ∙ ap (λ (t : List ℕ). front ++ t) (sym (lines_to steps i d lt))
+
+-- the lines of some steps, and of others after them
+pub lines_of_both : (steps others : List Step) → flat_map line_of_step (steps ++ others) ≡ flat_map line_of_step steps ++ flat_map line_of_step others
+lines_of_both = flat_map-append line_of_step
+
+-- the lines of all, about those between two places
+pub lines_around : (steps : List Step) (i n : ℕ)
+    → flat_map line_of_step steps
+    ≡ flat_map line_of_step (take i steps) ++ (flat_map line_of_step (take n (drop i steps)) ++ flat_map line_of_step (drop n (drop i steps)))
+lines_around steps i n =
+    ap (flat_map line_of_step) (sym (take-append-drop i steps)) ∙ flat_map-append line_of_step (take i steps) (drop i steps)
+    ∙ ap (λ (xs : List ℕ). flat_map line_of_step (take i steps) ++ xs)
+    (ap (flat_map line_of_step) (sym (take-append-drop n (drop i steps))) ∙ flat_map-append line_of_step (take n (drop i steps)) (drop n (drop i steps)))

@@ -1,0 +1,26 @@
+use Rattle.std.proofs.Common.{arith, string_bytes}
+use Rattle.std.proofs.lemmas.List.{take_all}
+use Rattle.std.proofs.lemmas.List.Elements.{All-more}
+use Rattle.board_steps.specs.StepViews.{step_view}
+use Rattle.board_steps.specs.Printable.{IsPrintableStep}
+use Rattle.flow_dump.proofs.Lines.{steps_text-is, lines_more}
+use Rattle.flow_dump.proofs.journal.push_lines.Goals as goal
+
+pub steps-preserved : goal.steps-preserved
+unfolding lib.Utf8.encode
+steps-preserved c = record {
+  text = lines_more c.args.steps.now c.steps.step-index _ c.steps-test.true (string_bytes c.args.line.now) _ _ _ c.steps.invariant.text (rw c.step-item.is at c.in_ok-push_step.ensures.text) c.in_ok-push.ensures.bytes;
+  printable =
+      let step = rw c.step-item.is at c.in_ok-push_step.ensures.printable in
+      All-more (λ step. IsPrintableStep (step_view step)) c.args.steps.now c.steps.step-index _ c.steps-test.true c.steps.invariant.printable step;
+}
+
+pub returns-clause-text : goal.returns-clause-text
+returns-clause-text c =
+    let all = take_all c.steps.step-index c.args.steps.now (omega arith) in
+    rw (steps_text-is, ← all) c.steps.invariant.text
+
+pub returns-clause-printable : goal.returns-clause-printable
+returns-clause-printable c =
+    let all = take_all c.steps.step-index c.args.steps.now (omega arith) in
+    rw all at c.steps.invariant.printable
