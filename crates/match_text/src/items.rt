@@ -161,6 +161,9 @@ fn behind_list_name(text: &[u8]) -> Option<&[u8]>
         (strip_prefix (codes "action=") text.now) }
     ensures shorter { IfSome result (λ rest. length rest.now ≤ length text.now) }
 {
+    if text.first() != Some(&b'a') {
+        return None;
+    }
     if let Some(rest) = after_start(b"actions=", text) {
         return Some(rest);
     }

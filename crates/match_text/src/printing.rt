@@ -1,4 +1,5 @@
-ghost use Rattle.std.specs.Prelude.{◌≡◌, ◌++◌, false, IfOk, IfSome, OnOk, OnErr, string_bytes};
+ghost use Rattle.std.specs.Prelude.{◌≡◌, ◌++◌, [], Option, true, false, IfOk, IfSome, OnOk, OnErr, string_bytes};
+ghost use Rattle.spec_flow_text.specs.declared.shorthand.Shorthand.{Shorthand as ShorthandOf};
 ghost use Rattle.std.specs.List.{flat_map};
 ghost use Rattle.spec_flow_text.specs.Printed as printed;
 ghost use Rattle.rule_tables.specs.Views.{match_view};
@@ -52,6 +53,16 @@ fn print_item(out: &mut String, begun: bool, item: Option<Shown>) -> Result<bool
     }
 }
 
+// Whether nothing is shown of a field, since no bit of it is stated. A type may be told by a shorthand all the same.
+fn is_unstated(m: &Match, field: FieldId) -> bool
+    ensures { result ≡ true → (s : Option ShorthandOf) → printed.shown_field (match_view m.now) s field ≡ [] }
+{
+    match field {
+        FieldId::DlType => false,
+        _ => m.mask.get(field) == 0,
+    }
+}
+
 // The items of a field.
 fn print_field(
     m: &Match,
@@ -65,6 +76,9 @@ fn print_field(
     ensures begun { IfOk result (λ after.
         after ≡ begun_after begun (printed.shown_field (match_view m.now) shorthand field)) }
 {
+    if is_unstated(m, field) {
+        return Ok(begun);
+    }
     let (first, second) = shown_field(m, shorthand, field);
     let begun = print_item(out, begun, first)?;
     print_item(out, begun, second)
