@@ -16,7 +16,8 @@ pub struct Unwritten {
 }
 
 /// Reading takes the calls 1 to 8, and the file of port 1 those from 9 to 11. That of port 2, in which a frame is
-/// written in two calls, takes those from 12 to 16. In each dump a line is written in one call.
+/// written in two calls, takes those from 12 to 16. In the dumps of rules and megaflows a line is written in one call; in
+/// the journal that of a port is, and then all of its steps.
 pub static UNWRITTEN: [Unwritten; 6] = [
     Unwritten {
         shows: "where the first file isn't created, there is none",
@@ -55,43 +56,43 @@ pub static UNWRITTEN: [Unwritten; 6] = [
     },
     Unwritten {
         shows: "a failed write of the journal leaves a prefix of it",
-        failing_call: 31,
+        failing_call: 27,
         text: "write fault: out.journal",
         whole: 4,
         in_use: Some((
             "out.journal",
-            "port 1|begin 1|end|look 1 miss|settle 1 1 installed 1|port 2|begin 1",
+            "port 1|begin 1|end|look 1 miss|settle 1 1 installed 1|port 2",
         )),
     },
 ];
 
 /// The same in the run `MIRRORED_FLOW`. Reading takes the calls 1 to 12, and the five files that come
-/// first those up to 39. The flows, one datagram, take those from 40 to 42.
+/// first those up to 34. The flows, one datagram, take those from 35 to 37.
 pub static UNWRITTEN_OUTLETS: [Unwritten; 4] = [
     Unwritten {
         shows: "where the file of flows isn't created, the journal is the last file",
-        failing_call: 40,
+        failing_call: 35,
         text: "write fault: out.netflow",
         whole: 5,
         in_use: None,
     },
     Unwritten {
         shows: "a failed write of flows leaves the journal whole",
-        failing_call: 41,
+        failing_call: 36,
         text: "write fault: out.netflow",
         whole: 5,
         in_use: Some(("out.netflow", "")),
     },
     Unwritten {
         shows: "where the file of a mirror isn't created, the flows are the last file",
-        failing_call: 43,
+        failing_call: 38,
         text: "write fault: out.m1.pcap",
         whole: 6,
         in_use: None,
     },
     Unwritten {
         shows: "a failed write of copies leaves the flows whole",
-        failing_call: 44,
+        failing_call: 39,
         text: "write fault: out.m1.pcap",
         whole: 6,
         in_use: Some(("out.m1.pcap", "")),
