@@ -22,8 +22,8 @@
 //!
 //! # How
 //!
-//! One buffer holds one line at a time. It is emptied and used again, so that after the first few lines no memory is
-//! taken, and each line is one write: a shelf gathers small writes itself, if it likes.
+//! One buffer holds what is written next: a line, or of a journal the lines of 64 steps. It is emptied and used again, so
+//! that after the first few times no memory is taken. A shelf gathers small writes itself, if it likes.
 //!
 //! What is written of each board, its journal or its megaflows, is a choice that one walk over the boards takes.
 //!
