@@ -4,11 +4,11 @@
 //!
 //! A lookup by masks takes the key of a packet under each of them, and looks it up in that mask's hash map. A whole key has
 //! 176 bytes (`ovs_fields`), and to make, to hash and to compare such keys, and to fetch them from memory, is most of what
-//! the lookup costs. Few masks need them: most have no bits of metadata and the registers, of the addresses of IPv6, nor of
-//! the hardware addresses of ARP, the *wide* fields here, and a key under such a mask is 0 there. Open vSwitch has its flows
-//! and masks without what is 0 for the same reason (`miniflow` and `minimask` in lib/flow.h). Here the other fields stand in
-//! 40 bytes, the *compact* ones. Since all keys of a map are under its mask, a map is of one of two kinds, and that of a mask
-//! without bits of wide fields has compact keys only.
+//! the lookup costs. Few masks need them: most have no bits of metadata and the registers, of the addresses of IPv6 and the
+//! hardware addresses of ARP, nor of an inner tag, the *wide* fields here, and a key under such a mask is 0 there. Open
+//! vSwitch has its flows and masks without what is 0 for the same reason (`miniflow` and `minimask` in lib/flow.h). Here
+//! the other fields stand in 40 bytes, the *compact* ones. Since all keys of a map are under its mask, a map is of one of
+//! two kinds, and that of a mask without bits of wide fields has compact keys only.
 //!
 //! # What is promised
 //!
