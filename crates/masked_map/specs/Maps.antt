@@ -17,7 +17,7 @@ listed list es = map (λ e. (list e.0, e.1)) es
 
 module _ {V : Type 0} where
   abbrev pub mask_in : Entries V → List ℕ
-  mask_in (Compact m es) = list_of m
+  mask_in (Compact m es) = list_of m.fields
   mask_in (Whole m es) = bits m
 
   abbrev pub entries_in : Entries V → List (List ℕ × V)

@@ -49,6 +49,12 @@ macro_rules! in_common {
     };
 }
 
+macro_rules! of_both {
+    (($a:ident, $b:ident) $([$variant:ident $name:ident $type:ident])*) => {
+        CompactFields { $($name: $a.$name & $b.$name,)* }
+    };
+}
+
 macro_rules! all_same {
     (($a:ident, $b:ident) $([$variant:ident $name:ident $type:ident])*) => {
         $(($a.$name == $b.$name) &)* true
@@ -101,6 +107,15 @@ impl CompactFields {
         ensures { list_of result ≡ common_bits (bits mask.now) (list_of self.now) }
     {
         with_compact!(in_common(self, mask))
+    }
+
+    /// The bits that are in these and in others.
+    #[inline]
+    #[tactic(auto, unfolding(spec_keys::specs::Keys::masked))]
+    pub(crate) fn and(&self, other: &CompactFields) -> CompactFields
+        ensures { list_of result ≡ masked (list_of self.now) (list_of other.now) }
+    {
+        with_compact!(of_both(self, other))
     }
 
     /// Whether the bits of these that are in those of a mask are the wanted ones.
@@ -177,7 +192,7 @@ fn wide_of_mask_are_zero(mask: &Mask) -> bool
     with_wide!(all_zero(mask))
 }
 
-fn taken_of_key(key: &Key) -> CompactFields
+pub(crate) fn taken_of_key(key: &Key) -> CompactFields
     ensures { list_of result ≡ compacted (numbers key.now) }
 {
     with_compact!(taken(key))

@@ -16,8 +16,9 @@
 //! `mask_of m`, its entries, `entries_of m`, and what stands at a key, `value_at m key` (specs/Maps.antt). Of which kind a
 //! map is, none of them says.
 //!
-//! - `new` has the bits of a mask, and no entries.
-//! - `get` is what stands at a key under the mask, and `get_exact` at a key as it is: nothing, if it has other bits.
+//! - `new` has the bits of a mask, and no entries. `add_mask_to` adds those bits to another mask.
+//! - `get` is what stands at a key under the mask, and `get_exact` at a key as it is: nothing, if it has other bits. A
+//!   `PacketKey` is a key for `get`.
 //! - `insert` and `swap_remove` change what stands at a key under the mask, and give what stood there. At all others the
 //!   same stands as before.
 //! - `add_agreeing` finds the values at keys that agree with one on the bits of another mask, entry by entry.
@@ -27,28 +28,34 @@
 //! # How
 //!
 //! The two kinds are an `IndexMap` by compact fields beside a mask of compact fields, and one by whole keys beside a whole
-//! mask. `CompactFields::of_mask` decides: it fails where a wide field has bits. Compact fields are equal exactly where the
+//! mask. `CompactMask::of` decides: it fails where a wide field has bits. Compact fields are equal exactly where the
 //! whole keys would be, and feed a hash function what these would, so both kinds obey the same clauses.
+//!
+//! A packet's key is looked up under one mask after another. So a `PacketKey` has its compact fields too, which are taken
+//! from all over the whole key once, and `get` masks 40 bytes by 40 others.
 //!
 //! No call lends a value to be written: `get` reads one, and `insert` puts another in its place.
 //!
 //! # What it costs
 //!
-//! A look-up makes, hashes and compares one key, compact or whole; where a map has one key it hashes nothing. An entry takes
-//! 40 bytes for a compact key and 176 for a whole one, beside the value, and the place of it in a table of hashes. The order
-//! of the entries is that of their coming until one goes, whose place the last one takes. `add_agreeing` goes over all of
-//! them.
+//! A look-up masks, hashes and compares one key, compact or whole; where a map has one key it hashes nothing. `add_mask_to`
+//! reads 40 bytes of a compact mask, and 176 of a whole one. An entry takes 40 bytes for a compact key and 176 for a whole
+//! one, beside the value, and the place of it in a table of hashes. The order of the entries is that of their coming until
+//! one goes, whose place the last one takes. `add_agreeing` goes over all of them.
 //!
 //! # What is left to others
 //!
 //! Which masks there are, and what stands at keys under them.
 #![tactic(auto)]
 
+mod compact_mask;
 mod field_list;
 mod fields;
 mod map;
+mod packet_key;
 
 pub use map::MaskedMap;
+pub use packet_key::PacketKey;
 
 #[cfg(test)]
 mod tests;

@@ -1,14 +1,16 @@
 ghost use Rattle.std.specs.Prelude.{◌≡◌, ◌<◌, ◌≤◌, ◌^◌, ◌++◌, ◌↔◌, [], List, ℕ, None, Some, IsTrue, OnOk, if◌then◌else◌, length};
 ghost use Rattle.std.specs.Option.{option_copied};
 ghost use Rattle.indexmap.specs.IndexMap.{get, index_map_len, spare, Updates};
-ghost use Rattle.spec_keys.specs.Keys.{masked, same, common_bits};
+ghost use Rattle.spec_keys.specs.Keys.{masked, same, common_bits, joined};
 ghost use Rattle.ovs_fields.specs.Packed.{numbers, bits};
 ghost use Rattle.masked_map.specs.Compact.{list_of};
 ghost use Rattle.masked_map.specs.Maps.{agreeing, listed, wanted_values};
 
+use crate::compact_mask::CompactMask;
 use crate::fields::CompactFields;
+use crate::packet_key::PacketKey;
 use indexmap::IndexMap;
-use ovs_fields::{Key, Mask, agree, and, masked};
+use ovs_fields::{Key, Mask, agree, and, masked, or};
 use std::alloc::{AllocError, Global};
 use std::hash::Hash;
 
@@ -17,7 +19,7 @@ use std::hash::Hash;
 pub(crate) enum Entries<V> {
     /// The mask has no bits of wide fields, so each key under it is 0 there.
     Compact {
-        mask: CompactFields,
+        mask: CompactMask,
         map: IndexMap<CompactFields, V>,
     },
     /// Any mask.
@@ -44,9 +46,9 @@ impl<V: Drop> MaskedMap<V> {
         ensures mask { mask_of result ≡ bits mask.now }
         ensures empty { entries_of result ≡ [] }
     {
-        let entries = match CompactFields::of_mask(mask) {
-            Some(fields) => Entries::Compact {
-                mask: fields,
+        let entries = match CompactMask::of(mask) {
+            Some(mask) => Entries::Compact {
+                mask,
                 map: IndexMap::new(alloc),
             },
             None => Entries::Whole {
@@ -55,6 +57,16 @@ impl<V: Drop> MaskedMap<V> {
             },
         };
         MaskedMap { entries }
+    }
+
+    /// Adds the bits of the mask to another mask.
+    pub fn add_mask_to(&self, other: &mut Mask)
+        ensures { bits other.new ≡ joined (bits other.old) (mask_of self.now) }
+    {
+        match &self.entries {
+            Entries::Compact { mask, .. } => mask.add_to(other),
+            Entries::Whole { mask, .. } => *other = or(other, mask),
+        }
     }
 
     /// How many keys it has.
@@ -90,13 +102,13 @@ impl<V: Drop> MaskedMap<V> {
     }
 
     /// The value of a key under the mask.
-    pub fn get(&self, key: &Key) -> Option<&V>
+    pub fn get(&self, key: &PacketKey<'_>) -> Option<&V>
         ensures { option_copied result
-            ≡ value_at self.now (masked (numbers key.now) (mask_of self.now)) }
+            ≡ value_at self.now (masked (numbers key.now.key.now) (mask_of self.now)) }
     {
         match &self.entries {
-            Entries::Compact { mask, map } => value_of(map, &mask.masked(key)),
-            Entries::Whole { mask, map } => value_of(map, &masked(key, mask)),
+            Entries::Compact { mask, map } => value_of(map, &key.masked(&mask.fields)),
+            Entries::Whole { mask, map } => value_of(map, &masked(key.key, mask)),
         }
     }
 
@@ -124,7 +136,7 @@ impl<V: Drop> MaskedMap<V> {
             else value_at self.old q) }
     {
         match &mut self.entries {
-            Entries::Compact { mask, map } => put(map, mask.masked(key), value),
+            Entries::Compact { mask, map } => put(map, mask.fields.masked(key), value),
             Entries::Whole { mask, map } => put(map, masked(key, mask), value),
         }
     }
@@ -140,7 +152,7 @@ impl<V: Drop> MaskedMap<V> {
         ensures room { room_of self.old ≤ room_of self.new }
     {
         match &mut self.entries {
-            Entries::Compact { mask, map } => map.swap_remove(&mask.masked(key)),
+            Entries::Compact { mask, map } => map.swap_remove(&mask.fields.masked(key)),
             Entries::Whole { mask, map } => map.swap_remove(&masked(key, mask)),
         }
     }
@@ -159,7 +171,7 @@ impl<V: Drop> MaskedMap<V> {
         let _ = self.len();
         match &self.entries {
             Entries::Compact { mask: own, map } => {
-                let common = own.common(mask);
+                let common = own.fields.common(mask);
                 add_with_bits(found, map, &common.masked(key), &common)
             }
             Entries::Whole { mask: own, map } => add_whole(found, map, key, &and(mask, own)),

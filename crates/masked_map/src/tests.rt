@@ -1,4 +1,4 @@
-use crate::MaskedMap;
+use crate::{MaskedMap, PacketKey};
 use ovs_fields::{FieldId, Key, Mask, masked};
 use std::alloc::{AllocError, Global};
 use std::test::Fail;
@@ -36,8 +36,16 @@ fn map_of_one(alloc: Global, mask: &Mask, key: &Key) -> Result<MaskedMap<u32>, A
 fn keys_are_found_by_the_bits_of_a_mask(rt: HostRuntime) -> Result<(), Fail> {
     for mask in [address_mask(), register_mask()] {
         let map = map_of_one(rt.alloc(), &mask, &key_of(0x0a00_0001, 80, 7))?;
-        assert_eq!(rt; map.get(&key_of(0x0a00_0002, 443, 7)).copied(), Some(1));
-        assert_eq!(rt; map.get(&key_of(0x0a00_0101, 80, 7)).copied(), None);
+        assert_eq!(rt;
+            map.get(&PacketKey::new(&key_of(0x0a00_0002, 443, 7)))
+                .copied(),
+            Some(1)
+        );
+        assert_eq!(rt;
+            map.get(&PacketKey::new(&key_of(0x0a00_0101, 80, 7)))
+                .copied(),
+            None
+        );
     }
     Ok(())
 }
@@ -46,9 +54,9 @@ fn keys_are_found_by_the_bits_of_a_mask(rt: HostRuntime) -> Result<(), Fail> {
 fn a_register_counts_where_the_mask_has_it(rt: HostRuntime) -> Result<(), Fail> {
     let (one, other) = (key_of(0x0a00_0001, 80, 7), key_of(0x0a00_0001, 80, 8));
     let map = map_of_one(rt.alloc(), &address_mask(), &one)?;
-    assert_eq!(rt; map.get(&other).copied(), Some(1));
+    assert_eq!(rt; map.get(&PacketKey::new(&other)).copied(), Some(1));
     let map = map_of_one(rt.alloc(), &register_mask(), &one)?;
-    assert_eq!(rt; map.get(&other).copied(), None);
+    assert_eq!(rt; map.get(&PacketKey::new(&other)).copied(), None);
     Ok(())
 }
 
@@ -75,7 +83,7 @@ fn a_key_has_its_last_value_until_it_goes(rt: HostRuntime) -> Result<(), Fail> {
         assert_eq!(rt; map.len(), 2);
         assert_eq!(rt; map.swap_remove(&one), Some(3));
         assert_eq!(rt; map.swap_remove(&one), None);
-        assert_eq!(rt; map.get(&other).copied(), Some(2));
+        assert_eq!(rt; map.get(&PacketKey::new(&other)).copied(), Some(2));
     }
     Ok(())
 }

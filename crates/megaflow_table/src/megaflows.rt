@@ -15,6 +15,7 @@ use crate::subtables::{
 };
 use crate::visits::Visits;
 use indexmap::IndexMap;
+use masked_map::PacketKey;
 use ovs_fields::{Key, Mask};
 use std::alloc::{AllocError, Global};
 use std::marker::Model;
@@ -109,11 +110,12 @@ impl Megaflows {
         ensures { result
             ≡ option_map (λ e. e.number) (covering (numbers key.now) self.now.entries) }
     {
+        let packet = PacketKey::new(key);
         'subtables: for i in 0..self.subtables.len() {
             let Some((_, subtable)) = self.subtables.get_index(i) else {
                 unreachable!()
             };
-            let found = number_in(subtable, key);
+            let found = number_in(subtable, &packet);
             if found.is_some() {
                 return found;
             }
@@ -147,7 +149,7 @@ impl Megaflows {
             (λ v. v.items
             ≡ numbers_of (filter (overlaps (numbers key.now) (bits mask.now)) self.now.entries)) }
     {
-        let mut found = overlapping(self.alloc, &self.subtables, key, mask)?;
+        let mut found = overlapping(self.alloc, &self.subtables, &PacketKey::new(key), mask)?;
         found.sort_unstable();
         Ok(found)
     }

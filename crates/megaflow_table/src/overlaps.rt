@@ -8,20 +8,21 @@ ghost use Rattle.megaflow_table.specs.Subtables.{AreUnderMasks};
 ghost use Rattle.megaflow_table.specs.Overlaps.{overlapping_in, HasDistinctMasks, IsScanned, AreScanned};
 
 use crate::subtables::{Subtable, Subtables, number_in};
-use ovs_fields::{Key, Mask, covers};
+use masked_map::PacketKey;
+use ovs_fields::{Mask, covers};
 use std::alloc::{AllocError, Global};
 
 /// The numbers of the entries that overlap one of this key and mask, subtable by subtable.
 pub(crate) fn overlapping(
     alloc: Global,
     subtables: &Subtables,
-    key: &Key,
+    key: &PacketKey<'_>,
     mask: &Mask,
 ) -> Result<Vec<u32>, AllocError>
     requires { AreUnderMasks subtables.now }
     ensures found { IfOk result
         (λ v. v.items
-        ≡ flat_map (overlapping_in (numbers key.now) (bits mask.now)) subtables.now.entries) }
+        ≡ flat_map (overlapping_in (numbers key.now.key.now) (bits mask.now)) subtables.now.entries) }
     ensures masks { HasDistinctMasks subtables.now }
     ensures scanned { OnOk result (AreScanned (bits mask.now) subtables.now.entries) }
 {
@@ -43,18 +44,18 @@ fn add_overlapping(
     found: &mut Vec<u32>,
     subtable_mask: &Mask,
     subtable: &Subtable,
-    key: &Key,
+    key: &PacketKey<'_>,
     mask: &Mask,
 ) -> Result<(), AllocError>
     requires { mask_of subtable.now.numbers ≡ bits subtable_mask.now }
     ensures found { OnOk result
         (found.new.items
-        ≡ found.old.items ++ overlapping_in (numbers key.now) (bits mask.now)
+        ≡ found.old.items ++ overlapping_in (numbers key.now.key.now) (bits mask.now)
         (subtable_mask.now, subtable.now)) }
     ensures scanned { OnOk result (IsScanned (bits mask.now) (subtable_mask.now, subtable.now)) }
 {
     if !covers(mask, subtable_mask) {
-        return subtable.numbers.add_agreeing(found, key, mask);
+        return subtable.numbers.add_agreeing(found, key.key, mask);
     }
     if let Some(number) = number_in(subtable, key) {
         found.push(number)?;

@@ -10,7 +10,7 @@ ghost use Rattle.megaflow_table.specs.Order.{AddsMask, KeepsHits};
 ghost use Rattle.megaflow_table.specs.Subtables.{number_in, order_of, ChangesOnly, SubtableChangesOnly, HasRoomUnder, HasNumbers, HasNumberUnder, AreUnderMasks, IsRanked, KeepsRoom, KeepsNumbers, IsEmptyUnder, IsFresh, IsFreshUnder, IsEmptied};
 
 use indexmap::IndexMap;
-use masked_map::MaskedMap;
+use masked_map::{MaskedMap, PacketKey};
 use ovs_fields::{Key, Mask};
 use std::alloc::{AllocError, Global};
 
@@ -34,9 +34,9 @@ pub(crate) struct Fresh {
 }
 
 /// The number that a subtable has for a key.
-pub(crate) fn number_in(subtable: &Subtable, key: &Key) -> Option<u32>
+pub(crate) fn number_in(subtable: &Subtable, key: &PacketKey<'_>) -> Option<u32>
     ensures { result
-        ≡ number_in subtable.now (masked (numbers key.now) (mask_of subtable.now.numbers)) }
+        ≡ number_in subtable.now (masked (numbers key.now.key.now) (mask_of subtable.now.numbers)) }
 {
     subtable.numbers.get(key).copied()
 }

@@ -39,7 +39,6 @@ module _ {X : Type 0} (f g : X → Rule) (number : (x : X) → (f x).number ≡ 
 
   stage_alike : (s : Stage) (before part mask : List ℕ) (xs : List X) → IsStage s before part mask (map f xs) → IsStage s before part mask (map g xs)
   stage_alike s before part mask xs is = record {
-    part_is = is.part_is;
     masks = is.masks;
     like = is.like;
     whole = is.whole;

@@ -8,7 +8,6 @@ use Rattle.std.proofs.lemmas.Bool.Decides.{same_from_decides}
 use Rattle.std.proofs.lemmas.List.Sums.{count_by-le-length}
 use Rattle.spec_keys.specs.Keys.{agree, masked, same}
 use Rattle.spec_tables.specs.Rules.{Rule}
-use Rattle.ovs_fields.specs.Packed.{bits}
 use Rattle.masked_map.specs.Maps.{mask_of, entries_of}
 use Rattle.ovs_fields.specs.Equality.{same_from_equal}
 use Rattle.translation_laws.proofs.MemberLaws.{Among, list_any_from-Among}
@@ -23,9 +22,8 @@ use Rattle.staged_lookup.proofs.Removed.{count-one_more, count-without}
 counts_same : (old new : Stage) → entries_of new.counts ≡ entries_of old.counts → (key : List ℕ) → count_at new.counts key ≡ count_at old.counts key
 counts_same old new same_entries key = ap (λ (es : List (List ℕ × ℕ)). unwrap_or (lookup (same key) es) 0) same_entries
 
-pub stage_empty : (s : Stage) (before part mask : List ℕ) → bits s.part ≡ part → mask_of s.counts ≡ part → (s.kind ≡ LikeTheOneBefore → part ≡ before) → (s.kind ≡ WholeMask → part ≡ mask) → entries_of s.counts ≡ [] → IsStage s before part mask []
-stage_empty s before part mask is masks like whole empty = record {
-  part_is = is;
+pub stage_empty : (s : Stage) (before part mask : List ℕ) → mask_of s.counts ≡ part → (s.kind ≡ LikeTheOneBefore → part ≡ before) → (s.kind ≡ WholeMask → part ≡ mask) → entries_of s.counts ≡ [] → IsStage s before part mask []
+stage_empty s before part mask masks like whole empty = record {
   masks = masks;
   like = like;
   whole = whole;
@@ -33,10 +31,9 @@ stage_empty s before part mask is masks like whole empty = record {
 }
 
 -- a stage that has the same counts under the same mask
-pub stage_same : (old new : Stage) (before part mask : List ℕ) (rs : List Rule) → new.part ≡ old.part → new.kind ≡ old.kind → mask_of new.counts ≡ mask_of old.counts → entries_of new.counts ≡ entries_of old.counts
+pub stage_same : (old new : Stage) (before part mask : List ℕ) (rs : List Rule) → new.kind ≡ old.kind → mask_of new.counts ≡ mask_of old.counts → entries_of new.counts ≡ entries_of old.counts
     → IsStage old before part mask rs → IsStage new before part mask rs
-stage_same old new before part mask rs same_part same_kind same_mask same_entries is = record {
-  part_is = ap bits same_part ∙ is.part_is;
+stage_same old new before part mask rs same_kind same_mask same_entries is = record {
   masks = same_mask ∙ is.masks;
   like = λ k. is.like (sym same_kind ∙ k);
   whole = λ k. is.whole (sym same_kind ∙ k);
@@ -46,10 +43,9 @@ stage_same old new before part mask rs same_part same_kind same_mask same_entrie
 pub few_same : (old new : Stage) → new.kind ≡ old.kind → entries_of new.counts ≡ entries_of old.counts → CountsFewer old → CountsFewer new
 few_same old new same_kind same_entries few tested key = subst (λ (n : ℕ). n < 2 ^ 63) (sym (counts_same old new same_entries key)) (few (sym same_kind ∙ tested) key)
 
-pub stage_more : (old new : Stage) (before part mask key : List ℕ) (rs : List Rule) (r : Rule) → IsStage old before part mask rs → r.matching.key ≡ key → new.part ≡ old.part → new.kind ≡ old.kind → old.kind ≡ Tested
+pub stage_more : (old new : Stage) (before part mask key : List ℕ) (rs : List Rule) (r : Rule) → IsStage old before part mask rs → r.matching.key ≡ key → new.kind ≡ old.kind → old.kind ≡ Tested
     → mask_of new.counts ≡ mask_of old.counts → ((q : List ℕ) → count_at new.counts q ≡ count_at old.counts q + (if same q (masked key (mask_of old.counts)) then 1 else 0)) → IsStage new before part mask (rs ++ r ∷ [])
-stage_more old new before part mask key rs r is of_key same_part same_kind tested same_mask more = record {
-  part_is = ap bits same_part ∙ is.part_is;
+stage_more old new before part mask key rs r is of_key same_kind tested same_mask more = record {
   masks = same_mask ∙ is.masks;
   like = λ k. is.like (sym same_kind ∙ k);
   whole = λ k. is.whole (sym same_kind ∙ k);
@@ -57,10 +53,9 @@ stage_more old new before part mask key rs r is of_key same_part same_kind teste
       ∙ sym (count-one_more (λ (x : Rule). same q (masked x.matching.key part)) rs r);
 }
 
-pub stage_less : (old new : Stage) (before part mask key : List ℕ) (rs : List Rule) (r : Rule) → IsStage old before part mask rs → AreDistinct rs → Among r rs → r.matching.key ≡ key → new.part ≡ old.part → new.kind ≡ old.kind → old.kind ≡ Tested
+pub stage_less : (old new : Stage) (before part mask key : List ℕ) (rs : List Rule) (r : Rule) → IsStage old before part mask rs → AreDistinct rs → Among r rs → r.matching.key ≡ key → new.kind ≡ old.kind → old.kind ≡ Tested
     → mask_of new.counts ≡ mask_of old.counts → ((q : List ℕ) → count_at new.counts q + (if same q (masked key (mask_of old.counts)) then 1 else 0) ≡ count_at old.counts q) → IsStage new before part mask (without r.number rs)
-stage_less old new before part mask key rs r is distinct m of_key same_part same_kind tested same_mask less = record {
-  part_is = ap bits same_part ∙ is.part_is;
+stage_less old new before part mask key rs r is distinct m of_key same_kind tested same_mask less = record {
   masks = same_mask ∙ is.masks;
   like = λ k. is.like (sym same_kind ∙ k);
   whole = λ k. is.whole (sym same_kind ∙ k);

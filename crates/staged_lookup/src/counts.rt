@@ -6,7 +6,7 @@ ghost use Rattle.ovs_fields.specs.Packed.{numbers};
 ghost use Rattle.masked_map.specs.Maps.{mask_of, room_of};
 ghost use Rattle.staged_lookup.specs.Counts.{count_at};
 
-use masked_map::MaskedMap;
+use masked_map::{MaskedMap, PacketKey};
 use ovs_fields::Key;
 
 /// How many rules have each key under a mask, and no entry for those that none has.
@@ -44,8 +44,15 @@ pub(crate) fn take_count(counts: &mut KeyCounts, key: &Key)
 }
 
 /// How often a key under the mask was counted.
-pub(crate) fn count_of(counts: &KeyCounts, key: &Key) -> usize
+fn count_of(counts: &KeyCounts, key: &Key) -> usize
     ensures { result ≡ count_at counts.now (masked (numbers key.now) (mask_of counts.now)) }
+{
+    count_of_packet(counts, &PacketKey::new(key))
+}
+
+/// How often the key of a packet under the mask was counted.
+pub(crate) fn count_of_packet(counts: &KeyCounts, key: &PacketKey<'_>) -> usize
+    ensures { result ≡ count_at counts.now (masked (numbers key.now.key.now) (mask_of counts.now)) }
 {
     counts.get(key).copied().unwrap_or(0)
 }

@@ -1,5 +1,5 @@
 ghost use Rattle.std.specs.Prelude.{◌≡◌, true, false, ◌<◌, ◌^◌, ◌++◌, [], ◌∷◌, ℕ, List, OnOk};
-ghost use Rattle.spec_keys.specs.Keys.{masked};
+ghost use Rattle.spec_keys.specs.Keys.{masked, joined};
 ghost use Rattle.spec_tables.specs.Rules.{Rule};
 ghost use Rattle.ovs_fields.specs.Packed.{numbers, bits};
 ghost use Rattle.staged_lookup.specs.Counts.{count_at};
@@ -8,8 +8,8 @@ ghost use Rattle.translation_laws.specs.Members.{Among};
 ghost use Rattle.staged_lookup.specs.declared.stage.StageKind.TheVariants as kinds;
 ghost use Rattle.staged_lookup.specs.declared.stage.Step.TheVariants as steps;
 
-use crate::counts::{KeyCounts, add_count, count_of, take_count};
-use masked_map::MaskedMap;
+use crate::counts::{KeyCounts, add_count, count_of_packet, take_count};
+use masked_map::{MaskedMap, PacketKey};
 use ovs_fields::{Key, Mask};
 use std::alloc::{AllocError, Global};
 
@@ -49,12 +49,11 @@ fn kind_of(before: &Mask, part: &Mask, mask: &Mask) -> StageKind
     }
 }
 
-/// The part of a mask that a stage of a lookup reaches, and how many of the mask's rules have each key under it, where the
-/// stage tests them.
+/// A stage of a lookup, by the part of a mask that it reaches.
 #[derive(Drop)]
 pub(crate) struct Stage {
-    pub(crate) part: Mask,
     pub(crate) kind: StageKind,
+    /// How many of the mask's rules have each key under the part, where the stage tests them.
     pub(crate) counts: KeyCounts,
 }
 
@@ -62,14 +61,22 @@ impl Stage {
     ghost use Rattle.staged_lookup.specs.Stages.{IsStage, IsStep, CountsFewer, HasRoom, IsCounted, some_agrees};
 
     /// A stage without rules, that reaches a part of a mask after another part.
-    pub(crate) fn new(alloc: Global, before: &Mask, part: Mask, mask: &Mask) -> Stage
-        ensures { IsStage result (bits before.now) (bits part) (bits mask.now) [] }
+    pub(crate) fn new(alloc: Global, before: &Mask, part: &Mask, mask: &Mask) -> Stage
+        ensures { IsStage result (bits before.now) (bits part.now) (bits mask.now) [] }
     {
         Stage {
-            kind: kind_of(before, &part, mask),
-            part,
-            counts: MaskedMap::new(alloc, &part),
+            kind: kind_of(before, part, mask),
+            counts: MaskedMap::new(alloc, part),
         }
+    }
+
+    /// Adds the part to a mask.
+    pub(crate) fn add_part_to(&self, other: &mut Mask)
+        ensures { (before part mask : List ℕ) (rs : List Rule)
+            → IsStage self.now before part mask rs
+            → bits other.new ≡ joined (bits other.old) part }
+    {
+        self.counts.add_mask_to(other);
     }
 
     /// Makes room for one more rule.
@@ -114,10 +121,10 @@ impl Stage {
     }
 
     /// What the stage tells of a key that some rule agrees with on the part before.
-    pub(crate) fn step(&self, key: &Key) -> Step
+    pub(crate) fn step(&self, key: &PacketKey<'_>) -> Step
         ensures { (before part mask : List ℕ) (rs : List Rule)
             → IsStage self.now before part mask rs
-            → IsStep result before part mask (numbers key.now) rs }
+            → IsStep result before part mask (numbers key.now.key.now) rs }
     {
         match self.kind {
             StageKind::LikeTheOneBefore => Step::Passes,
@@ -127,12 +134,12 @@ impl Stage {
     }
 
     /// Whether one of the rules agrees with a key on the part, where the stage tests them.
-    fn agrees(&self, key: &Key) -> bool
+    fn agrees(&self, key: &PacketKey<'_>) -> bool
         ensures { (before part mask : List ℕ) (rs : List Rule)
             → IsStage self.now before part mask rs → self.now.kind ≡ kinds.Tested
-            → result ≡ some_agrees rs (numbers key.now) part }
+            → result ≡ some_agrees rs (numbers key.now.key.now) part }
     {
-        count_of(&self.counts, key) > 0
+        count_of_packet(&self.counts, key) > 0
     }
 }
 

@@ -4,7 +4,7 @@ ghost use Rattle.staged_lookup.specs.declared.probe.Probe.TheVariants as probes;
 ghost use Rattle.std.specs.List.{find};
 ghost use Rattle.std.specs.Option.{option_map};
 ghost use Rattle.spec_keys.specs.Stages.{network_stage};
-ghost use Rattle.spec_keys.specs.Keys.{same};
+ghost use Rattle.spec_keys.specs.Keys.{joined, same};
 ghost use Rattle.spec_tables.specs.Rules.{Rule, winner};
 ghost use Rattle.ovs_fields.specs.Packed.{numbers, bits};
 ghost use Rattle.rule_tables.specs.Views.{match_view};
@@ -16,7 +16,7 @@ use crate::probe::{ETHERNET, METADATA, NETWORK, PORTS, Probe};
 use crate::rank::{Rank, best_of};
 use crate::stage::{Stage, Step};
 use indexmap::IndexMap;
-use masked_map::MaskedMap;
+use masked_map::{MaskedMap, PacketKey};
 use ovs_fields::{Key, Mask, ethernet_part, metadata_part, network_part};
 use rule_tables::Match;
 use std::alloc::{AllocError, Global};
@@ -50,18 +50,11 @@ impl Subtable {
             alloc,
             mask: *mask,
             buckets: MaskedMap::new(alloc, mask),
-            metadata: Stage::new(alloc, &Mask::none(), metadata, mask),
-            ethernet: Stage::new(alloc, &metadata, ethernet, mask),
-            network: Stage::new(alloc, &ethernet, network, mask),
+            metadata: Stage::new(alloc, &Mask::none(), &metadata, mask),
+            ethernet: Stage::new(alloc, &metadata, &ethernet, mask),
+            network: Stage::new(alloc, &ethernet, &network, mask),
             keys: IndexMap::new(alloc),
         }
-    }
-
-    /// The mask of the rules.
-    pub fn mask(&self) -> &Mask
-        ensures { result.now ≡ self.now.mask }
-    {
-        &self.mask
     }
 
     /// Adds a rule of the mask, whose number none of its rules has. The only error is out of memory, and then it has the
@@ -118,23 +111,24 @@ impl Subtable {
             → IsSubtableOf self.now rs
             → IsProbe result (bits self.now.mask) (numbers key.now) rs }
     {
-        match self.probe_early(key) {
+        let key = PacketKey::new(key);
+        match self.probe_early(&key) {
             Some(probe) => probe,
-            None => self.probe_late(key),
+            None => self.probe_late(&key),
         }
     }
 
     /// What `probe` answers of a key, where the stages of the metadata and of Ethernet decide it. A lookup that has
     /// something to test between them and the others asks this first, and then `probe_late`. It takes no memory.
-    pub fn probe_early(&self, key: &Key) -> Option<Probe>
+    pub fn probe_early(&self, key: &PacketKey<'_>) -> Option<Probe>
         ensures some { IfSome result
             (λ probe. (rs : List Rule)
             → IsSubtableOf self.now rs
-            → IsProbe probe (bits self.now.mask) (numbers key.now) rs) }
+            → IsProbe probe (bits self.now.mask) (numbers key.now.key.now) rs) }
         ensures early { IfSome result IsEarly }
         ensures none { IsNone result
             → (rs : List Rule) → IsSubtableOf self.now rs
-            → PassesTo network_stage (bits self.now.mask) (numbers key.now) rs }
+            → PassesTo network_stage (bits self.now.mask) (numbers key.now.key.now) rs }
     {
         if self.keys.is_empty() {
             return Some(Probe::Ended { stage: METADATA });
@@ -152,11 +146,11 @@ impl Subtable {
     }
 
     /// What `probe` answers of a key that these stages don't decide. It takes no memory.
-    pub fn probe_late(&self, key: &Key) -> Probe
+    pub fn probe_late(&self, key: &PacketKey<'_>) -> Probe
         ensures { (rs : List Rule)
             → IsSubtableOf self.now rs
-            → PassesTo network_stage (bits self.now.mask) (numbers key.now) rs
-            → IsProbe result (bits self.now.mask) (numbers key.now) rs }
+            → PassesTo network_stage (bits self.now.mask) (numbers key.now.key.now) rs
+            → IsProbe result (bits self.now.mask) (numbers key.now.key.now) rs }
     {
         match self.network.step(key) {
             Step::Passes => decided(self.best(key), PORTS),
@@ -165,19 +159,28 @@ impl Subtable {
         }
     }
 
-    /// The bits of the mask in the fields of a stage and those before it: from 0, the metadata, to 2, IP and ARP. From 3 on
-    /// it is the whole mask.
-    pub fn part(&self, stage: u8) -> &Mask
+    /// Adds to a mask the bits of this one in the fields of a stage and those before it: from 0, the metadata, to 2, IP and
+    /// ARP. From 3 on these are all of its bits.
+    pub fn add_part_to(&self, stage: u8, other: &mut Mask)
         ensures { (rs : List Rule)
             → IsSubtableOf self.now rs
-            → bits result.now ≡ part_through stage (bits self.now.mask) }
+            → bits other.new ≡ joined (bits other.old) (part_through stage (bits self.now.mask)) }
     {
         match stage {
-            METADATA => &self.metadata.part,
-            ETHERNET => &self.ethernet.part,
-            NETWORK => &self.network.part,
-            _ => &self.mask,
+            METADATA => self.metadata.add_part_to(other),
+            ETHERNET => self.ethernet.add_part_to(other),
+            NETWORK => self.network.add_part_to(other),
+            _ => self.add_mask_to(other),
         }
+    }
+
+    /// Adds the bits of the mask to another one.
+    pub fn add_mask_to(&self, other: &mut Mask)
+        ensures { (rs : List Rule)
+            → IsSubtableOf self.now rs
+            → bits other.new ≡ joined (bits other.old) (bits self.now.mask) }
+    {
+        self.buckets.add_mask_to(other);
     }
 
     /// The number of the rule with this key and priority.
@@ -200,10 +203,10 @@ impl Subtable {
     }
 
     /// The best rank of the rules that a key matches.
-    fn best(&self, key: &Key) -> Option<Rank>
+    fn best(&self, key: &PacketKey<'_>) -> Option<Rank>
         ensures { (rs : List Rule)
             → IsSubtableOf self.now rs
-            → result ≡ option_map rank_of (winner rs (numbers key.now)) }
+            → result ≡ option_map rank_of (winner rs (numbers key.now.key.now)) }
     {
         match self.buckets.get(key) {
             Some(bucket) => best_of(bucket.ranks()),

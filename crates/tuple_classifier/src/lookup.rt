@@ -23,8 +23,8 @@ ghost use Rattle.tuple_classifier.specs.Subtables.{IsSubtableOf};
 use crate::subtable::Subtable;
 use crate::subtables::Subtables;
 use address_prefixes::{AddressLookups, AddressPrefixes};
-use ovs_fields::{Key, Mask, or};
-use staged_lookup::{Probe, Rank, better};
+use ovs_fields::Mask;
+use staged_lookup::{PacketKey, Probe, Rank, better};
 
 /// The stage before that of the network: prefixes are tested after it.
 const ETHERNET: u8 = 1;
@@ -33,15 +33,15 @@ const ETHERNET: u8 = 1;
 pub(crate) fn look(
     subtables: &Subtables,
     prefixes: &AddressPrefixes,
-    key: &Key,
+    key: &PacketKey<'_>,
     consulted: &mut Mask,
 ) -> Option<u32>
     requires { (rs : List Rule) × (AreOf prefixes.now rs) }
     ensures winner { (rs : List Rule) → AreRankedOf (ranked subtables.now) rs → AreOf prefixes.now rs
-        → AreDistinct rs → result ≡ option_map (λ r. r.number) (winner rs (numbers key.now)) }
+        → AreDistinct rs → result ≡ option_map (λ r. r.number) (winner rs (numbers key.now.key.now)) }
     ensures consulted { (rs : List Rule) → AreRankedOf (ranked subtables.now) rs → AreOf prefixes.now rs
         → AreDistinct rs
-        → bits consulted.new ≡ added (bits consulted.old) (consults rs (numbers key.now)) }
+        → bits consulted.new ≡ added (bits consulted.old) (consults rs (numbers key.now.key.now)) }
 {
     let mut known = AddressLookups::none();
     let mut best = None;
@@ -86,33 +86,33 @@ fn number_of(best: Option<Rank>) -> Option<u32>
 fn probe(
     subtable: &Subtable,
     prefixes: &AddressPrefixes,
-    key: &Key,
+    key: &PacketKey<'_>,
     known: &mut AddressLookups,
     consulted: &mut Mask,
 ) -> Option<Rank>
     requires { (rs : List Rule) × (AreOf prefixes.now rs) }
     ensures known { (rs : List Rule) → AreOf prefixes.now rs
-        → AreKnown known.old (numbers key.now) rs → AreKnown known.new (numbers key.now) rs }
+        → AreKnown known.old (numbers key.now.key.now) rs → AreKnown known.new (numbers key.now.key.now) rs }
     ensures best { (rs : List Rule)
         → IsSubtableOf subtable.now (of_mask (bits subtable.now.staged.mask) rs)
-        → AreOf prefixes.now rs → AreKnown known.old (numbers key.now) rs
+        → AreOf prefixes.now rs → AreKnown known.old (numbers key.now.key.now) rs
         → result ≡ option_map rank_of
-        (winner (of_mask (bits subtable.now.staged.mask) rs) (numbers key.now)) }
+        (winner (of_mask (bits subtable.now.staged.mask) rs) (numbers key.now.key.now)) }
     ensures consulted { (rs : List Rule)
         → IsSubtableOf subtable.now (of_mask (bits subtable.now.staged.mask) rs)
-        → AreOf prefixes.now rs → AreKnown known.old (numbers key.now) rs
+        → AreOf prefixes.now rs → AreKnown known.old (numbers key.now.key.now) rs
         → bits consulted.new
         ≡ added (bits consulted.old)
-        (xlate.probe rs (numbers key.now) (bits subtable.now.staged.mask)) }
+        (xlate.probe rs (numbers key.now.key.now) (bits subtable.now.staged.mask)) }
 {
     let staged = &subtable.staged;
     let early = staged.probe_early(key);
     if let Some(stage) = ended_at(early) {
-        *consulted = or(consulted, staged.part(stage));
+        staged.add_part_to(stage, consulted);
         return None;
     }
-    *consulted = or(consulted, staged.part(ETHERNET));
-    if !prefixes.test(&subtable.indexes.prefixes, key, known, consulted) {
+    staged.add_part_to(ETHERNET, consulted);
+    if !prefixes.test(&subtable.indexes.prefixes, key.key, known, consulted) {
         return None;
     }
     finish(staged, early, key, consulted)
@@ -134,18 +134,18 @@ fn ended_at(early: Option<Probe>) -> Option<u8>
 fn finish(
     staged: &staged_lookup::Subtable,
     early: Option<Probe>,
-    key: &Key,
+    key: &PacketKey<'_>,
     consulted: &mut Mask,
 ) -> Option<Rank>
     ensures best { (own : List Rule) → by_stages.IsSubtableOf staged.now own
-        → HasPassed early (bits staged.now.mask) (numbers key.now) own
-        → result ≡ option_map rank_of (winner own (numbers key.now)) }
+        → HasPassed early (bits staged.now.mask) (numbers key.now.key.now) own
+        → result ≡ option_map rank_of (winner own (numbers key.now.key.now)) }
     ensures consulted { (rs : List Rule)
         → by_stages.IsSubtableOf staged.now (of_mask (bits staged.now.mask) rs)
-        → HasPassed early (bits staged.now.mask) (numbers key.now) (of_mask (bits staged.now.mask) rs)
+        → HasPassed early (bits staged.now.mask) (numbers key.now.key.now) (of_mask (bits staged.now.mask) rs)
         → bits consulted.new
         ≡ added (bits consulted.old)
-        (xlate.stage_test rs (numbers key.now) (bits staged.now.mask) network_stage
+        (xlate.stage_test rs (numbers key.now.key.now) (bits staged.now.mask) network_stage
         (bits staged.now.mask ∷ [])) }
 {
     match early {
@@ -162,11 +162,11 @@ fn told(staged: &staged_lookup::Subtable, probe: Probe, consulted: &mut Mask) ->
 {
     match probe {
         Probe::Ended { stage } => {
-            *consulted = or(consulted, staged.part(stage));
+            staged.add_part_to(stage, consulted);
             None
         }
         Probe::Best { rule, priority } => {
-            *consulted = or(consulted, staged.mask());
+            staged.add_mask_to(consulted);
             Some(Rank {
                 priority,
                 number: rule,

@@ -10,7 +10,7 @@ use Rattle.megaflow_table.proofs.overlaps.add_overlapping.Goals as goal
 
 pub returns-then-not-covers-clause-found : goal.returns-then-not-covers-clause-found
 returns-then-not-covers-clause-found c =
-    let key = numbers c.args.key.now in
+    let key = numbers c.args.key.now.key.now in
     let subtable = c.args.subtable.now in
     let mask = bits c.args.mask.now in
     let of = bits c.args.subtable_mask.now in

@@ -10,7 +10,7 @@ use Rattle.megaflow_table.proofs.overlaps.overlapping.Goals as goal
 
 pub subtables-preserved : goal.subtables-preserved
 subtables-preserved c =
-    let found = overlapping_in (numbers c.args.key.now) (bits c.args.mask.now) in
+    let found = overlapping_in (numbers c.args.key.now.key.now) (bits c.args.mask.now) in
     let here : Mask × Subtable = (c.in-Some.subtable_mask.now, c.in-Some.subtable.now) in (
       c.in_ok-add_overlapping.ensures.found ∙ ap (λ ns. ns ++ found here) c.subtables.invariant.0 ∙ added_one found c.args.subtables.now.entries c.subtables.i here (sym c.in-Some.ensures.entry),
       one_more (IsScanned (bits c.args.mask.now)) c.args.subtables.now.entries c.subtables.i

@@ -9,5 +9,5 @@ use Rattle.megaflow_table.proofs.overlaps.overlapping.Given as goal
 
 abbrev pub invariant-subtables : goal.invariant-subtables
 invariant-subtables l =
-    (l.found.items ≡ flat_map (overlapping_in (numbers l.key) (bits l.mask)) (take l.i l.subtables.entries))
+    (l.found.items ≡ flat_map (overlapping_in (numbers l.key.key.now) (bits l.mask)) (take l.i l.subtables.entries))
     × ((j : ℕ) (t : Mask × Subtable) → j < l.i → slice_get l.subtables.entries j ≡ Some t → IsScanned (bits l.mask) t)

@@ -9,11 +9,11 @@ use Rattle.tuple_classifier.proofs.WinnerLaws.{number_of_best}
 use Rattle.tuple_classifier.proofs.lookup.look.Goals as goal
 
 pub subtables-init : goal.subtables-init
-subtables-init c rs are of = (c.none-known.ensures (numbers c.args.key.now) rs, passed_none (numbers c.args.key.now) (bits c.args.consulted.now) rs (ranked c.args.subtables.now))
+subtables-init c rs are of = (c.none-known.ensures (numbers c.args.key.now.key.now) rs, passed_none (numbers c.args.key.now.key.now) (bits c.args.consulted.now) rs (ranked c.args.subtables.now))
 
 pub returns-then-not-reaches-clause-winner : goal.returns-then-not-reaches-clause-winner
 returns-then-not-reaches-clause-winner c rs are of distinct =
-    let key = numbers c.args.key.now in
+    let key = numbers c.args.key.now.key.now in
     let ss = ranked c.args.subtables.now in
     let s = c.at-subtable.result.now in
     let own = of_mask (bits s.staged.mask) rs in
@@ -24,7 +24,7 @@ returns-then-not-reaches-clause-winner c rs are of distinct =
 
 pub returns-then-not-reaches-clause-consulted : goal.returns-then-not-reaches-clause-consulted
 returns-then-not-reaches-clause-consulted c rs are of distinct =
-    let key = numbers c.args.key.now in
+    let key = numbers c.args.key.now.key.now in
     let ss = ranked c.args.subtables.now in
     let s = c.at-subtable.result.now in
     let own = of_mask (bits s.staged.mask) rs in
@@ -34,7 +34,7 @@ returns-then-not-reaches-clause-consulted c rs are of distinct =
 
 pub subtables-preserved : goal.subtables-preserved
 subtables-preserved c rs are of =
-    let key = numbers c.args.key.now in
+    let key = numbers c.args.key.now.key.now in
     let ss = ranked c.args.subtables.now in
     let s = c.at-subtable.result.now in
     let own = of_mask (bits s.staged.mask) rs in
@@ -49,7 +49,7 @@ subtables-preserved c rs are of =
 
 pub returns-clause-winner : goal.returns-clause-winner
 returns-clause-winner c rs are of distinct =
-    let key = numbers c.args.key.now in
+    let key = numbers c.args.key.now.key.now in
     let ss = ranked c.args.subtables.now in
     let past = c.subtables-test.false in
     let all = c.len-i-end.ensures in
@@ -59,7 +59,7 @@ returns-clause-winner c rs are of distinct =
 
 pub returns-clause-consulted : goal.returns-clause-consulted
 returns-clause-consulted c rs are of distinct =
-    let key = numbers c.args.key.now in
+    let key = numbers c.args.key.now.key.now in
     let ss = ranked c.args.subtables.now in
     let past = c.subtables-test.false in
     let all = c.len-i-end.ensures in

@@ -9,4 +9,4 @@ use Rattle.tuple_classifier.proofs.lookup.look.Given as goal
 
 abbrev pub invariant-subtables : goal.invariant-subtables
 invariant-subtables l = (rs : List Rule) → AreRankedOf (ranked l.subtables) rs → AreOf l.prefixes rs →
-    AreKnown l.known (numbers l.key) rs × IsPassed (numbers l.key) (bits l.fn.consulted) rs (ranked l.subtables) l.i l.best (bits l.consulted)
+    AreKnown l.known (numbers l.key.key.now) rs × IsPassed (numbers l.key.key.now) (bits l.fn.consulted) rs (ranked l.subtables) l.i l.best (bits l.consulted)

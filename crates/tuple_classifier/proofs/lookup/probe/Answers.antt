@@ -1,6 +1,5 @@
 use Rattle.std.proofs.Common.{◌≡◌, ◌<◌, List, [], ◌∷◌, IfSome, refl, sym, ap, subst, ◌∙◌}
 use Rattle.std.specs.Option.{option_map}
-use Rattle.spec_keys.specs.Keys.{joined}
 use Rattle.spec_keys.specs.Stages.{network_stage}
 use Rattle.spec_tables.specs.Rules.{Rule}
 use Rattle.spec_xlate.specs.Lookup as xlate
@@ -17,7 +16,7 @@ use Rattle.tuple_classifier.proofs.lookup.probe.Goals as goal
 
 pub returns-in-Some-clause-best : goal.returns-in-Some-clause-best
 returns-in-Some-clause-best c rs is of known =
-    let key = numbers c.args.key.now in
+    let key = numbers c.args.key.now.key.now in
     let x = c.args.subtable.now in
     let mask = bits x.staged.mask in
     let own = of_mask mask rs in
@@ -26,23 +25,23 @@ returns-in-Some-clause-best c rs is of known =
 
 pub returns-in-Some-clause-consulted : goal.returns-in-Some-clause-consulted
 returns-in-Some-clause-consulted c rs is of known =
-    let key = numbers c.args.key.now in
+    let key = numbers c.args.key.now.key.now in
     let x = c.args.subtable.now in
     let mask = bits x.staged.mask in
     let own = of_mask mask rs in
     let ended = subst (λ o. IfSome o (λ p. (qs : List Rule) → lookup.IsSubtableOf x.staged qs → IsProbe p mask key qs)) c.in-Some.ensures.ended c.probe_early-early.ensures.some own is.staged in
     let early : c.in-Some.stage < network_stage = subst (λ o. IfSome o IsEarly) c.in-Some.ensures.ended c.probe_early-early.ensures.early in
-    c.or.ensures ∙ ap (joined (bits c.args.consulted.now)) (c.part.ensures own is.staged) ∙ sym (ended_early rs key mask c.in-Some.stage (bits c.args.consulted.now) early ended)
+    c.add_part_to.ensures own is.staged ∙ sym (ended_early rs key mask c.in-Some.stage (bits c.args.consulted.now) early ended)
 
 pub returns-then-not-test-clause-best : goal.returns-then-not-test-clause-best
 returns-then-not-test-clause-best c rs is of known =
-    let key = numbers c.args.key.now in
+    let key = numbers c.args.key.now.key.now in
     let mask = bits c.args.subtable.now.staged.mask in
     sym (ap (option_map rank_of) (no_winner key mask rs (c.test.ensures.unmatched rs mask of known is.indexed.prefixed c.if-not-test.true)))
 
 pub returns-then-not-test-clause-consulted : goal.returns-then-not-test-clause-consulted
 returns-then-not-test-clause-consulted c rs is of known =
-    let key = numbers c.args.key.now in
+    let key = numbers c.args.key.now.key.now in
     let x = c.args.subtable.now in
     let mask = bits x.staged.mask in
     let own = of_mask mask rs in
@@ -50,15 +49,15 @@ returns-then-not-test-clause-consulted c rs is of known =
     (of_these c.probe_early-early.result (λ qs. lookup.IsSubtableOf x.staged qs) (λ p qs. IsProbe p mask key qs) own c.probe_early-early.ensures.some is.staged)
     (λ none. c.probe_early-early.ensures.none none own is.staged) in
     let last = stage_test rs key mask network_stage (mask ∷ []) in
-    let to_tests : added (bits c.args.consulted.now) (xlate.probe rs key mask) ≡ added (bits c.or-2.result) (xlate.prefix_tests rs key mask tracked_fields last) =
+    let to_tests : added (bits c.args.consulted.now) (xlate.probe rs key mask) ≡ added (bits c.add_part_to-2.new.other) (xlate.prefix_tests rs key mask tracked_fields last) =
     passed_early rs key mask (bits c.args.consulted.now) (passed_any rs key mask is.staged.of_mask c.probe_early-early.result passed)
-    ∙ ap (λ z. added z (xlate.prefix_tests rs key mask tracked_fields last)) (sym (c.or-2.ensures ∙ ap (joined (bits c.args.consulted.now)) (c.part-2.ensures own is.staged))) in
+    ∙ ap (λ z. added z (xlate.prefix_tests rs key mask tracked_fields last)) (sym (c.add_part_to-2.ensures own is.staged)) in
     let to_last = to_tests ∙ c.test.ensures.consulted rs mask of known is.indexed.prefixed last in
     sym (to_last ∙ ap (λ t. added (bits c.test.new.consulted) (when t last)) c.if-not-test.true)
 
 pub returns-clause-best : goal.returns-clause-best
 returns-clause-best c rs is of known =
-    let key = numbers c.args.key.now in
+    let key = numbers c.args.key.now.key.now in
     let x = c.args.subtable.now in
     let mask = bits x.staged.mask in
     let own = of_mask mask rs in
@@ -69,7 +68,7 @@ returns-clause-best c rs is of known =
 
 pub returns-clause-consulted : goal.returns-clause-consulted
 returns-clause-consulted c rs is of known =
-    let key = numbers c.args.key.now in
+    let key = numbers c.args.key.now.key.now in
     let x = c.args.subtable.now in
     let mask = bits x.staged.mask in
     let own = of_mask mask rs in
@@ -77,9 +76,9 @@ returns-clause-consulted c rs is of known =
     (of_these c.probe_early-early.result (λ qs. lookup.IsSubtableOf x.staged qs) (λ p qs. IsProbe p mask key qs) own c.probe_early-early.ensures.some is.staged)
     (λ none. c.probe_early-early.ensures.none none own is.staged) in
     let last = stage_test rs key mask network_stage (mask ∷ []) in
-    let to_tests : added (bits c.args.consulted.now) (xlate.probe rs key mask) ≡ added (bits c.or-2.result) (xlate.prefix_tests rs key mask tracked_fields last) =
+    let to_tests : added (bits c.args.consulted.now) (xlate.probe rs key mask) ≡ added (bits c.add_part_to-2.new.other) (xlate.prefix_tests rs key mask tracked_fields last) =
     passed_early rs key mask (bits c.args.consulted.now) (passed_any rs key mask is.staged.of_mask c.probe_early-early.result passed)
-    ∙ ap (λ z. added z (xlate.prefix_tests rs key mask tracked_fields last)) (sym (c.or-2.ensures ∙ ap (joined (bits c.args.consulted.now)) (c.part-2.ensures own is.staged))) in
+    ∙ ap (λ z. added z (xlate.prefix_tests rs key mask tracked_fields last)) (sym (c.add_part_to-2.ensures own is.staged)) in
     let to_last = to_tests ∙ c.test.ensures.consulted rs mask of known is.indexed.prefixed last in
     c.finish.ensures.consulted rs is.staged passed
     ∙ sym (to_last ∙ ap (λ t. added (bits c.test.new.consulted) (when t last)) c.if-not-test.false)

@@ -6,8 +6,8 @@ use Rattle.tuple_classifier.proofs.lookup.told.Goals as goal
 
 pub returns-in-Ended-clause-consulted : goal.returns-in-Ended-clause-consulted
 returns-in-Ended-clause-consulted c own is =
-    c.or.ensures ∙ ap (joined (bits c.args.consulted.now)) (c.part.ensures own is ∙ sym (ap (λ p. tested_part p (bits c.args.staged.now.mask)) c.in-Ended.is))
+    c.add_part_to.ensures own is ∙ ap (joined (bits c.args.consulted.now)) (sym (ap (λ p. tested_part p (bits c.args.staged.now.mask)) c.in-Ended.is))
 
 pub returns-in-Best-clause-consulted : goal.returns-in-Best-clause-consulted
 returns-in-Best-clause-consulted c own is =
-    c.or-in-Best.ensures ∙ ap (joined (bits c.args.consulted.now)) (ap bits c.mask.ensures ∙ sym (ap (λ p. tested_part p (bits c.args.staged.now.mask)) c.in-Best.is))
+    c.add_mask_to.ensures own is ∙ ap (joined (bits c.args.consulted.now)) (sym (ap (λ p. tested_part p (bits c.args.staged.now.mask)) c.in-Best.is))

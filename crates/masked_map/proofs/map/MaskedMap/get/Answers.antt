@@ -10,9 +10,9 @@ use Rattle.masked_map.proofs.map.MaskedMap.get.Goals as goal
 pub returns-in-Compact : goal.returns-in-Compact
 returns-in-Compact g c =
     c.value_of.ensures ∙ lookup_at list_of c.in-Compact.map.entries c.masked.result _ c.masked.ensures
-    ∙ ap (λ e. lookup (same (masked (numbers c.args.key.now) (mask_in e))) (entries_in e)) (sym c.in-Compact.is)
+    ∙ ap (λ e. lookup (same (masked (numbers c.args.key.now.key.now) (mask_in e))) (entries_in e)) (sym c.in-Compact.is)
 
 pub returns-in-Whole : goal.returns-in-Whole
 returns-in-Whole g c =
     c.value_of-in-Whole.ensures ∙ lookup_at numbers c.in-Whole.map.entries c.masked-in-Whole.result _ c.masked-in-Whole.ensures
-    ∙ ap (λ e. lookup (same (masked (numbers c.args.key.now) (mask_in e))) (entries_in e)) (sym c.in-Whole.is)
+    ∙ ap (λ e. lookup (same (masked (numbers c.args.key.now.key.now) (mask_in e))) (entries_in e)) (sym c.in-Whole.is)

@@ -3,4 +3,4 @@ use Rattle.staged_lookup.proofs.StageLaws.{stage_agrees}
 use Rattle.staged_lookup.proofs.stage.Stage.agrees.Goals as goal
 
 pub returns : goal.returns
-returns c before part mask rs is tested = stage_agrees c.args.self.now before part mask (numbers c.args.key.now) rs c.count_of.result is tested c.count_of.ensures
+returns c before part mask rs is tested = stage_agrees c.args.self.now before part mask (numbers c.args.key.now.key.now) rs c.count_of_packet.result is tested c.count_of_packet.ensures

@@ -11,26 +11,26 @@ use Rattle.staged_lookup.proofs.subtable.Subtable.probe_early.Goals as goal
 pub returns-then-is_empty-clause-some : goal.returns-then-is_empty-clause-some
 returns-then-is_empty-clause-some c rs is =
     let mask = bits c.args.self.now.mask in
-    let key = numbers c.args.key.now in
+    let key = numbers c.args.key.now.key.now in
     let none = kept_empty c.args.self.now.keys rs (no_entries c.args.self.now.keys.entries (c.if-is_empty.ensures.0 refl)) is.kept in
     ends_at mask key rs 0 (passed_none mask key rs) (ap (λ (qs : List Rule). some_agrees qs key (part_through 0 mask)) none)
 
 pub returns-in-Ends-clause-some : goal.returns-in-Ends-clause-some
 returns-in-Ends-clause-some c rs is =
     let mask = bits c.args.self.now.mask in
-    let key = numbers c.args.key.now in
+    let key = numbers c.args.key.now.key.now in
     ends_at mask key rs 0 (passed_none mask key rs) (c.in-Ends.ensures _ _ mask rs is.metadata)
 
 pub returns-in-Decides-clause-some : goal.returns-in-Decides-clause-some
 returns-in-Decides-clause-some c rs is =
     let mask = bits c.args.self.now.mask in
-    let key = numbers c.args.key.now in
+    let key = numbers c.args.key.now.key.now in
     decided_is mask key rs is.of_mask c.decided.result c.best.result 0 c.decided.ensures.none c.decided.ensures.some (c.best.ensures rs is) (c.in-Decides.ensures _ _ mask rs is.metadata) (passed_none mask key rs)
 
 pub returns-in-Passes-step-clause-none : goal.returns-in-Passes-step-clause-none
 returns-in-Passes-step-clause-none c goes_on rs is =
     let mask = bits c.args.self.now.mask in
-    let key = numbers c.args.key.now in
+    let key = numbers c.args.key.now.key.now in
     let some = kept_some c.args.self.now.keys rs is.kept (λ n. false≢true (c.if-is_empty.ensures.1 n)) in
     let first = passed_more mask key rs 0 (passed_none mask key rs) (c.in-Passes.ensures _ _ mask rs is.metadata (agrees_on_none mask key rs some.0 some.1 (is.of_mask some.0 some.1) refl)) in
     passed_more mask key rs 1 first (c.in-Passes-step.ensures _ _ mask rs is.ethernet (first 0 (lit< tt)))
@@ -38,7 +38,7 @@ returns-in-Passes-step-clause-none c goes_on rs is =
 pub returns-in-Ends-step-clause-some : goal.returns-in-Ends-step-clause-some
 returns-in-Ends-step-clause-some c rs is =
     let mask = bits c.args.self.now.mask in
-    let key = numbers c.args.key.now in
+    let key = numbers c.args.key.now.key.now in
     let some = kept_some c.args.self.now.keys rs is.kept (λ n. false≢true (c.if-is_empty.ensures.1 n)) in
     let first = passed_more mask key rs 0 (passed_none mask key rs) (c.in-Passes.ensures _ _ mask rs is.metadata (agrees_on_none mask key rs some.0 some.1 (is.of_mask some.0 some.1) refl)) in
     ends_at mask key rs 1 first (c.in-Ends-step.ensures _ _ mask rs is.ethernet)
@@ -46,7 +46,7 @@ returns-in-Ends-step-clause-some c rs is =
 pub returns-in-Decides-step-clause-some : goal.returns-in-Decides-step-clause-some
 returns-in-Decides-step-clause-some c rs is =
     let mask = bits c.args.self.now.mask in
-    let key = numbers c.args.key.now in
+    let key = numbers c.args.key.now.key.now in
     let some = kept_some c.args.self.now.keys rs is.kept (λ n. false≢true (c.if-is_empty.ensures.1 n)) in
     let first = passed_more mask key rs 0 (passed_none mask key rs) (c.in-Passes.ensures _ _ mask rs is.metadata (agrees_on_none mask key rs some.0 some.1 (is.of_mask some.0 some.1) refl)) in
     decided_is mask key rs is.of_mask c.decided-in-Decides-step.result c.best-in-Decides-step.result 1 c.decided-in-Decides-step.ensures.none c.decided-in-Decides-step.ensures.some (c.best-in-Decides-step.ensures rs is) (c.in-Decides-step.ensures _ _ mask rs is.ethernet) first

@@ -1,8 +1,18 @@
+use Rattle.std.proofs.Common.{◌≡◌, subst}
+use Rattle.std.specs.Option.{option_map}
+use Rattle.spec_tables.specs.Rules.{Rule, winner}
+use Rattle.spec_xlate.specs.Lookup.{added, consults}
+use Rattle.ovs_fields.specs.declared.key.Key.{Key}
+use Rattle.ovs_fields.specs.Packed.{numbers, bits}
 use Rattle.tuple_classifier.proofs.KeptLaws.{ranked_of}
 use Rattle.tuple_classifier.proofs.table.Table.look.Goals as goal
 
 pub returns-clause-winner : goal.returns-clause-winner
-returns-clause-winner c rs are distinct = c.look.ensures.winner rs (ranked_of c.args.self.now.subtables rs are.kept) are.prefixed distinct
+returns-clause-winner c rs are distinct =
+    subst (λ (k : Key). c.look.result ≡ option_map (λ (r : Rule). r.number) (winner rs (numbers k))) c.new.ensures
+    (c.look.ensures.winner rs (ranked_of c.args.self.now.subtables rs are.kept) are.prefixed distinct)
 
 pub returns-clause-consulted : goal.returns-clause-consulted
-returns-clause-consulted c rs are distinct = c.look.ensures.consulted rs (ranked_of c.args.self.now.subtables rs are.kept) are.prefixed distinct
+returns-clause-consulted c rs are distinct =
+    subst (λ (k : Key). bits c.look.new.consulted ≡ added (bits c.args.consulted.now) (consults rs (numbers k))) c.new.ensures
+    (c.look.ensures.consulted rs (ranked_of c.args.self.now.subtables rs are.kept) are.prefixed distinct)

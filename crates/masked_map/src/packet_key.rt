@@ -1,0 +1,35 @@
+ghost use Rattle.std.specs.Prelude.{◌≡◌};
+ghost use Rattle.spec_keys.specs.Keys.{masked};
+ghost use Rattle.ovs_fields.specs.Packed.{numbers};
+ghost use Rattle.masked_map.specs.Compact.{compacted, list_of};
+
+use crate::fields::{CompactFields, taken_of_key};
+use ovs_fields::Key;
+
+/// The key of a packet with its compact fields, which are taken once for look-ups under many masks.
+#[derive(Clone, Copy, Debug)]
+pub struct PacketKey<'a> {
+    pub key: &'a Key,
+    pub(crate) fields: CompactFields,
+    pub(crate) ghost taken: { list_of fields ≡ compacted (numbers key.now) },
+}
+
+impl<'a> PacketKey<'a> {
+    /// Takes the compact fields of a key.
+    pub fn new(key: &'a Key) -> PacketKey<'a>
+        ensures { result.key.now ≡ key.now }
+    {
+        PacketKey {
+            key,
+            fields: taken_of_key(key),
+        }
+    }
+
+    /// The bits of the key that are in these of a mask.
+    #[inline]
+    pub(crate) fn masked(&self, mask: &CompactFields) -> CompactFields
+        ensures { list_of result ≡ masked (numbers self.now.key.now) (list_of mask.now) }
+    {
+        self.fields.and(mask)
+    }
+}
