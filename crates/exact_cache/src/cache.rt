@@ -4,10 +4,10 @@ ghost use Rattle.ovs_fields.specs.Packed.{numbers};
 ghost use Rattle.exact_cache.specs.SameSlots.{AreSameSlots};
 
 use crate::hashed_key::HashedKey;
+use crate::hints::Hints;
 use crate::kept::Kept;
-use crate::slots::{
-    KeptSlots, empty_slots, entry_for, first_slot, kept_in, second_slot, slot_for, write,
-};
+use crate::slots::{KeptSlots, empty_slots, entry_for, first_slot, second_slot, slot_for, write};
+use ovs_fields::Key;
 use std::alloc::{AllocError, Global};
 use std::marker::Model;
 
@@ -15,6 +15,7 @@ use std::marker::Model;
 #[derive(Drop)]
 pub struct ExactCache {
     slots: KeptSlots,
+    hints: Hints,
 }
 
 impl Model for ExactCache {
@@ -36,16 +37,34 @@ impl ExactCache {
         ensures { IfOk result (λ cache. cache ≡ []) }
     {
         let slots = empty_slots(alloc)?;
-        Ok(ExactCache { slots })
+        let hints = Hints::new(alloc)?;
+        Ok(ExactCache { slots, hints })
+    }
+
+    /// A key with its hash. It isn't hashed where the cache keeps it at the place that its hint tells.
+    pub fn hashed<'a>(&self, key: &'a Key) -> HashedKey<'a>
+        ensures { result.key.now ≡ key.now }
+    {
+        if let Some(kept) = self.hinted(key) {
+            if let Some(hashed) = kept.hashed(key) {
+                return hashed;
+            }
+        }
+        HashedKey::of(key)
+    }
+
+    /// What is kept at the place that the hint of a key tells.
+    fn hinted(&self, key: &Key) -> Option<&Kept> {
+        self.slots.kept.get(self.hints.place_for(key)?)
     }
 
     /// The entry that the cache names for a key. It may be live no more, which the caller tests.
     pub fn look(&self, key: HashedKey<'_>) -> Option<u32>
         ensures { result ≡ cached self.now (numbers key.entry.key.now) }
     {
-        match entry_for(kept_in(&self.slots, first_slot(key.hash)), key) {
+        match entry_for(&self.slots, first_slot(key.hash), key) {
             Some(entry) => Some(entry),
-            None => entry_for(kept_in(&self.slots, second_slot(key.hash)), key),
+            None => entry_for(&self.slots, second_slot(key.hash), key),
         }
     }
 
@@ -60,6 +79,7 @@ impl ExactCache {
             hash: key.hash,
             key: *key.key,
         };
-        write(&mut self.slots, kept);
+        let place = write(&mut self.slots, kept);
+        self.hints.tell(key.key, place);
     }
 }

@@ -1,4 +1,4 @@
-ghost use Rattle.std.specs.Prelude.{◌≡◌};
+ghost use Rattle.std.specs.Prelude.{◌≡◌, IfSome};
 ghost use Rattle.spec_keys.specs.Keys.{same};
 ghost use Rattle.spec_keys.specs.Hash.{key_hash};
 ghost use Rattle.ovs_fields.specs.Packed.{numbers};
@@ -24,5 +24,19 @@ impl Kept {
         ensures { result ≡ same (numbers self.now.key) (numbers key.entry.key.now) }
     {
         self.hash == key.hash && self.key == *key.key
+    }
+
+    /// A key with the hash that is kept, where it is the key that is kept.
+    pub(crate) fn hashed<'a>(&self, key: &'a Key) -> Option<HashedKey<'a>>
+        ensures { IfSome result (λ hashed. hashed.key.now ≡ key.now) }
+    {
+        if self.key == *key {
+            Some(HashedKey {
+                key,
+                hash: self.hash,
+            })
+        } else {
+            None
+        }
     }
 }

@@ -15,7 +15,8 @@
 //! Contracts see an `ExactCache` as the slots that were written: a list as in the definition of the cache in
 //! `spec_board`, each slot number at most once. Their order plays no part.
 //!
-//! - A `HashedKey` has the hash of its key, by its type.
+//! - A `HashedKey` has the hash of its key, by its type: `HashedKey::of` hashes the key, and `hashed` of a cache
+//!   answers the same, in less time where the cache has the hash at hand. No contract speaks of that time.
 //! - `new` has no slot. It takes all memory that the cache will ever take, so that no later call can fail.
 //! - `look` answers the entry that `cached` names for a key: that of the first of its slots that holds the key.
 //! - After `put` each slot holds what it does after `with_cached`: the key is put where it stands already; else where
@@ -30,16 +31,24 @@
 //!
 //! # How
 //!
-//! What the slots keep stands in one vector, in the order of their first writes. An index beside it has for each slot the
-//! place there, or says that there is none. A look reads the index and the hash that is kept, and the key only where the
-//! hashes are equal, so that a slot of another key costs little.
+//! What the slots keep stands in one vector, in the order of their first writes. An index beside it has for each slot
+//! the place there, or says that there is none, and a *tag*: 16 bits of the hash of the key that is kept, none of
+//! which tells a slot. What is kept is read only where the tag is that of the key's hash, and the key only where the
+//! whole hashes are equal. So a look for a key that isn't there reads two items of the index, and hardly ever more.
 //!
-//! The hash takes a good part of the time of a look. So `look` and `put` are given a key with its hash (`HashedKey`), and
-//! a key that is looked up and then put is hashed once.
+//! The hash takes about half of the time of a look. So `look` and `put` are given a key with its hash (`HashedKey`),
+//! and a key that is looked up and then put is hashed once. `hashed` spares the hash for most keys that the cache has.
 //!
-//! `new` makes room for all slots, which is 1.6 MB, and 50 MB for 32 boards. But it writes only the index, 32 kB, and what
-//! is never written the system doesn't have to provide. A run of few connections writes the beginning of the vector, where
-//! an array by the numbers of the slots would be written in all its parts.
+//! For that there are 4096 *hints* beside the slots, each of which tells one place of the vector, or none, and the
+//! *mark* of the key that is there. The addresses and ports of a key, joined and multiplied once, tell which hint is
+//! its own, and its mark. Where the hint has this mark and the key at that place is this one, the hash that is kept
+//! with it is its hash. Else it is hashed, and the attempt was in vain: some 25 instructions. `put` has the key's hint
+//! tell where the key is kept. Keys that share a hint take it from one another, and nothing rests on it: whatever it
+//! tells, keys are compared.
+//!
+//! `new` makes room for all slots, which is 1.6 MB, and 50 MB for 32 boards. But it writes only the index, 32 kB, and
+//! the hints, 16 kB, and what is never written the system doesn't have to provide. A run of few connections writes the
+//! beginning of the vector, where an array by the numbers of the slots would be written in all its parts.
 //!
 //! What is kept tells its slot, and the index has that place for this slot and no other (`IsCache` in `specs/Kept`). So
 //! there are never more than the slots have room for: one that was never written finds room, and one that was is written
@@ -52,6 +61,7 @@
 
 mod cache;
 mod hashed_key;
+mod hints;
 mod kept;
 mod slots;
 mod threads;

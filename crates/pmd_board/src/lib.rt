@@ -38,7 +38,8 @@
 //! memory. No count overflows: what a rule is due is at most a packet for each frame and lookup, with 2^32 frames, 2^9
 //! lookups and 2^18 bytes a frame at most.
 //!
-//! A look hashes the frame's key once, though it may both ask the exact-match cache and put the key there.
+//! A look hashes the frame's key once at most, though it may both ask the exact-match cache and put the key there; and
+//! most keys that this cache has, it doesn't hash.
 //!
 //! # What is left to others
 //!

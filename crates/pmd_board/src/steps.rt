@@ -72,7 +72,7 @@ impl<C: Case> Board<C> {
             self.laws_hold();
             return Err(fault);
         }
-        let key = HashedKey::of(&at.key);
+        let key = self.caches.hashed(&at.key);
         let found = self.caches.look(key);
         match found {
             Looked::Exact(number) | Looked::Mega(number) => self.hit(at, key, number, found),

@@ -141,6 +141,13 @@ impl PortCaches {
         self.lists[list].actions.as_slice()
     }
 
+    /// A key with its hash, which isn't made anew where the exact-match cache has it at hand. It takes no memory.
+    pub fn hashed<'a>(&self, key: &'a Key) -> HashedKey<'a>
+        ensures { result.key.now ≡ key.now }
+    {
+        self.exact.hashed(key)
+    }
+
     /// What knows a key: the exact-match cache, where it names a live entry; else the entry that covers the key.
     pub fn look(&self, key: HashedKey<'_>) -> Looked
         ensures { (s : State) → AreCachesOf self.now s

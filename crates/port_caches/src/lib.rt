@@ -44,6 +44,7 @@
 //! that there is no memory.
 //!
 //! `look` and `remember` take a key with its hash (`HashedKey`), since a frame that hits a megaflow comes to both.
+//! `hashed` gives it, without hashing most keys that the exact-match cache has.
 //!
 //! `settle` asks for all its memory first: the list, the numbers of the entries that the new one overlaps, and the
 //! table's room for it. From there on nothing is refused.

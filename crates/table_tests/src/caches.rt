@@ -28,6 +28,18 @@ fn a_key_is_named_the_entry_that_was_put_last(rt: HostRuntime) -> Result<(), Fai
 }
 
 #[test]
+fn keys_that_share_a_hint_keep_their_own_hashes(rt: HostRuntime) -> Result<(), Fail> {
+    let mut cache = ExactCache::new(rt.alloc())?;
+    let key = from_address(0x0a00_0001);
+    let other = from_address(0x0a00_0ed0);
+    cache.put(HashedKey::of(&key), 1);
+    cache.put(HashedKey::of(&other), 2);
+    assert_eq!(rt; cache.look(cache.hashed(&key)), Some(1));
+    assert_eq!(rt; cache.look(cache.hashed(&other)), Some(2));
+    Ok(())
+}
+
+#[test]
 fn a_full_cache_takes_more_keys(rt: HostRuntime) -> Result<(), Fail> {
     let mut cache = ExactCache::new(rt.alloc())?;
     for address in 0..MANY {

@@ -5,5 +5,5 @@ use Rattle.exact_cache.proofs.cache.ExactCache.put.Goals as goal
 
 pub returns : goal.returns
 returns c =
-    written-with_cached c.self.inside.slots c.write.new.slots c.args.self.now (numbers c.args.key.key.now) c.args.entry _ c.self.invariant c.write.ensures.cache
-    c.self.view_is c.slot_for.ensures.slot refl refl c.write.ensures.written
+    written-with_cached c.self.inside.slots c.write-place.new.slots c.args.self.now (numbers c.args.key.key.now) c.args.entry _ c.self.invariant c.write-place.ensures.cache
+    c.self.view_is c.slot_for.ensures.slot refl refl c.write-place.ensures.written

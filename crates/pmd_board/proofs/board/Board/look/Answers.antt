@@ -14,7 +14,7 @@ hit-requires-clause-found g c =
     let b = c.self.inside in
     let found : c.look-found.result ≡ c.in-Exact.found = cc c.in-Exact.found-is in
     subst (λ (x : BoardView). looked (numbers c.args.at.now.key) (state_of run x) ≡ c.in-Exact.found) c.self.view_is
-    (ap (λ (k : Key). looked (numbers k) (state_of run (view_of b))) (sym c.of-key.ensures)
+    (ap (λ (k : Key). looked (numbers k) (state_of run (view_of b))) (sym c.hashed-key.ensures)
     ∙ sym (c.look-found.ensures (state_of run (view_of b)) c.self.invariant.caches.caches) ∙ found)
 
 pub miss-requires-clause-missed : goal.miss-requires-clause-missed
@@ -22,5 +22,5 @@ miss-requires-clause-missed g c =
     let run : Run = g.C.Case.run in
     let b = c.self.inside in
     subst (λ (x : BoardView). looked (numbers c.args.at.now.key) (state_of run x) ≡ Miss) c.self.view_is
-    (ap (λ (k : Key). looked (numbers k) (state_of run (view_of b))) (sym c.of-key.ensures)
+    (ap (λ (k : Key). looked (numbers k) (state_of run (view_of b))) (sym c.hashed-key.ensures)
     ∙ sym (c.look-found.ensures (state_of run (view_of b)) c.self.invariant.caches.caches) ∙ c.in-Miss.is)
