@@ -4,9 +4,9 @@
     python3 masks.py PROGRAM [TABLES]
 
 PROGRAM has the words EDITS TRACE PORT PORTS..: by the tables after all edits of EDITS, on a switch of these ports, it
-prints a line for each frame of TRACE, as if it came in at PORT. A line has the mask, as 34 hexadecimal numbers in the
-order of the fields of keys, then `actions=` and the datapath actions as text, and then `visits=` and the numbers of the
-rules with `+` between them, or `-`.
+prints a line for each frame of TRACE, as if it came in at PORT. A line has the mask, as a hexadecimal number for each
+field, in the order of the fields of keys, then `actions=` and the datapath actions as text, and then `visits=` and the
+numbers of the rules with `+` between them, or `-`.
 
 For each of 300 tables, or of so many, the lines of some frames have to be those of the simulation, bit by bit. Beside each
 frame stand others in which one bit is flipped that its mask doesn't have, and which differ from it in that bit of the key
