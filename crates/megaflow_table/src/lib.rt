@@ -22,7 +22,8 @@
 //!   come: no two entries overlap, and the numbers rise.
 //! - `install` appends an entry, which must overlap none and have a greater number than all.
 //! - `hit`, `change` and `pay` change one entry as their names say, and `remove` takes one out. Everything else stays.
-//!   `change` answers the visits that the entry had, whose memory can be used again.
+//!   `change` answers the visits that the entry had, whose memory can be used again, and `hit` the version and the place
+//!   of the actions of its entry, so that a hit finds the entry once.
 //! - `rank` answers the masks in the order in which `find` probes them, with the number of *hits* of each: those of the
 //!   entries, each once, and the numbers never rise. `hit` counts one for the mask of its entry, up to the greatest number
 //!   that there is; a mask that comes anew has none, and one leaves with its last entry. No other call changes the hits of

@@ -154,10 +154,12 @@ impl Megaflows {
         Ok(found)
     }
 
-    /// An entry decided one more packet, of this many bytes, at this time in nanoseconds, which is a hit of its mask. It
-    /// takes no memory.
-    pub fn hit(&mut self, number: u32, length: u32, time: u64)
+    /// An entry decided one more packet, of this many bytes, at this time in nanoseconds, which is a hit of its mask.
+    /// Answers the entry's version and the place of its actions. It takes no memory.
+    pub fn hit(&mut self, number: u32, length: u32, time: u64) -> (u32, u32)
         requires { ForEntry number self.old.entries (CanHit length) }
+        ensures named { option_map (λ e. (e.version, e.actions))
+            (entry_of number self.old.entries) ≡ Some result }
         ensures entries { self.new.entries ≡ changed number (hit_at length time) self.old.entries }
         ensures hits { IfSome (entry_of number self.old.entries)
             (λ e. CountsHit (bits e.mask) self.old.order self.new.order) }
@@ -169,6 +171,7 @@ impl Megaflows {
         };
         placed.entry.hit(length, time);
         placed.place = count_hit(&mut self.subtables, &placed.entry.mask, placed.place);
+        (placed.entry.version, placed.entry.actions)
     }
 
     /// Gives an entry the actions and visits of a version, and answers the visits that it had. Its counts stay. It takes

@@ -29,6 +29,7 @@ returns c =
     let there : entry_of c.args.number c.args.self.now.entries ≡ Some c.in-Some.placed.now.entry = entry_in c.self.inside c.args.number c.args.self.now c.self.view_is c.self.invariant ∙ sym (ap (option_map (λ (p : Placed). p.entry)) c.in-Some.ensures.value) in
     let order = order_of c.count_hit-placed.new.subtables in
     record {
+      named = ap (option_map (λ (e : Entry). (e.version, e.actions))) there ∙ ap (λ (e : Entry). Some (e.version, e.actions)) (sym c.hit.ensures);
       entries = ap (λ (f : Flows). f.entries) flows;
       hits =
           subst (λ (o : Option Entry). IfSome o (λ (e : Entry). CountsHit (bits e.mask) c.args.self.now.order order)) (sym there)
