@@ -148,6 +148,18 @@ cached-slots_view slots key cache =
     ∙ entry_by-slot_of key first (entry_by key (option_map slot_of second) None)
     ∙ ap (option_or (entry_in key first)) (entry_by-slot_of key second None ∙ option_or-none (entry_in key second))
 
+-- a key that is kept in its first slot
+pub cached-in_first : (slots : KeptSlots) (key : List ℕ) (place : ℕ) (k : Kept) → IsCache slots → slice_get slots.kept.items place ≡ Some k
+    → same (numbers k.key) key ≡ true → k.slot ≡ first_slot key → cached (slots_view slots) key ≡ Some k.entry
+cached-in_first slots key place k cache at alike is =
+    let found = cache.found place k at in
+    let placed_at : get_or (places slots) k.slot 0 ≡ suc place = omega (arith, found) in
+    let there : kept_in slots (first_slot key) ≡ Some k = ap (λ (n : ℕ). kept_in slots n) (sym is) ∙ ap (kept_at slots.kept.items) placed_at ∙ at in
+    let second = entry_in key (kept_in slots (second_slot key)) in
+    cached-slots_view slots key cache
+    ∙ ap (λ (o : Option Kept). option_or (entry_in key o) second) there
+    ∙ ap (λ (o : Option ℕ). option_or o second) (cond-true (same (numbers k.key) key) (Some k.entry) None alike)
+
 -- ---- the slot where a key is put
 
 -- the slot of two where a key is put, by what they hold

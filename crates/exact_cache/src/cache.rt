@@ -3,10 +3,11 @@ ghost use Rattle.spec_board.specs.Cache.{cached, with_cached};
 ghost use Rattle.ovs_fields.specs.Packed.{numbers};
 ghost use Rattle.exact_cache.specs.SameSlots.{AreSameSlots};
 
+use crate::exact_look::{ExactLook, look_at, look_by_hash};
 use crate::hashed_key::HashedKey;
 use crate::hints::Hints;
 use crate::kept::Kept;
-use crate::slots::{KeptSlots, empty_slots, entry_for, first_slot, second_slot, slot_for, write};
+use crate::slots::{KeptSlots, empty_slots, slot_for, write};
 use ovs_fields::Key;
 use std::alloc::{AllocError, Global};
 use std::marker::Model;
@@ -41,31 +42,18 @@ impl ExactCache {
         Ok(ExactCache { slots, hints })
     }
 
-    /// A key with its hash. It isn't hashed where the cache keeps it at the place that its hint tells.
-    pub fn hashed<'a>(&self, key: &'a Key) -> HashedKey<'a>
-        ensures { result.key.now ≡ key.now }
+    /// A key with its hash, and the entry that the cache names for it. That entry may be live no more, which the caller
+    /// tests. The key isn't hashed where the cache keeps it at the place that its hint tells.
+    pub fn look<'a>(&self, key: &'a Key) -> ExactLook<'a>
+        ensures key { result.key.key.now ≡ key.now }
+        ensures entry { result.entry ≡ cached self.now (numbers key.now) }
     {
-        if let Some(kept) = self.hinted(key) {
-            if let Some(hashed) = kept.hashed(key) {
-                return hashed;
+        if let Some(place) = self.hints.place_for(key) {
+            if let Some(found) = look_at(&self.slots, place, key) {
+                return found;
             }
         }
-        HashedKey::of(key)
-    }
-
-    /// What is kept at the place that the hint of a key tells.
-    fn hinted(&self, key: &Key) -> Option<&Kept> {
-        self.slots.kept.get(self.hints.place_for(key)?)
-    }
-
-    /// The entry that the cache names for a key. It may be live no more, which the caller tests.
-    pub fn look(&self, key: HashedKey<'_>) -> Option<u32>
-        ensures { result ≡ cached self.now (numbers key.entry.key.now) }
-    {
-        match entry_for(&self.slots, first_slot(key.hash), key) {
-            Some(entry) => Some(entry),
-            None => entry_for(&self.slots, second_slot(key.hash), key),
-        }
+        look_by_hash(&self.slots, HashedKey::of(key))
     }
 
     /// Names an entry for a key, in place of the one that it named; another key may be forgotten for it. It takes no

@@ -1,4 +1,4 @@
-ghost use Rattle.std.specs.Prelude.{◌≡◌, IfSome};
+ghost use Rattle.std.specs.Prelude.{◌≡◌, IfSome, true};
 ghost use Rattle.spec_keys.specs.Keys.{same};
 ghost use Rattle.spec_keys.specs.Hash.{key_hash};
 ghost use Rattle.ovs_fields.specs.Packed.{numbers};
@@ -28,7 +28,8 @@ impl Kept {
 
     /// A key with the hash that is kept, where it is the key that is kept.
     pub(crate) fn hashed<'a>(&self, key: &'a Key) -> Option<HashedKey<'a>>
-        ensures { IfSome result (λ hashed. hashed.key.now ≡ key.now) }
+        ensures key { IfSome result (λ hashed. hashed.key.now ≡ key.now) }
+        ensures kept { IfSome result (λ _. same (numbers self.now.key) (numbers key.now) ≡ true) }
     {
         if self.key == *key {
             Some(HashedKey {

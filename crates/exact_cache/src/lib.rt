@@ -15,10 +15,11 @@
 //! Contracts see an `ExactCache` as the slots that were written: a list as in the definition of the cache in
 //! `spec_board`, each slot number at most once. Their order plays no part.
 //!
-//! - A `HashedKey` has the hash of its key, by its type: `HashedKey::of` hashes the key, and `hashed` of a cache
-//!   answers the same, in less time where the cache has the hash at hand. No contract speaks of that time.
+//! - A `HashedKey` has the hash of its key, by its type: `HashedKey::of` hashes the key, and a look answers the same, in
+//!   less time where the cache has the hash at hand. No contract speaks of that time.
 //! - `new` has no slot. It takes all memory that the cache will ever take, so that no later call can fail.
-//! - `look` answers the entry that `cached` names for a key: that of the first of its slots that holds the key.
+//! - `look` answers the key with its hash, and the entry that `cached` names for it: that of the first of its slots that
+//!   holds the key.
 //! - After `put` each slot holds what it does after `with_cached`: the key is put where it stands already; else where
 //!   its first or its second slot is empty; else in place of the key in its first slot. `with_cached` puts a slot in
 //!   front of a list and leaves the older one of that number behind, so the lists differ; `AreSameSlots` says that what
@@ -36,8 +37,8 @@
 //! which tells a slot. What is kept is read only where the tag is that of the key's hash, and the key only where the
 //! whole hashes are equal. So a look for a key that isn't there reads two items of the index, and hardly ever more.
 //!
-//! The hash takes about half of the time of a look. So `look` and `put` are given a key with its hash (`HashedKey`),
-//! and a key that is looked up and then put is hashed once. `hashed` spares the hash for most keys that the cache has.
+//! The hash takes about half of the time of a look. So `look` answers the key with its hash (`HashedKey`), which `put`
+//! is given, and a key that is looked up and then put is hashed once at most. Most keys that the cache has aren't hashed.
 //!
 //! For that there are 4096 *hints* beside the slots, each of which tells one place of the vector, or none, and the
 //! *mark* of the key that is there. The addresses and ports of a key, joined and multiplied once, tell which hint is
@@ -45,6 +46,10 @@
 //! with it is its hash. Else it is hashed, and the attempt was in vain: some 25 instructions. `put` has the key's hint
 //! tell where the key is kept. Keys that share a hint take it from one another, and nothing rests on it: whatever it
 //! tells, keys are compared.
+//!
+//! A key that its hint finds in its first slot is answered at once: it was compared once, and no slot is read. One that
+//! it finds in its second slot is looked for in both like any other, since nothing says here that the first doesn't hold
+//! it too.
 //!
 //! `new` makes room for all slots, which is 1.6 MB, and 50 MB for 32 boards. But it writes only the index, 32 kB, and
 //! the hints, 16 kB, and what is never written the system doesn't have to provide. A run of few connections writes the
@@ -60,6 +65,7 @@
 #![tactic(auto)]
 
 mod cache;
+mod exact_look;
 mod hashed_key;
 mod hints;
 mod kept;
@@ -67,4 +73,5 @@ mod slots;
 mod threads;
 
 pub use cache::ExactCache;
+pub use exact_look::ExactLook;
 pub use hashed_key::HashedKey;

@@ -17,7 +17,7 @@ use crate::board::Board;
 use crate::place::Place;
 use crate::sweep_list::SweepList;
 use board_steps::Step;
-use port_caches::{HashedKey, PortCaches, Revalidated};
+use port_caches::{HashedKey, KeyLook, PortCaches, Revalidated};
 use run_case::{Case, Keyed};
 use run_xlate::Xlated;
 use spec_board::{BeginFault, EndFault, LookFault, Looked, OpenFault, PutFault, SettleFault};
@@ -72,8 +72,7 @@ impl<C: Case> Board<C> {
             self.laws_hold();
             return Err(fault);
         }
-        let key = self.caches.hashed(&at.key);
-        let found = self.caches.look(key);
+        let KeyLook { key, found } = self.caches.look(&at.key);
         match found {
             Looked::Exact(number) | Looked::Mega(number) => self.hit(at, key, number, found),
             Looked::Miss => self.miss(at),

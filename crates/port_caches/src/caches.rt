@@ -8,7 +8,7 @@ ghost use Rattle.std.specs.Option.{option_map};
 ghost use Rattle.spec_board.specs.Results.{entry_of, numbers_of, covering, looked, put_of};
 ghost use Rattle.spec_board.specs.Effects.{credited};
 ghost use Rattle.flow_stats.specs.Sums.{IsCountable, total_of};
-ghost use Rattle.spec_board.specs.Cache.{with_cached};
+ghost use Rattle.spec_board.specs.Cache.{cached, with_cached};
 ghost use Rattle.exact_cache.specs.SameSlots.{AreSameSlots};
 ghost use Rattle.board_steps.specs.StepViews.{settled_view};
 ghost use Rattle.port_caches.specs.Views.{AreCachesOf, IsHeld, actions_at, entry_view};
@@ -38,6 +38,13 @@ pub struct PortCaches {
     totals: Totals,
     /// The lists of actions. No two entries name the same one.
     lists: Vec<HeldList>,
+}
+
+/// A key that was looked up: with its hash, and what knows it.
+#[derive(Clone, Copy, Debug)]
+pub struct KeyLook<'a> {
+    pub key: HashedKey<'a>,
+    pub found: Looked,
 }
 
 /// A frame that was settled: what was done beside deciding it, and the place of its list of actions.
@@ -141,26 +148,17 @@ impl PortCaches {
         self.lists[list].actions.as_slice()
     }
 
-    /// A key with its hash, which isn't made anew where the exact-match cache has it at hand. It takes no memory.
-    pub fn hashed<'a>(&self, key: &'a Key) -> HashedKey<'a>
-        ensures { result.key.now ≡ key.now }
+    /// What knows a key: the exact-match cache, where it names a live entry; else the entry that covers the key. Answers
+    /// the key with its hash, which isn't made anew where the exact-match cache has it at hand. It takes no memory.
+    pub fn look<'a>(&self, key: &'a Key) -> KeyLook<'a>
+        ensures key { result.key.key.now ≡ key.now }
+        ensures found { (s : State) → AreCachesOf self.now s
+            → result.found ≡ looked (numbers key.now) s }
     {
-        self.exact.hashed(key)
-    }
-
-    /// What knows a key: the exact-match cache, where it names a live entry; else the entry that covers the key.
-    pub fn look(&self, key: HashedKey<'_>) -> Looked
-        ensures { (s : State) → AreCachesOf self.now s
-            → result ≡ looked (numbers key.entry.key.now) s }
-    {
-        if let Some(number) = self.exact.look(key) {
-            if self.flows.get(number).is_some() {
-                return Looked::Exact(number);
-            }
-        }
-        match self.flows.find(key.key) {
-            Some(number) => Looked::Mega(number),
-            None => Looked::Miss,
+        let exact = self.exact.look(key);
+        KeyLook {
+            key: exact.key,
+            found: self.known(key, exact.entry),
         }
     }
 
@@ -170,8 +168,7 @@ impl PortCaches {
         requires { CanHit number length self.old }
         ensures { IsHit number length time result.0 result.1 self.old self.new }
     {
-        let (version, list) = named_by(&self.flows, number);
-        self.flows.hit(number, length, time);
+        let (version, list) = self.flows.hit(number, length, time);
         let list = list as usize;
         hold(&mut self.lists, list);
         (version, list)
@@ -284,6 +281,22 @@ impl PortCaches {
 
 // What calls are made of.
 impl PortCaches {
+    /// What knows a key for which the exact-match cache names this entry.
+    fn known(&self, key: &Key, named: Option<u32>) -> Looked
+        requires { named ≡ cached self.now.slots (numbers key.now) }
+        ensures { (s : State) → AreCachesOf self.now s → result ≡ looked (numbers key.now) s }
+    {
+        if let Some(number) = named {
+            if self.flows.get(number).is_some() {
+                return Looked::Exact(number);
+            }
+        }
+        match self.flows.find(key) {
+            Some(number) => Looked::Mega(number),
+            None => Looked::Miss,
+        }
+    }
+
     /// A frame is decided by a translation: its rules are credited, and its actions are a list that stays.
     fn credit_frame(&mut self, made: Plain, length: u32) -> usize
         requires room { 1 ≤ self.old.room }

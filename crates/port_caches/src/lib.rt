@@ -16,7 +16,7 @@
 //! An *entry* is a megaflow, by its name in definitions and contracts.
 //! Of every state whose caches they are before a call:
 //!
-//! - `look` answers what the definition answers there.
+//! - `look` answers what the definition answers there, with the key and its hash.
 //! - After `hit` they are the caches of the state where that entry decided a frame of this length and time.
 //! - After `settle` they are those of the state that the definition's settle leads to, and the answer is that of the
 //!   definition: present, full, or installed, with the entries that were dropped. Each rule visited is credited with
@@ -43,8 +43,8 @@
 //! There may be 2^32 lists, since entries name them by 32 bits. The room ends there too, and `reserve` and `settle` say
 //! that there is no memory.
 //!
-//! `look` and `remember` take a key with its hash (`HashedKey`), since a frame that hits a megaflow comes to both.
-//! `hashed` gives it, without hashing most keys that the exact-match cache has.
+//! `look` answers a key with its hash (`HashedKey`), which `remember` takes, since a frame that hits a megaflow comes to
+//! both. Most keys that the exact-match cache has aren't hashed for it.
 //!
 //! `settle` asks for all its memory first: the list, the numbers of the entries that the new one overlaps, and the
 //! table's room for it. From there on nothing is refused.
@@ -64,7 +64,7 @@ mod lists;
 mod threads;
 
 pub use board_steps::{EntryNumbers, Settled};
-pub use caches::{PortCaches, Revalidated, SettledFrame};
+pub use caches::{KeyLook, PortCaches, Revalidated, SettledFrame};
 pub use exact_cache::HashedKey;
 pub use flow_stats::Totals;
 pub use megaflow_table::{Entry, Megaflows};

@@ -16,26 +16,27 @@ fn from_address(address: u32) -> Key {
 fn a_key_is_named_the_entry_that_was_put_last(rt: HostRuntime) -> Result<(), Fail> {
     let mut cache = ExactCache::new(rt.alloc())?;
     let key = from_address(0x0a00_0001);
-    let hashed = HashedKey::of(&key);
     let other = from_address(0x0a00_0002);
-    assert_eq!(rt; cache.look(hashed), None);
-    cache.put(hashed, 1);
-    assert_eq!(rt; cache.look(hashed), Some(1));
-    cache.put(hashed, 2);
-    assert_eq!(rt; cache.look(hashed), Some(2));
-    assert_eq!(rt; cache.look(HashedKey::of(&other)), None);
+    let missed = cache.look(&key);
+    assert_eq!(rt; missed.entry, None);
+    cache.put(missed.key, 1);
+    let hit = cache.look(&key);
+    assert_eq!(rt; hit.entry, Some(1));
+    cache.put(hit.key, 2);
+    assert_eq!(rt; cache.look(&key).entry, Some(2));
+    assert_eq!(rt; cache.look(&other).entry, None);
     Ok(())
 }
 
 #[test]
-fn keys_that_share_a_hint_keep_their_own_hashes(rt: HostRuntime) -> Result<(), Fail> {
+fn keys_that_share_a_hint_keep_their_own_entries(rt: HostRuntime) -> Result<(), Fail> {
     let mut cache = ExactCache::new(rt.alloc())?;
     let key = from_address(0x0a00_0001);
     let other = from_address(0x0a00_0ed0);
     cache.put(HashedKey::of(&key), 1);
     cache.put(HashedKey::of(&other), 2);
-    assert_eq!(rt; cache.look(cache.hashed(&key)), Some(1));
-    assert_eq!(rt; cache.look(cache.hashed(&other)), Some(2));
+    assert_eq!(rt; cache.look(&key).entry, Some(1));
+    assert_eq!(rt; cache.look(&other).entry, Some(2));
     Ok(())
 }
 
@@ -44,9 +45,8 @@ fn a_full_cache_takes_more_keys(rt: HostRuntime) -> Result<(), Fail> {
     let mut cache = ExactCache::new(rt.alloc())?;
     for address in 0..MANY {
         let key = from_address(address);
-        let hashed = HashedKey::of(&key);
-        cache.put(hashed, address);
-        assert_eq!(rt; cache.look(hashed), Some(address));
+        cache.put(HashedKey::of(&key), address);
+        assert_eq!(rt; cache.look(&key).entry, Some(address));
     }
     Ok(())
 }

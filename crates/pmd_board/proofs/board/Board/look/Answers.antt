@@ -1,5 +1,4 @@
-use Rattle.std.proofs.Common.{◌≡◌, sym, ap, ◌∙◌, subst}
-use Rattle.ovs_fields.specs.declared.key.Key.{Key}
+use Rattle.std.proofs.Common.{◌≡◌, sym, ◌∙◌, subst}
 use Rattle.ovs_fields.specs.Packed.{numbers}
 use Rattle.spec_case.specs.Run.{Run}
 use Rattle.spec_board.specs.declared.looked.Looked.TheVariants.{Miss}
@@ -12,15 +11,13 @@ pub hit-requires-clause-found : goal.hit-requires-clause-found
 hit-requires-clause-found g c =
     let run : Run = g.C.Case.run in
     let b = c.self.inside in
-    let found : c.look-found.result ≡ c.in-Exact.found = cc c.in-Exact.found-is in
+    let found : c.look-found.result.found ≡ c.in-Exact.found = cc c.in-Exact.found-is in
     subst (λ (x : BoardView). looked (numbers c.args.at.now.key) (state_of run x) ≡ c.in-Exact.found) c.self.view_is
-    (ap (λ (k : Key). looked (numbers k) (state_of run (view_of b))) (sym c.hashed-key.ensures)
-    ∙ sym (c.look-found.ensures (state_of run (view_of b)) c.self.invariant.caches.caches) ∙ found)
+    (sym (c.look-found.ensures.found (state_of run (view_of b)) c.self.invariant.caches.caches) ∙ found)
 
 pub miss-requires-clause-missed : goal.miss-requires-clause-missed
 miss-requires-clause-missed g c =
     let run : Run = g.C.Case.run in
     let b = c.self.inside in
     subst (λ (x : BoardView). looked (numbers c.args.at.now.key) (state_of run x) ≡ Miss) c.self.view_is
-    (ap (λ (k : Key). looked (numbers k) (state_of run (view_of b))) (sym c.hashed-key.ensures)
-    ∙ sym (c.look-found.ensures (state_of run (view_of b)) c.self.invariant.caches.caches) ∙ c.in-Miss.is)
+    (sym (c.look-found.ensures.found (state_of run (view_of b)) c.self.invariant.caches.caches) ∙ c.in-Miss.is)

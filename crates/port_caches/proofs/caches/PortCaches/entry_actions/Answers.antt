@@ -3,8 +3,6 @@ use Rattle.std.specs.Prelude.{is_some, IsSome}
 use Rattle.std.specs.Option.{option_map}
 use Rattle.spec_board.specs.State as states
 use Rattle.spec_board.specs.Results as board
-use Rattle.megaflow_table.specs.declared.entry.Entry.{Entry}
-use Rattle.megaflow_table.specs.Entries.{entry_of}
 use Rattle.port_caches.specs.Views.{Caches, entry_view}
 use Rattle.port_caches.specs.Lists.{actions_at}
 use Rattle.port_caches.proofs.Kept.{kept_found}

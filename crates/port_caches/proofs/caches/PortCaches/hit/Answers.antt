@@ -1,5 +1,9 @@
-use Rattle.std.proofs.Common.{ℕ, ◌<◌, length, ap, sym, subst, ◌∙◌}
-use Rattle.std.specs.Prelude.{is_some, slice_set}
+use Rattle.std.proofs.Common.{◌≡◌, ℕ, ◌<◌, List, Some, length, ap, sym, subst, ◌∙◌}
+use Rattle.std.specs.Prelude.{slice_set}
+use Rattle.std.specs.Option.{option_map}
+use Rattle.std.proofs.lemmas.Option.{same_Some}
+use Rattle.megaflow_table.specs.declared.entry.Entry.{Entry}
+use Rattle.megaflow_table.specs.Entries.{entry_of}
 use Rattle.port_caches.specs.Views.{Caches}
 use Rattle.port_caches.specs.Lists.{actions_at}
 use Rattle.port_caches.specs.Kept.{caches_in}
@@ -9,36 +13,40 @@ use Rattle.port_caches.proofs.Hits.{can_hit, hit_kept, hit_is}
 use Rattle.port_caches.proofs.Kept.{kept_found}
 use Rattle.port_caches.proofs.caches.PortCaches.hit.Goals as goal
 
-pub named_by-version-requires : goal.named_by-version-requires
-named_by-version-requires c =
-    ap is_some (can_hit c.self.inside c.args.number c.args.length (subst (steps.CanHit c.args.number c.args.length) (sym c.self.view_is) c.requires)).1
+-- what the table answers of the entry that it hits
+named_of : (entries : List Entry) (number : ℕ) (d : Entry) (named : ℕ × ℕ) → option_map (λ (e : Entry). (e.version, e.actions)) (entry_of number entries) ≡ Some named
+    → entry_of number entries ≡ Some d → (named.0 ≡ d.version) × (named.1 ≡ d.actions)
+named_of entries number d named answered there =
+    let same : named ≡ (d.version, d.actions) =
+    same_Some named (d.version, d.actions) (sym answered ∙ ap (option_map (λ (e : Entry). (e.version, e.actions))) there) in
+    (ap (λ (n : ℕ × ℕ). n.0) same, ap (λ (n : ℕ × ℕ). n.1) same)
 
-pub hit-requires : goal.hit-requires
-hit-requires c = can_hit c.self.inside c.args.number c.args.length (subst (steps.CanHit c.args.number c.args.length) (sym c.self.view_is) c.requires)
+pub hit-version-requires : goal.hit-version-requires
+hit-version-requires c = can_hit c.self.inside c.args.number c.args.length (subst (steps.CanHit c.args.number c.args.length) (sym c.self.view_is) c.requires)
 
 pub hold-requires : goal.hold-requires
 hold-requires c =
     let b = c.self.inside in
     let there = can_hit b c.args.number c.args.length (subst (steps.CanHit c.args.number c.args.length) (sym c.self.view_is) c.requires) in
-    subst (λ (n : ℕ). n < length b.lists.items) (sym (c.named_by-version.ensures there.0 there.1).1)
+    subst (λ (n : ℕ). n < length b.lists.items) (sym (named_of b.flows.entries c.args.number there.0 c.hit-version.result c.hit-version.ensures.named there.1).1)
     (kept_found (length b.lists.items) b.made (length b.totals) b.flows.entries c.args.number there.0 c.self.invariant.entries there.1).list
 
 pub invariant_of-self : goal.invariant_of-self
 invariant_of-self c =
     let b = c.self.inside in
     let there = can_hit b c.args.number c.args.length (subst (steps.CanHit c.args.number c.args.length) (sym c.self.view_is) c.requires) in
-    let list = (c.named_by-version.ensures there.0 there.1).1 in
-    hit_kept b c.self.invariant c.args.number c.args.length c.args.time there.0 there.1 c.hit.new.self c.hold.new.lists c.hit.ensures.entries c.hit.ensures.limit
+    let list = (named_of b.flows.entries c.args.number there.0 c.hit-version.result c.hit-version.ensures.named there.1).1 in
+    hit_kept b c.self.invariant c.args.number c.args.length c.args.time there.0 there.1 c.hit-version.new.self c.hold.new.lists c.hit-version.ensures.entries c.hit-version.ensures.limit
     (c.hold.ensures.items ∙ ap (λ (n : ℕ). slice_set b.lists.items n (held_list (actions_at b.lists.items n))) list) c.hold.ensures.len c.hold.ensures.capacity
 
 pub returns : goal.returns
 returns c =
     let b = c.self.inside in
     let there = can_hit b c.args.number c.args.length (subst (steps.CanHit c.args.number c.args.length) (sym c.self.view_is) c.requires) in
-    let named = c.named_by-version.ensures there.0 there.1 in
-    let hit = hit_is b c.self.invariant c.args.number c.args.length c.args.time there.0 there.1 c.hit.new.self c.hold.new.lists c.hit.ensures.entries c.hit.ensures.limit
+    let named = named_of b.flows.entries c.args.number there.0 c.hit-version.result c.hit-version.ensures.named there.1 in
+    let hit = hit_is b c.self.invariant c.args.number c.args.length c.args.time there.0 there.1 c.hit-version.new.self c.hold.new.lists c.hit-version.ensures.entries c.hit-version.ensures.limit
     (c.hold.ensures.items ∙ ap (λ (n : ℕ). slice_set b.lists.items n (held_list (actions_at b.lists.items n))) named.1) c.hold.ensures.len c.hold.ensures.capacity in
-    let after = caches_in (record b { flows = c.hit.new.self; lists = c.hold.new.lists }) in
-    subst (λ (v : Caches). steps.IsHit c.args.number c.args.length c.args.time c.named_by-version.result.0 c.named_by-version.result.1 v after) c.self.view_is
-    (subst (λ (n : ℕ). steps.IsHit c.args.number c.args.length c.args.time n c.named_by-version.result.1 (caches_in b) after) (sym named.0)
+    let after = caches_in (record b { flows = c.hit-version.new.self; lists = c.hold.new.lists }) in
+    subst (λ (v : Caches). steps.IsHit c.args.number c.args.length c.args.time c.hit-version.result.0 c.hit-version.result.1 v after) c.self.view_is
+    (subst (λ (n : ℕ). steps.IsHit c.args.number c.args.length c.args.time n c.hit-version.result.1 (caches_in b) after) (sym named.0)
     (subst (λ (n : ℕ). steps.IsHit c.args.number c.args.length c.args.time there.0.version n (caches_in b) after) (sym named.1) hit))
