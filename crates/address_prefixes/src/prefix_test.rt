@@ -16,6 +16,10 @@ use prefix_tracker::{Found, PrefixTrie};
 
 /// Consults the bits of a field that decide whether a mask goes on, where it hasn't ended, and answers whether it does.
 /// Where it doesn't, the key matches none of its rules.
+///
+/// It speaks of the field that the call names, which is the prefix's own, and is a part of its caller: so the field is known
+/// as the program is compiled, and its bits are added without a choice among all fields.
+#[inline(always)]
 #[tactic(auto, using(crate::proofs::Widths::width_within, crate::proofs::Widths::leading_within))]
 pub(crate) fn prefix_test(
     field: FieldId,
@@ -44,17 +48,18 @@ pub(crate) fn prefix_test(
     if !alive {
         return false;
     }
-    if prefix.length == 0 {
+    let width = width(field);
+    let length = prefix.length.min(width);
+    if length == 0 {
         return true;
     }
     let found = found_in(trie, field, key, known);
-    let width = width(prefix.field);
-    if begins_with_some(found, prefix.length) {
-        consulted.add(prefix.field, leading(width, prefix.length));
+    if begins_with_some(found, length) {
+        consulted.add(field, leading(width, length));
         return true;
     }
-    let decided = found.bits.min(prefix.length);
-    consulted.add(prefix.field, leading(width, decided));
+    let decided = found.bits.min(length);
+    consulted.add(field, leading(width, decided));
     false
 }
 

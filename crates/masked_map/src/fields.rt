@@ -12,23 +12,24 @@ use std::hash::{Hash, Hasher};
 /// The fields but those that are 0 in most keys and masks: metadata and the registers, the addresses of IPv6 and ARP, and the
 /// inner tag.
 ///
-/// The widest come first, so that no padding stands between them.
+/// They stand so that no padding is between them, and in the order of the words that they feed to a hash function, each from
+/// its least bits on: such a word is read as it lies.
 #[derive(Clone, Copy, Debug)]
 pub(crate) struct CompactFields {
     pub(crate) dl_src: u64,
     pub(crate) dl_dst: u64,
-    pub(crate) nw_src: u32,
-    pub(crate) nw_dst: u32,
-    pub(crate) in_port: u16,
-    pub(crate) dl_type: u16,
-    pub(crate) tp_src: u16,
-    pub(crate) tp_dst: u16,
+    pub(crate) ip_frag: u8,
+    pub(crate) nw_ttl: u8,
+    pub(crate) nw_tos: u8,
+    pub(crate) nw_proto: u8,
     pub(crate) vlan_tci: u16,
     pub(crate) vlan_tpid: u16,
-    pub(crate) nw_proto: u8,
-    pub(crate) nw_tos: u8,
-    pub(crate) nw_ttl: u8,
-    pub(crate) ip_frag: u8,
+    pub(crate) nw_dst: u32,
+    pub(crate) nw_src: u32,
+    pub(crate) tp_dst: u16,
+    pub(crate) tp_src: u16,
+    pub(crate) dl_type: u16,
+    pub(crate) in_port: u16,
 }
 
 macro_rules! taken {
