@@ -8,6 +8,7 @@ use Rattle.ovs_fields.specs.contracts.key.Key as key
 use Rattle.ovs_fields.specs.contracts.mask.Mask as mask
 use Rattle.masked_map.specs.contracts.fields.CompactFields as compact
 use Rattle.masked_map.specs.contracts.compact_mask.CompactMask as compact_mask
+use Rattle.masked_map.specs.contracts.key_filter.KeyFilter as filter
 
 fields_send : IsSend (fields.the_field).row
 fields_send = struct_send (shape fields.the_type) (search (sendable, crosses) depth 200 fits 200000)
@@ -38,3 +39,9 @@ compact_mask_send = search (sendable, crosses, compact_send) depth 100 fits 2000
 
 pub compact_mask_sync : IsSync (compact_mask.the_field).row
 compact_mask_sync = search (sendable, crosses, compact_sync) depth 100 fits 20000
+
+pub filter_send : IsSend (filter.the_field).row
+filter_send = search (sendable, crosses) depth 100 fits 20000
+
+pub filter_sync : IsSync (filter.the_field).row
+filter_sync = search (sendable, crosses) depth 100 fits 20000

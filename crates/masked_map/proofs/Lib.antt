@@ -1,3 +1,5 @@
 pub mod CompactLaws
 pub mod Crossing
+pub mod FilterLaws
 pub mod MapLaws
+pub mod UnionLaws

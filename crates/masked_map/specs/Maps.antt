@@ -1,6 +1,6 @@
 -- What contracts see of a map from keys under a mask: the bits of the mask, and the entries by lists with a number for each
 -- field, in the order of the fields.
-use Rattle.std.specs.Prelude.{◌≡◌, ℕ, ◌<◌, List, map, filter, Option, None}
+use Rattle.std.specs.Prelude.{◌≡◌, ℕ, ◌<◌, List, filter, Option, None}
 use Rattle.std.specs.List.{IsDistinct}
 use Rattle.std.specs.Map.{lookup, keys_of, values_of}
 use Rattle.indexmap.specs.IndexMap.{spare}
@@ -10,10 +10,7 @@ use Rattle.masked_map.specs.declared.map.MaskedMap.{MaskedMap}
 use Rattle.masked_map.specs.declared.map.Entries.{Entries}
 use Rattle.masked_map.specs.declared.map.Entries.TheVariants.{Compact, Whole}
 use Rattle.masked_map.specs.Compact.{list_of}
-
--- entries whose keys are seen as lists
-abbrev pub listed : {K V : Type 0} → (K → List ℕ) → List (K × V) → List (List ℕ × V)
-listed list es = map (λ e. (list e.0, e.1)) es
+pub use Rattle.masked_map.specs.Listed.{listed}
 
 module _ {V : Type 0} where
   abbrev pub mask_in : Entries V → List ℕ
@@ -21,11 +18,11 @@ module _ {V : Type 0} where
   mask_in (Whole m es) = bits m
 
   abbrev pub entries_in : Entries V → List (List ℕ × V)
-  entries_in (Compact m es) = listed list_of es.entries
+  entries_in (Compact m es) = listed list_of es.by_key.entries
   entries_in (Whole m es) = listed numbers es.entries
 
   abbrev pub room_in : Entries V → ℕ
-  room_in (Compact m es) = spare es
+  room_in (Compact m es) = spare es.by_key
   room_in (Whole m es) = spare es
 
   -- the bits of the mask

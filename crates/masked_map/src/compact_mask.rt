@@ -1,5 +1,5 @@
 ghost use Rattle.std.specs.Prelude.{◌≡◌, false, IfSome, IsNone};
-ghost use Rattle.spec_keys.specs.Keys.{are_zero, joined, IsKey};
+ghost use Rattle.spec_keys.specs.Keys.{are_zero, joined, none, IsKey};
 ghost use Rattle.ovs_fields.specs.Packed.{bits};
 ghost use Rattle.masked_map.specs.Compact.{list_of, wide_fields};
 
@@ -28,6 +28,26 @@ impl CompactMask {
     {
         let fields = CompactFields::of_mask(mask)?;
         Some(CompactMask { fields })
+    }
+
+    /// No bits.
+    pub(crate) fn none() -> CompactMask
+        ensures { list_of result.fields ≡ none }
+    {
+        CompactMask {
+            fields: CompactFields::zero(),
+        }
+    }
+
+    /// The bits of either mask.
+    #[inline]
+    pub(crate) fn or(&self, other: &CompactMask) -> CompactMask
+        ensures { list_of result.fields
+            ≡ joined (list_of self.now.fields) (list_of other.now.fields) }
+    {
+        CompactMask {
+            fields: self.fields.or(&other.fields),
+        }
     }
 
     /// Adds its bits to another mask.

@@ -1,6 +1,6 @@
 ghost use Rattle.std.specs.Prelude.{◌≡◌, false, IfSome, IsNone};
 ghost use Rattle.std.specs.List.{fold};
-ghost use Rattle.spec_keys.specs.Keys.{are_zero, common_bits, masked, same};
+ghost use Rattle.spec_keys.specs.Keys.{are_zero, common_bits, joined, masked, none, same};
 ghost use Rattle.ovs_fields.specs.Feeding.{list_writes};
 ghost use Rattle.ovs_fields.specs.Packed.{numbers, bits};
 ghost use Rattle.masked_map.specs.Compact.{list_of, wide_fields, compacted};
@@ -32,6 +32,12 @@ pub(crate) struct CompactFields {
     pub(crate) in_port: u16,
 }
 
+macro_rules! zeros {
+    (() $([$variant:ident $name:ident $type:ident])*) => {
+        CompactFields { $($name: 0,)* }
+    };
+}
+
 macro_rules! taken {
     (($of:ident) $([$variant:ident $name:ident $type:ident])*) => {
         CompactFields { $($name: $of.get(FieldId::$variant) as $type,)* }
@@ -56,6 +62,12 @@ macro_rules! of_both {
     };
 }
 
+macro_rules! of_either {
+    (($a:ident, $b:ident) $([$variant:ident $name:ident $type:ident])*) => {
+        CompactFields { $($name: $a.$name | $b.$name,)* }
+    };
+}
+
 macro_rules! all_same {
     (($a:ident, $b:ident) $([$variant:ident $name:ident $type:ident])*) => {
         $(($a.$name == $b.$name) &)* true
@@ -69,6 +81,14 @@ macro_rules! all_wanted {
 }
 
 impl CompactFields {
+    /// All 0.
+    #[tactic(auto, unfolding(spec_keys::specs::Keys::none))]
+    pub(crate) fn zero() -> CompactFields
+        ensures { list_of result ≡ none }
+    {
+        with_compact!(zeros())
+    }
+
     /// The fields of a key, if the wide ones are 0.
     pub(crate) fn of_key(key: &Key) -> Option<CompactFields>
         ensures some { IfSome result (λ f. list_of f ≡ numbers key.now) }
@@ -117,6 +137,15 @@ impl CompactFields {
         ensures { list_of result ≡ masked (list_of self.now) (list_of other.now) }
     {
         with_compact!(of_both(self, other))
+    }
+
+    /// The bits of these and of others.
+    #[inline]
+    #[tactic(auto, unfolding(spec_keys::specs::Keys::joined))]
+    pub(crate) fn or(&self, other: &CompactFields) -> CompactFields
+        ensures { list_of result ≡ joined (list_of self.now) (list_of other.now) }
+    {
+        with_compact!(of_either(self, other))
     }
 
     /// Whether the bits of these that are in those of a mask are the wanted ones.

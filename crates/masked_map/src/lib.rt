@@ -16,7 +16,8 @@
 //! `mask_of m`, its entries, `entries_of m`, and what stands at a key, `value_at m key` (specs/Maps.antt). Of which kind a
 //! map is, none of them says.
 //!
-//! - `new` has the bits of a mask, and no entries. `add_mask_to` adds those bits to another mask.
+//! - `new` has the bits of a mask, and no entries. `add_mask_to` adds those bits to those of other masks, a `MaskUnion`,
+//!   which `union_of` sees (specs/Unions.antt). `MaskUnion::of` begins with the bits of one mask, and `mask` has all of them.
 //! - `get` is what stands at a key under the mask, and `get_exact` at a key as it is: nothing, if it has other bits. A
 //!   `PacketKey` is a key for `get`.
 //! - `insert` and `swap_remove` change what stands at a key under the mask, and give what stood there. At all others the
@@ -31,30 +32,41 @@
 //! mask. `CompactMask::of` decides: it fails where a wide field has bits. Compact fields are equal exactly where the
 //! whole keys would be, and feed a hash function what these would, so both kinds obey the same clauses.
 //!
-//! A packet's key is looked up under one mask after another. So a `PacketKey` has its compact fields too, which are taken
-//! from all over the whole key once, and `get` masks 40 bytes by 40 others.
+//! A packet's key is looked up under one mask after another, and is under most of them in no map. So a `PacketKey` has its
+//! compact fields too, which are taken from all over the whole key once, and `get` masks 40 bytes by 40 others. Each map of
+//! compact keys has a Bloom filter (`KeyFilter`), one bit for a mark of a key, which takes a quarter of what its hash does.
+//! Where the bit isn't set, no key in the map is this one (`RulesOut` in specs/Filters.antt), and nothing is hashed or
+//! compared. Of its bits at most one in eight is set, so that it rules seven of eight keys or more out that aren't there. A
+//! key that goes leaves its bit behind. Where so many are set, the filter is made anew from the keys that are there.
+//!
+//! The bits of compact masks are added to one another in 40 bytes too, and to a whole mask at the end.
 //!
 //! No call lends a value to be written: `get` reads one, and `insert` puts another in its place.
 //!
 //! # What it costs
 //!
-//! A look-up masks, hashes and compares one key, compact or whole; where a map has one key it hashes nothing. `add_mask_to`
-//! reads 40 bytes of a compact mask, and 176 of a whole one. An entry takes 40 bytes for a compact key and 176 for a whole
-//! one, beside the value, and the place of it in a table of hashes. The order of the entries is that of their coming until
-//! one goes, whose place the last one takes. `add_agreeing` goes over all of them.
+//! A look-up masks, hashes and compares one key, compact or whole; where a map has one key it hashes nothing, and nor does
+//! it for a compact key that the filter rules out. `add_mask_to` reads 40 bytes of a compact mask, and 176 of a whole one. An
+//! entry takes 40 bytes for a compact key, with one or two of the filter, and 176 for a whole one, beside the value, and the
+//! place of it in a table of hashes. The order of the entries is that of their coming until one goes, whose place the last
+//! one takes. `add_agreeing` goes over all of them.
 //!
 //! # What is left to others
 //!
 //! Which masks there are, and what stands at keys under them.
 #![tactic(auto)]
 
+mod compact_map;
 mod compact_mask;
 mod field_list;
 mod fields;
+mod key_filter;
 mod map;
+mod mask_union;
 mod packet_key;
 
 pub use map::MaskedMap;
+pub use mask_union::MaskUnion;
 pub use packet_key::PacketKey;
 
 #[cfg(test)]

@@ -5,12 +5,15 @@ ghost use Rattle.spec_keys.specs.Keys.{masked, same, common_bits, joined};
 ghost use Rattle.ovs_fields.specs.Packed.{numbers, bits};
 ghost use Rattle.masked_map.specs.Compact.{list_of};
 ghost use Rattle.masked_map.specs.Maps.{agreeing, listed, wanted_values};
+ghost use Rattle.masked_map.specs.Unions.{union_of};
 
+use crate::compact_map::CompactMap;
 use crate::compact_mask::CompactMask;
 use crate::fields::CompactFields;
+use crate::mask_union::MaskUnion;
 use crate::packet_key::PacketKey;
 use indexmap::IndexMap;
-use ovs_fields::{Key, Mask, agree, and, masked, or};
+use ovs_fields::{Key, Mask, agree, and, masked};
 use std::alloc::{AllocError, Global};
 use std::hash::Hash;
 
@@ -20,7 +23,7 @@ pub(crate) enum Entries<V> {
     /// The mask has no bits of wide fields, so each key under it is 0 there.
     Compact {
         mask: CompactMask,
-        map: IndexMap<CompactFields, V>,
+        map: CompactMap<V>,
     },
     /// Any mask.
     Whole {
@@ -49,7 +52,7 @@ impl<V: Drop> MaskedMap<V> {
         let entries = match CompactMask::of(mask) {
             Some(mask) => Entries::Compact {
                 mask,
-                map: IndexMap::new(alloc),
+                map: CompactMap::new(alloc),
             },
             None => Entries::Whole {
                 mask: *mask,
@@ -59,13 +62,14 @@ impl<V: Drop> MaskedMap<V> {
         MaskedMap { entries }
     }
 
-    /// Adds the bits of the mask to another mask.
-    pub fn add_mask_to(&self, other: &mut Mask)
-        ensures { bits other.new ≡ joined (bits other.old) (mask_of self.now) }
+    /// Adds the bits of the mask to those of others.
+    #[inline]
+    pub fn add_mask_to(&self, union: &mut MaskUnion)
+        ensures { union_of union.new ≡ joined (union_of union.old) (mask_of self.now) }
     {
         match &self.entries {
-            Entries::Compact { mask, .. } => mask.add_to(other),
-            Entries::Whole { mask, .. } => *other = or(other, mask),
+            Entries::Compact { mask, .. } => union.add_compact(mask),
+            Entries::Whole { mask, .. } => union.add_whole(mask),
         }
     }
 
@@ -76,7 +80,7 @@ impl<V: Drop> MaskedMap<V> {
         ensures distinct { HasDistinctKeys self.now }
     {
         match &self.entries {
-            Entries::Compact { map, .. } => map.len(),
+            Entries::Compact { map, .. } => map.by_key.len(),
             Entries::Whole { map, .. } => map.len(),
         }
     }
@@ -96,7 +100,7 @@ impl<V: Drop> MaskedMap<V> {
         ensures room { OnOk result (0 < room_of self.new) }
     {
         match &mut self.entries {
-            Entries::Compact { map, .. } => map.reserve(1),
+            Entries::Compact { map, .. } => map.reserve(),
             Entries::Whole { map, .. } => map.reserve(1),
         }
     }
@@ -107,7 +111,7 @@ impl<V: Drop> MaskedMap<V> {
             ≡ value_at self.now (masked (numbers key.now.key.now) (mask_of self.now)) }
     {
         match &self.entries {
-            Entries::Compact { mask, map } => value_of(map, &key.masked(&mask.fields)),
+            Entries::Compact { mask, map } => map.get(&key.masked(&mask.fields)),
             Entries::Whole { mask, map } => value_of(map, &masked(key.key, mask)),
         }
     }
@@ -118,7 +122,7 @@ impl<V: Drop> MaskedMap<V> {
     {
         match &self.entries {
             Entries::Compact { map, .. } => match CompactFields::of_key(key) {
-                Some(fields) => value_of(map, &fields),
+                Some(fields) => map.get(&fields),
                 None => None,
             },
             Entries::Whole { map, .. } => value_of(map, key),
@@ -136,7 +140,7 @@ impl<V: Drop> MaskedMap<V> {
             else value_at self.old q) }
     {
         match &mut self.entries {
-            Entries::Compact { mask, map } => put(map, mask.fields.masked(key), value),
+            Entries::Compact { mask, map } => map.insert(mask.fields.masked(key), value),
             Entries::Whole { mask, map } => put(map, masked(key, mask), value),
         }
     }
@@ -172,7 +176,7 @@ impl<V: Drop> MaskedMap<V> {
         match &self.entries {
             Entries::Compact { mask: own, map } => {
                 let common = own.fields.common(mask);
-                add_with_bits(found, map, &common.masked(key), &common)
+                add_with_bits(found, &map.by_key, &common.masked(key), &common)
             }
             Entries::Whole { mask: own, map } => add_whole(found, map, key, &and(mask, own)),
         }
@@ -180,7 +184,7 @@ impl<V: Drop> MaskedMap<V> {
 }
 
 /// The value of a key. Where it is the only one nothing is hashed.
-fn value_of<'a, K: Eq + Hash, V>(map: &'a IndexMap<K, V>, key: &K) -> Option<&'a V>
+pub(crate) fn value_of<'a, K: Eq + Hash, V>(map: &'a IndexMap<K, V>, key: &K) -> Option<&'a V>
     ensures { option_copied result ≡ get K.eq map.now key.now }
 {
     if map.len() == 1 {
@@ -201,7 +205,11 @@ fn only_value<'a, K: Eq + Hash, V>(map: &'a IndexMap<K, V>, key: &K) -> Option<&
 }
 
 /// Gives a key a value. The key is there, or there is room for it.
-fn put<K: Eq + Hash + Drop, V: Drop>(map: &mut IndexMap<K, V>, key: K, value: V) -> Option<V>
+pub(crate) fn put<K: Eq + Hash + Drop, V: Drop>(
+    map: &mut IndexMap<K, V>,
+    key: K,
+    value: V,
+) -> Option<V>
     requires { get K.eq map.old key ≡ None → 0 < spare map.old }
     ensures old { result ≡ get K.eq map.old key }
     ensures updates { Updates K.eq map.old map.new key (Some value) }

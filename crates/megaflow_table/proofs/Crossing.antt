@@ -2,7 +2,7 @@
 -- to an end.
 use denote.Param.Send.{IsSend, sendable}
 use Rattle.std.proofs.Crossing.{crosses}
-use Rattle.masked_map.proofs.Crossing.{compact_send, compact_mask_send, key_send, mask_send}
+use Rattle.masked_map.proofs.Crossing.{compact_send, compact_mask_send, filter_send, key_send, mask_send}
 use Rattle.megaflow_table.specs.contracts.entry.Entry as entry
 use Rattle.megaflow_table.specs.contracts.megaflows.Placed as placed
 use Rattle.megaflow_table.specs.contracts.megaflows.Megaflows as megaflows
@@ -16,7 +16,7 @@ placed_send : IsSend (placed.the_field).row
 placed_send = search (sendable, crosses, entry_send) depth 100 fits 20000
 
 subtable_send : IsSend (subtable.the_field).row
-subtable_send = search (sendable, crosses, key_send, mask_send, compact_send, compact_mask_send) depth 100 fits 20000
+subtable_send = search (sendable, crosses, key_send, mask_send, compact_send, compact_mask_send, filter_send) depth 100 fits 20000
 
 fresh_send : IsSend (fresh.the_field).row
 fresh_send = search (sendable, crosses, subtable_send, mask_send) depth 100 fits 20000

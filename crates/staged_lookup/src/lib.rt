@@ -19,8 +19,8 @@
 //! - `probe` answers `Ended` with the first stage on which no rule agrees with the key, or `Best` with the number and
 //!   priority of the rule that wins of those that the key matches. So it is `Ended` exactly where none matches. It takes no
 //!   memory. `probe_early` and `probe_late` do the same in two steps, for a lookup that has prefixes to test between the
-//!   second stage and the third. `add_part_to` adds the bits of the mask through a stage to another mask, and `add_mask_to`
-//!   all of them.
+//!   second stage and the third. `add_part_to` adds the bits of the mask through a stage to those of others, and
+//!   `add_mask_to` all of them.
 //! - `find` answers the number of the rule of a key and priority, and `better` the better of two ranks.
 //!
 //! # How
@@ -30,10 +30,10 @@
 //! rules themselves, which the last stage would ask anyway. Where all rules have the same key under a part, nothing is
 //! hashed.
 //!
-//! Each part has a map of `masked_map`, of counts, and the whole mask one of buckets. So a key is made, hashed and compared
-//! by 40 bytes instead of 176 where the part has no bits of metadata and registers, nor of the addresses of IPv6 and ARP, and
-//! as much less of what the maps hold is read. The parts themselves stand in the maps alone, in as few bytes. Whoever probes
-//! several subtables with one key makes a `PacketKey` of it once.
+//! Each part has a map of `masked_map`, of counts, and the whole mask one of buckets. So a key is masked, hashed and compared
+//! by 40 bytes instead of 176 where the part has no bits of metadata and registers, of the addresses of IPv6 and ARP, nor of
+//! an inner tag, and as much less of what the maps hold is read. The parts themselves stand in the maps alone, in as few
+//! bytes. Whoever probes several subtables with one key makes a `PacketKey` of it once.
 //!
 //! The rules with a key stand in one bucket, of their *ranks*: the priority and the number, which decide who wins. Rules of
 //! one mask and one key differ in their priorities alone, so most buckets have one rank, which stands in the map itself; more
@@ -60,7 +60,7 @@ mod rank;
 mod stage;
 mod subtable;
 
-pub use masked_map::PacketKey;
+pub use masked_map::{MaskUnion, PacketKey};
 pub use probe::Probe;
 pub use rank::{Rank, better};
 pub use subtable::Subtable;

@@ -2,6 +2,7 @@ ghost use Rattle.std.specs.Prelude.{◌≡◌, true, false, ◌<◌, ◌^◌, �
 ghost use Rattle.spec_keys.specs.Keys.{masked, joined};
 ghost use Rattle.spec_tables.specs.Rules.{Rule};
 ghost use Rattle.ovs_fields.specs.Packed.{numbers, bits};
+ghost use Rattle.masked_map.specs.Unions.{union_of};
 ghost use Rattle.staged_lookup.specs.Counts.{count_at};
 ghost use Rattle.staged_lookup.specs.Numbered.{AreDistinct, without};
 ghost use Rattle.translation_laws.specs.Members.{Among};
@@ -9,7 +10,7 @@ ghost use Rattle.staged_lookup.specs.declared.stage.StageKind.TheVariants as kin
 ghost use Rattle.staged_lookup.specs.declared.stage.Step.TheVariants as steps;
 
 use crate::counts::{KeyCounts, add_count, count_of_packet, take_count};
-use masked_map::{MaskedMap, PacketKey};
+use masked_map::{MaskUnion, MaskedMap, PacketKey};
 use ovs_fields::{Key, Mask};
 use std::alloc::{AllocError, Global};
 
@@ -70,13 +71,13 @@ impl Stage {
         }
     }
 
-    /// Adds the part to a mask.
-    pub(crate) fn add_part_to(&self, other: &mut Mask)
+    /// Adds the bits of the part to those of others.
+    pub(crate) fn add_part_to(&self, union: &mut MaskUnion)
         ensures { (before part mask : List ℕ) (rs : List Rule)
             → IsStage self.now before part mask rs
-            → bits other.new ≡ joined (bits other.old) part }
+            → union_of union.new ≡ joined (union_of union.old) part }
     {
-        self.counts.add_mask_to(other);
+        self.counts.add_mask_to(union);
     }
 
     /// Makes room for one more rule.

@@ -8,6 +8,7 @@ ghost use Rattle.spec_keys.specs.Keys.{joined, same};
 ghost use Rattle.spec_tables.specs.Rules.{Rule, winner};
 ghost use Rattle.ovs_fields.specs.Packed.{numbers, bits};
 ghost use Rattle.rule_tables.specs.Views.{match_view};
+ghost use Rattle.masked_map.specs.Unions.{union_of};
 ghost use Rattle.staged_lookup.specs.Numbered.{without};
 ghost use Rattle.staged_lookup.specs.Ranks.{rank_of};
 
@@ -16,7 +17,7 @@ use crate::probe::{ETHERNET, METADATA, NETWORK, PORTS, Probe};
 use crate::rank::{Rank, best_of};
 use crate::stage::{Stage, Step};
 use indexmap::IndexMap;
-use masked_map::{MaskedMap, PacketKey};
+use masked_map::{MaskUnion, MaskedMap, PacketKey};
 use ovs_fields::{Key, Mask, ethernet_part, metadata_part, network_part};
 use rule_tables::Match;
 use std::alloc::{AllocError, Global};
@@ -159,28 +160,29 @@ impl Subtable {
         }
     }
 
-    /// Adds to a mask the bits of this one in the fields of a stage and those before it: from 0, the metadata, to 2, IP and
-    /// ARP. From 3 on these are all of its bits.
-    pub fn add_part_to(&self, stage: u8, other: &mut Mask)
+    /// Adds to the bits of other masks those of this one in the fields of a stage and those before it: from 0, the
+    /// metadata, to 2, IP and ARP. From 3 on these are all of its bits.
+    pub fn add_part_to(&self, stage: u8, union: &mut MaskUnion)
         ensures { (rs : List Rule)
             → IsSubtableOf self.now rs
-            → bits other.new ≡ joined (bits other.old) (part_through stage (bits self.now.mask)) }
+            → union_of union.new
+            ≡ joined (union_of union.old) (part_through stage (bits self.now.mask)) }
     {
         match stage {
-            METADATA => self.metadata.add_part_to(other),
-            ETHERNET => self.ethernet.add_part_to(other),
-            NETWORK => self.network.add_part_to(other),
-            _ => self.add_mask_to(other),
+            METADATA => self.metadata.add_part_to(union),
+            ETHERNET => self.ethernet.add_part_to(union),
+            NETWORK => self.network.add_part_to(union),
+            _ => self.add_mask_to(union),
         }
     }
 
-    /// Adds the bits of the mask to another one.
-    pub fn add_mask_to(&self, other: &mut Mask)
+    /// Adds the bits of the mask to those of others.
+    pub fn add_mask_to(&self, union: &mut MaskUnion)
         ensures { (rs : List Rule)
             → IsSubtableOf self.now rs
-            → bits other.new ≡ joined (bits other.old) (bits self.now.mask) }
+            → union_of union.new ≡ joined (union_of union.old) (bits self.now.mask) }
     {
-        self.buckets.add_mask_to(other);
+        self.buckets.add_mask_to(union);
     }
 
     /// The number of the rule with this key and priority.

@@ -9,6 +9,7 @@ use Rattle.spec_tables.specs.Rules.{Rule}
 use Rattle.spec_xlate.specs.Lookup.{added, when, some_agrees, stage_test, prefix_tests, tracked_fields, probe}
 use Rattle.translation_laws.proofs.MemberLaws.{Among}
 use Rattle.translation_laws.proofs.UnionLaws.{Within, joined_assoc}
+use Rattle.masked_map.proofs.UnionLaws.{joined_turned}
 use Rattle.staged_lookup.specs.declared.probe.Probe.{Probe}
 use Rattle.staged_lookup.specs.declared.probe.Probe.TheVariants.{Ended, Best}
 use Rattle.staged_lookup.specs.Stages as by_stages
@@ -42,6 +43,14 @@ Within-mask s (k ∷ ts) (b ∷ bs) = ap₂ (λ (z : ℕ) (zs : List ℕ). z ∷
     part : (u : Bool) → bit_or (if u then b else 0) b ≡ b
     part true = or_self b
     part false = or_zero_l b
+
+-- what others add stands beside a mask that they leave
+added_turned : (m k : List ℕ) (xs : List (List ℕ)) → added (joined m k) xs ≡ joined (added m xs) k
+added_turned m k [] = refl
+added_turned m k (x ∷ xs) = ap (λ (z : List ℕ). added z xs) (joined_turned m k x) ∙ added_turned (joined m x) k xs
+
+pub beside : (m n k : List ℕ) (xs ys : List (List ℕ)) → added m xs ≡ added n ys → added (joined m k) xs ≡ added (joined n k) ys
+beside m n k xs ys e = added_turned m k xs ∙ ap (λ (z : List ℕ). joined z k) e ∙ sym (added_turned n k ys)
 
 -- what is within a mask adds nothing to it
 absorbed : (c x m : List ℕ) → Within x m → joined (joined c x) m ≡ joined c m

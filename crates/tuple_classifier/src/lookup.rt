@@ -8,6 +8,7 @@ ghost use Rattle.spec_tables.specs.Rules.{Rule, winner};
 ghost use Rattle.spec_xlate.specs.Lookup as xlate;
 ghost use Rattle.spec_xlate.specs.Lookup.{added, consults};
 ghost use Rattle.ovs_fields.specs.Packed.{numbers, bits};
+ghost use Rattle.masked_map.specs.Unions.{union_of};
 ghost use Rattle.address_prefixes.specs.Addresses.{AreOf, AreKnown};
 ghost use Rattle.staged_lookup.specs.Numbered.{AreDistinct};
 ghost use Rattle.staged_lookup.specs.Subtables.{tested_part, found_rank};
@@ -23,8 +24,7 @@ ghost use Rattle.tuple_classifier.specs.Subtables.{IsSubtableOf};
 use crate::subtable::Subtable;
 use crate::subtables::Subtables;
 use address_prefixes::{AddressLookups, AddressPrefixes};
-use ovs_fields::Mask;
-use staged_lookup::{PacketKey, Probe, Rank, better};
+use staged_lookup::{MaskUnion, PacketKey, Probe, Rank, better};
 
 /// The stage before that of the network: prefixes are tested after it.
 const ETHERNET: u8 = 1;
@@ -34,14 +34,14 @@ pub(crate) fn look(
     subtables: &Subtables,
     prefixes: &AddressPrefixes,
     key: &PacketKey<'_>,
-    consulted: &mut Mask,
+    consulted: &mut MaskUnion,
 ) -> Option<u32>
     requires { (rs : List Rule) × (AreOf prefixes.now rs) }
     ensures winner { (rs : List Rule) → AreRankedOf (ranked subtables.now) rs → AreOf prefixes.now rs
         → AreDistinct rs → result ≡ option_map (λ r. r.number) (winner rs (numbers key.now.key.now)) }
     ensures consulted { (rs : List Rule) → AreRankedOf (ranked subtables.now) rs → AreOf prefixes.now rs
         → AreDistinct rs
-        → bits consulted.new ≡ added (bits consulted.old) (consults rs (numbers key.now.key.now)) }
+        → union_of consulted.new ≡ added (union_of consulted.old) (consults rs (numbers key.now.key.now)) }
 {
     let mut known = AddressLookups::none();
     let mut best = None;
@@ -88,7 +88,7 @@ fn probe(
     prefixes: &AddressPrefixes,
     key: &PacketKey<'_>,
     known: &mut AddressLookups,
-    consulted: &mut Mask,
+    consulted: &mut MaskUnion,
 ) -> Option<Rank>
     requires { (rs : List Rule) × (AreOf prefixes.now rs) }
     ensures known { (rs : List Rule) → AreOf prefixes.now rs
@@ -101,8 +101,8 @@ fn probe(
     ensures consulted { (rs : List Rule)
         → IsSubtableOf subtable.now (of_mask (bits subtable.now.staged.mask) rs)
         → AreOf prefixes.now rs → AreKnown known.old (numbers key.now.key.now) rs
-        → bits consulted.new
-        ≡ added (bits consulted.old)
+        → union_of consulted.new
+        ≡ added (union_of consulted.old)
         (xlate.probe rs (numbers key.now.key.now) (bits subtable.now.staged.mask)) }
 {
     let staged = &subtable.staged;
@@ -112,7 +112,12 @@ fn probe(
         return None;
     }
     staged.add_part_to(ETHERNET, consulted);
-    if !prefixes.test(&subtable.indexes.prefixes, key.key, known, consulted) {
+    if !prefixes.test(
+        &subtable.indexes.prefixes,
+        key.key,
+        known,
+        &mut consulted.rest,
+    ) {
         return None;
     }
     finish(staged, early, key, consulted)
@@ -135,7 +140,7 @@ fn finish(
     staged: &staged_lookup::Subtable,
     early: Option<Probe>,
     key: &PacketKey<'_>,
-    consulted: &mut Mask,
+    consulted: &mut MaskUnion,
 ) -> Option<Rank>
     ensures best { (own : List Rule) → by_stages.IsSubtableOf staged.now own
         → HasPassed early (bits staged.now.mask) (numbers key.now.key.now) own
@@ -143,8 +148,8 @@ fn finish(
     ensures consulted { (rs : List Rule)
         → by_stages.IsSubtableOf staged.now (of_mask (bits staged.now.mask) rs)
         → HasPassed early (bits staged.now.mask) (numbers key.now.key.now) (of_mask (bits staged.now.mask) rs)
-        → bits consulted.new
-        ≡ added (bits consulted.old)
+        → union_of consulted.new
+        ≡ added (union_of consulted.old)
         (xlate.stage_test rs (numbers key.now.key.now) (bits staged.now.mask) network_stage
         (bits staged.now.mask ∷ [])) }
 {
@@ -155,10 +160,10 @@ fn finish(
 }
 
 /// The rank that a probe found, if it found one. The bits of the mask that it tested are added.
-fn told(staged: &staged_lookup::Subtable, probe: Probe, consulted: &mut Mask) -> Option<Rank>
+fn told(staged: &staged_lookup::Subtable, probe: Probe, consulted: &mut MaskUnion) -> Option<Rank>
     ensures found { result ≡ found_rank probe }
     ensures consulted { (own : List Rule) → by_stages.IsSubtableOf staged.now own
-        → bits consulted.new ≡ joined (bits consulted.old) (tested_part probe (bits staged.now.mask)) }
+        → union_of consulted.new ≡ joined (union_of consulted.old) (tested_part probe (bits staged.now.mask)) }
 {
     match probe {
         Probe::Ended { stage } => {

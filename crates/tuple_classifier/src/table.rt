@@ -17,7 +17,7 @@ use crate::subtables::Subtables;
 use address_prefixes::AddressPrefixes;
 use ovs_fields::{Key, Mask};
 use rule_tables::Match;
-use staged_lookup::{PacketKey, Rank};
+use staged_lookup::{MaskUnion, PacketKey, Rank};
 use std::alloc::{AllocError, Global};
 
 /// The rules of a table.
@@ -100,11 +100,14 @@ impl Table {
         ensures consulted { (rs : List Rule) → IsTableOf self.now rs → AreDistinct rs
             → bits consulted.new ≡ added (bits consulted.old) (consults rs (numbers key.now)) }
     {
-        look(
+        let mut union = MaskUnion::of(consulted);
+        let winner = look(
             &self.subtables,
             &self.prefixes,
             &PacketKey::new(key),
-            consulted,
-        )
+            &mut union,
+        );
+        *consulted = union.mask();
+        winner
     }
 }

@@ -1,5 +1,6 @@
 use Rattle.std.proofs.Common.{sym, subst, ◌∙◌}
 use Rattle.ovs_fields.specs.Packed.{numbers, bits}
+use Rattle.masked_map.specs.Unions.{union_of}
 use Rattle.staged_lookup.proofs.ProbeLaws.{found_is}
 use Rattle.tuple_classifier.specs.Passes.{HasPassed}
 use Rattle.tuple_classifier.specs.Parts.{of_mask}
@@ -12,7 +13,7 @@ returns-in-Some-clause-consulted c rs is passed =
     let key = numbers c.args.key.now.key.now in
     let own = of_mask mask rs in
     c.told.ensures.consulted own is
-    ∙ sym (finished rs key mask is.of_mask c.in-Some.probe (bits c.args.consulted.now) (probe_of c.in-Some.probe mask key own (subst (λ o. HasPassed o mask key own) c.in-Some.is passed)) (passed_any rs key mask is.of_mask c.args.early passed))
+    ∙ sym (finished rs key mask is.of_mask c.in-Some.probe (union_of c.args.consulted.now) (probe_of c.in-Some.probe mask key own (subst (λ o. HasPassed o mask key own) c.in-Some.is passed)) (passed_any rs key mask is.of_mask c.args.early passed))
 
 pub returns-in-None-clause-best : goal.returns-in-None-clause-best
 returns-in-None-clause-best c own is passed =
@@ -26,4 +27,4 @@ returns-in-None-clause-consulted c rs is passed =
     let key = numbers c.args.key.now.key.now in
     let own = of_mask mask rs in
     let passes = subst (λ o. HasPassed o mask key own) c.in-None.is passed in
-    c.told-in-None.ensures.consulted own is ∙ sym (finished rs key mask is.of_mask c.probe_late.result (bits c.args.consulted.now) (c.probe_late.ensures own is passes) passes)
+    c.told-in-None.ensures.consulted own is ∙ sym (finished rs key mask is.of_mask c.probe_late.result (union_of c.args.consulted.now) (c.probe_late.ensures own is passes) passes)

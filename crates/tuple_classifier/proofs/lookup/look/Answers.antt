@@ -2,6 +2,7 @@ use Rattle.std.proofs.Common.{sym, ap, ◌∙◌, arith}
 use Rattle.std.proofs.lemmas.Option.{slice_get_within, get_or_from_slice_get}
 use Rattle.spec_tables.specs.Rules.{winner}
 use Rattle.ovs_fields.specs.Packed.{numbers, bits}
+use Rattle.masked_map.specs.Unions.{union_of}
 use Rattle.tuple_classifier.specs.Kept.{ranked}
 use Rattle.tuple_classifier.specs.Parts.{of_mask, reaches}
 use Rattle.tuple_classifier.proofs.PassLaws.{passed_none, passed_more, stopped, winner_at_end, all_consulted}
@@ -9,7 +10,7 @@ use Rattle.tuple_classifier.proofs.WinnerLaws.{number_of_best}
 use Rattle.tuple_classifier.proofs.lookup.look.Goals as goal
 
 pub subtables-init : goal.subtables-init
-subtables-init c rs are of = (c.none-known.ensures (numbers c.args.key.now.key.now) rs, passed_none (numbers c.args.key.now.key.now) (bits c.args.consulted.now) rs (ranked c.args.subtables.now))
+subtables-init c rs are of = (c.none-known.ensures (numbers c.args.key.now.key.now) rs, passed_none (numbers c.args.key.now.key.now) (union_of c.args.consulted.now) rs (ranked c.args.subtables.now))
 
 pub returns-then-not-reaches-clause-winner : goal.returns-then-not-reaches-clause-winner
 returns-then-not-reaches-clause-winner c rs are of distinct =
@@ -20,7 +21,7 @@ returns-then-not-reaches-clause-winner c rs are of distinct =
     let there = c.at-subtable.ensures in
     let none = sym (ap (λ f. reaches f own) c.priority_to_beat.ensures) ∙ sym (c.reaches.ensures (bits s.staged.mask) own (are.subtables.each c.subtables.i s there).indexed) ∙ c.if-not-reaches.true in
     c.number_of.ensures
-    ∙ number_of_best c.subtables.best (winner rs key) (winner_at_end key (bits c.args.consulted.now) rs ss are c.subtables.i c.subtables.best (bits c.subtables.consulted) (c.subtables.invariant rs are of).1 (stopped key (bits c.args.consulted.now) rs ss are c.subtables.i s _ there none) distinct)
+    ∙ number_of_best c.subtables.best (winner rs key) (winner_at_end key (union_of c.args.consulted.now) rs ss are c.subtables.i c.subtables.best (union_of c.subtables.consulted) (c.subtables.invariant rs are of).1 (stopped key (union_of c.args.consulted.now) rs ss are c.subtables.i s _ there none) distinct)
 
 pub returns-then-not-reaches-clause-consulted : goal.returns-then-not-reaches-clause-consulted
 returns-then-not-reaches-clause-consulted c rs are of distinct =
@@ -30,7 +31,7 @@ returns-then-not-reaches-clause-consulted c rs are of distinct =
     let own = of_mask (bits s.staged.mask) rs in
     let there = c.at-subtable.ensures in
     let none = sym (ap (λ f. reaches f own) c.priority_to_beat.ensures) ∙ sym (c.reaches.ensures (bits s.staged.mask) own (are.subtables.each c.subtables.i s there).indexed) ∙ c.if-not-reaches.true in
-    all_consulted key (bits c.args.consulted.now) rs ss are c.subtables.i c.subtables.best (bits c.subtables.consulted) (c.subtables.invariant rs are of).1 (stopped key (bits c.args.consulted.now) rs ss are c.subtables.i s _ there none) distinct
+    all_consulted key (union_of c.args.consulted.now) rs ss are c.subtables.i c.subtables.best (union_of c.subtables.consulted) (c.subtables.invariant rs are of).1 (stopped key (union_of c.args.consulted.now) rs ss are c.subtables.i s _ there none) distinct
 
 pub subtables-preserved : goal.subtables-preserved
 subtables-preserved c rs are of =
@@ -43,7 +44,7 @@ subtables-preserved c rs are of =
     let rules = are.subtables.each c.subtables.i s there in
     let test = sym (ap (λ f. reaches f own) c.priority_to_beat.ensures) ∙ sym (c.reaches.ensures (bits s.staged.mask) own (are.subtables.each c.subtables.i s there).indexed) ∙ c.if-not-reaches.false in (
       c.probe-winner.ensures.known rs of so_far.0,
-      passed_more key (bits c.args.consulted.now) rs ss are c.subtables.i s c.probe-winner.result c.subtables.best c.best_of_two-best.result (bits c.subtables.consulted) (bits c.probe-winner.new.consulted)
+      passed_more key (union_of c.args.consulted.now) rs ss are c.subtables.i s c.probe-winner.result c.subtables.best c.best_of_two-best.result (union_of c.subtables.consulted) (union_of c.probe-winner.new.consulted)
           (slice_get_within ss c.subtables.i s there) (sym (get_or_from_slice_get ss c.subtables.i s s there)) test (c.probe-winner.ensures.best rs rules of so_far.0) (c.probe-winner.ensures.consulted rs rules of so_far.0) c.best_of_two-best.ensures so_far.1,
     )
 
@@ -54,7 +55,7 @@ returns-clause-winner c rs are of distinct =
     let past = c.subtables-test.false in
     let all = c.len-i-end.ensures in
     c.number_of-2.ensures
-    ∙ number_of_best c.subtables.best (winner rs key) (winner_at_end key (bits c.args.consulted.now) rs ss are c.subtables.i c.subtables.best (bits c.subtables.consulted) (c.subtables.invariant rs are of).1
+    ∙ number_of_best c.subtables.best (winner rs key) (winner_at_end key (union_of c.args.consulted.now) rs ss are c.subtables.i c.subtables.best (union_of c.subtables.consulted) (c.subtables.invariant rs are of).1
     (λ j t le at. let l = slice_get_within ss j t at in absurd (omega (arith, past, all, le, l))) distinct)
 
 pub returns-clause-consulted : goal.returns-clause-consulted
@@ -63,5 +64,5 @@ returns-clause-consulted c rs are of distinct =
     let ss = ranked c.args.subtables.now in
     let past = c.subtables-test.false in
     let all = c.len-i-end.ensures in
-    all_consulted key (bits c.args.consulted.now) rs ss are c.subtables.i c.subtables.best (bits c.subtables.consulted) (c.subtables.invariant rs are of).1
+    all_consulted key (union_of c.args.consulted.now) rs ss are c.subtables.i c.subtables.best (union_of c.subtables.consulted) (c.subtables.invariant rs are of).1
     (λ j t le at. let l = slice_get_within ss j t at in absurd (omega (arith, past, all, le, l))) distinct

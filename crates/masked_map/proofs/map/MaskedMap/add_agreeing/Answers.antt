@@ -10,7 +10,7 @@ pub returns-in-Compact-clause-found : goal.returns-in-Compact-clause-found
 returns-in-Compact-clause-found g c =
     let key = numbers c.args.key.now in
     let was = c.args.found.now.items in
-    let es = listed list_of c.in-Compact.map.entries in
+    let es = listed list_of c.in-Compact.map.by_key.entries in
     IfOk-weaker c.add_with_bits.result _ _
     (λ _ found.
     found

@@ -10,7 +10,7 @@ use Rattle.masked_map.proofs.map.MaskedMap.len.Goals as goal
 
 pub returns-in-Compact-clause-distinct : goal.returns-in-Compact-clause-distinct
 returns-in-Compact-clause-distinct g c =
-    subst (λ e. IsDistinct same (keys_of (entries_in e))) (sym c.in-Compact.is) (distinct_listed list_of c.in-Compact.map.entries c.len.ensures.unique)
+    subst (λ e. IsDistinct same (keys_of (entries_in e))) (sym c.in-Compact.is) (distinct_listed list_of c.in-Compact.map.by_key.entries c.len.ensures.unique)
 
 pub returns-in-Whole-clause-distinct : goal.returns-in-Whole-clause-distinct
 returns-in-Whole-clause-distinct g c =

@@ -1,0 +1,94 @@
+//! Values by compact fields. Most keys that aren't there need no look-up.
+
+ghost use Rattle.std.specs.Prelude.{◌≡◌, ◌<◌, ◌≤◌, [], ℕ, List, None, Some, IfOk, OnOk, if◌then◌else◌};
+ghost use Rattle.std.specs.Option.{option_copied};
+ghost use Rattle.indexmap.specs.IndexMap.{spare};
+ghost use Rattle.spec_keys.specs.Keys.{same};
+ghost use Rattle.masked_map.specs.Compact.{list_of};
+ghost use Rattle.masked_map.specs.Filters.{RulesOut};
+
+use crate::fields::CompactFields;
+use crate::key_filter::KeyFilter;
+use crate::map::{put, value_of};
+use indexmap::IndexMap;
+use std::alloc::{AllocError, Global};
+
+/// A map from compact fields to values, and a filter of its keys.
+#[derive(Drop)]
+pub(crate) struct CompactMap<V> {
+    pub(crate) by_key: IndexMap<CompactFields, V>,
+    pub(crate) filter: KeyFilter,
+    pub(crate) ghost filtered: { RulesOut filter by_key.entries },
+}
+
+impl<V: Drop> CompactMap<V> {
+    ghost use Rattle.masked_map.specs.CompactMaps.{value_in};
+
+    /// A map without entries. It takes no memory.
+    pub(crate) fn new(alloc: Global) -> CompactMap<V>
+        ensures { result.by_key.entries ≡ [] }
+    {
+        CompactMap {
+            by_key: IndexMap::new(alloc),
+            filter: KeyFilter::none(alloc),
+        }
+    }
+
+    /// Makes room for one more key. The only error is out of memory.
+    pub(crate) fn reserve(&mut self) -> Result<(), AllocError>
+        ensures entries { self.new.by_key.entries ≡ self.old.by_key.entries }
+        ensures keeps { spare self.old.by_key ≤ spare self.new.by_key }
+        ensures room { OnOk result (0 < spare self.new.by_key) }
+    {
+        self.by_key.reserve(1)?;
+        if self.filter.is_full() && !self.by_key.is_empty() {
+            self.filter = filter_of(&self.by_key)?;
+        }
+        Ok(())
+    }
+
+    /// The value of a key. A map of one key hashes nothing, and asks no filter.
+    #[inline]
+    pub(crate) fn get(&self, key: &CompactFields) -> Option<&V>
+        ensures { option_copied result ≡ value_in self.now (list_of key.now) }
+    {
+        if self.by_key.len() > 1 && !self.filter.may_have(key) {
+            return None;
+        }
+        value_of(&self.by_key, key)
+    }
+
+    /// Gives a key a value. The key is there, or there is room for it.
+    pub(crate) fn insert(&mut self, key: CompactFields, value: V) -> Option<V>
+        requires { value_in self.old (list_of key) ≡ None → 0 < spare self.old.by_key }
+        ensures old { result ≡ value_in self.old (list_of key) }
+        ensures values { (q : List ℕ)
+            → value_in self.new q
+            ≡ (if same q (list_of key) then Some value else value_in self.old q) }
+    {
+        self.filter.add(&key);
+        put(&mut self.by_key, key, value)
+    }
+
+    /// Takes the value of a key out.
+    pub(crate) fn swap_remove(&mut self, key: &CompactFields) -> Option<V>
+        ensures old { result ≡ value_in self.old (list_of key.now) }
+        ensures values { (q : List ℕ)
+            → value_in self.new q
+            ≡ (if same q (list_of key.now) then None else value_in self.old q) }
+        ensures room { spare self.old.by_key ≤ spare self.new.by_key }
+    {
+        self.by_key.swap_remove(key)
+    }
+}
+
+/// A filter of the keys of a map.
+fn filter_of<V>(by_key: &IndexMap<CompactFields, V>) -> Result<KeyFilter, AllocError>
+    ensures { IfOk result (λ f. RulesOut f by_key.now.entries) }
+{
+    let mut filter = KeyFilter::for_keys(*by_key.allocator(), by_key.len())?;
+    'entries: for (key, _) in by_key.iter() {
+        filter.add(key);
+    }
+    Ok(filter)
+}
