@@ -50,6 +50,7 @@ pub(crate) fn remove_prefix(trie: &mut PrefixTrie, prefix: &FieldPrefix, key: &K
 }
 
 /// What the prefixes of a field tell of a key, which is looked up where it isn't known yet.
+#[inline(always)]
 pub(crate) fn found_in(
     trie: &PrefixTrie,
     field: FieldId,

@@ -106,7 +106,9 @@ fn destination(pair: &PairTries) -> &PrefixTrie
 }
 
 /// Consults the bits of two addresses, a source and a destination, that decide whether a mask goes on, where it hasn't
-/// ended, and answers whether it does. Where it doesn't, the key matches none of its rules.
+/// ended, and answers whether it does. Where it doesn't, the key matches none of its rules. Like `prefix_test` it is a part
+/// of its caller, which names the fields.
+#[inline(always)]
 pub(crate) fn test_pair(
     src: FieldId,
     dst: FieldId,

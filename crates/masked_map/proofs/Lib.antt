@@ -3,3 +3,4 @@ pub mod Crossing
 pub mod FilterLaws
 pub mod MapLaws
 pub mod UnionLaws
+pub mod WordLaws

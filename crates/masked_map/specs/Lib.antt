@@ -4,4 +4,5 @@ pub mod Filters
 pub mod Hashing
 pub mod Listed
 pub mod Maps
+pub mod Marks
 pub mod Unions

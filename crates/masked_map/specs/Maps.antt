@@ -14,7 +14,7 @@ pub use Rattle.masked_map.specs.Listed.{listed}
 
 module _ {V : Type 0} where
   abbrev pub mask_in : Entries V → List ℕ
-  mask_in (Compact m es) = list_of m.fields
+  mask_in (Compact m es) = list_of m.bits.fields
   mask_in (Whole m es) = bits m
 
   abbrev pub entries_in : Entries V → List (List ℕ × V)

@@ -3,13 +3,17 @@
 ghost use Rattle.std.specs.Prelude.{◌≡◌, ◌<◌, ◌≤◌, [], ℕ, List, None, Some, IfOk, OnOk, if◌then◌else◌};
 ghost use Rattle.std.specs.Option.{option_copied};
 ghost use Rattle.indexmap.specs.IndexMap.{spare};
-ghost use Rattle.spec_keys.specs.Keys.{same};
+ghost use Rattle.spec_keys.specs.Keys.{masked, same};
+ghost use Rattle.ovs_fields.specs.Packed.{numbers};
 ghost use Rattle.masked_map.specs.Compact.{list_of};
 ghost use Rattle.masked_map.specs.Filters.{RulesOut};
 
 use crate::fields::CompactFields;
 use crate::key_filter::KeyFilter;
+use crate::key_words::KeyWords;
 use crate::map::{put, value_of};
+use crate::map_mask::MapMask;
+use crate::packet_key::PacketKey;
 use indexmap::IndexMap;
 use std::alloc::{AllocError, Global};
 
@@ -47,15 +51,16 @@ impl<V: Drop> CompactMap<V> {
         Ok(())
     }
 
-    /// The value of a key. A map of one key hashes nothing, and asks no filter.
+    /// The value of a packet's key under a mask. A map of one key hashes nothing, and asks no filter.
     #[inline]
-    pub(crate) fn get(&self, key: &CompactFields) -> Option<&V>
-        ensures { option_copied result ≡ value_in self.now (list_of key.now) }
+    pub(crate) fn get(&self, key: &PacketKey<'_>, mask: &MapMask) -> Option<&V>
+        ensures { option_copied result
+            ≡ value_in self.now (masked (numbers key.now.key.now) (list_of mask.now.bits.fields)) }
     {
-        if self.by_key.len() > 1 && !self.filter.may_have(key) {
+        if self.by_key.len() > 1 && !self.filter.may_have(key.mark(mask)) {
             return None;
         }
-        value_of(&self.by_key, key)
+        value_of(&self.by_key, &key.masked(&mask.bits.fields))
     }
 
     /// Gives a key a value. The key is there, or there is room for it.
@@ -66,7 +71,7 @@ impl<V: Drop> CompactMap<V> {
             → value_in self.new q
             ≡ (if same q (list_of key) then Some value else value_in self.old q) }
     {
-        self.filter.add(&key);
+        self.filter.add(KeyWords::of(&key).mark());
         put(&mut self.by_key, key, value)
     }
 
@@ -88,7 +93,7 @@ fn filter_of<V>(by_key: &IndexMap<CompactFields, V>) -> Result<KeyFilter, AllocE
 {
     let mut filter = KeyFilter::for_keys(*by_key.allocator(), by_key.len())?;
     'entries: for (key, _) in by_key.iter() {
-        filter.add(key);
+        filter.add(KeyWords::of(key).mark());
     }
     Ok(filter)
 }

@@ -1,11 +1,8 @@
 //! Which keys may be in a map, so that most of those that aren't need no look-up.
 
-ghost use Rattle.std.specs.Prelude.{◌≡◌, ◌<◌, ◌^◌, List, ℕ, true, IfOk};
-ghost use Rattle.masked_map.specs.Compact.{list_of};
-ghost use Rattle.masked_map.specs.Filters.{may_have, mixed_in, mark_of, word_of, bit_of};
+ghost use Rattle.std.specs.Prelude.{◌≡◌, ◌<◌, ℕ, true};
+ghost use Rattle.masked_map.specs.Filters.{has_mark, word_of, bit_of};
 
-use crate::fields::CompactFields;
-use ovs_fields::{join_8, join_16, join_32};
 use std::alloc::{AllocError, Global};
 
 /// How many bits a word has.
@@ -13,9 +10,6 @@ const WORD_BITS: u64 = 64;
 
 /// How many bits of a word may be set, on average.
 const KEYS_PER_WORD: usize = 8;
-
-/// An odd number near 2^64 divided by the golden ratio: multiplied by it, numbers that are close come far apart.
-const SPREAD: u64 = 0x9e37_79b9_7f4a_7c15;
 
 /// A Bloom filter with one hash function (Bloom, "Space/Time Trade-offs in Hash Coding with Allowable Errors", CACM 13(7),
 /// 1970). A key that was added may be there; of those that weren't it rules most out.
@@ -30,7 +24,7 @@ pub(crate) struct KeyFilter {
 impl KeyFilter {
     /// One that rules no key out. It takes no memory.
     pub(crate) fn none(alloc: Global) -> KeyFilter
-        ensures { (l : List ℕ) → may_have result l ≡ true }
+        ensures { (mark : ℕ) → has_mark result mark ≡ true }
     {
         KeyFilter {
             words: Vec::new(alloc),
@@ -52,12 +46,11 @@ impl KeyFilter {
         self.left == 0
     }
 
-    /// Whether a key may be there.
-    #[inline]
-    pub(crate) fn may_have(&self, key: &CompactFields) -> bool
-        ensures { result ≡ may_have self.now (list_of key.now) }
+    /// Whether a key of this mark may be there.
+    #[inline(always)]
+    pub(crate) fn may_have(&self, mark: u64) -> bool
+        ensures { result ≡ has_mark self.now mark }
     {
-        let mark = mark_of(key);
         let place = word_of(self.words.len(), mark);
         if place >= self.words.len() {
             return true;
@@ -65,12 +58,12 @@ impl KeyFilter {
         self.words[place] >> bit_of(mark) & 1 == 1
     }
 
-    /// A key may be there from now on.
-    pub(crate) fn add(&mut self, key: &CompactFields)
-        ensures marked { may_have self.new (list_of key.now) ≡ true }
-        ensures keeps { (l : List ℕ) → may_have self.old l ≡ true → may_have self.new l ≡ true }
+    /// A key of this mark may be there from now on.
+    pub(crate) fn add(&mut self, mark: u64)
+        ensures marked { has_mark self.new mark ≡ true }
+        ensures keeps { (other : ℕ) → has_mark self.old other ≡ true
+            → has_mark self.new other ≡ true }
     {
-        let mark = mark_of(key);
         let place = word_of(self.words.len(), mark);
         if place < self.words.len() {
             let word = self.words[place];
@@ -79,29 +72,6 @@ impl KeyFilter {
             self.left = self.left.saturating_sub(usize::from(with_bit != word));
         }
     }
-}
-
-/// A number of a key, whose upper bits are mixed best. It is made of the fields by which keys under one mask mostly differ.
-#[inline]
-fn mark_of(key: &CompactFields) -> u64
-    ensures { result ≡ mark_of (list_of key.now) }
-{
-    let addresses = join_32(key.nw_src, key.nw_dst);
-    let ports = join_32(
-        join_16(key.in_port, key.vlan_tci),
-        join_16(key.tp_src, key.tp_dst),
-    );
-    let header = u64::from(join_8(key.nw_ttl, key.nw_tos));
-    let hardware = mixed_in(mixed_in(0, key.dl_src), key.dl_dst);
-    mixed_in(mixed_in(mixed_in(hardware, addresses), ports), header)
-}
-
-/// A mark with one word more.
-#[inline]
-fn mixed_in(mark: u64, word: u64) -> u64
-    ensures { result ≡ mixed_in mark word }
-{
-    mark.wrapping_add(word).wrapping_mul(SPREAD)
 }
 
 /// The place of the word that a mark tells, of so many: as far among them as its upper half is among all numbers.

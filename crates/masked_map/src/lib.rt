@@ -34,7 +34,8 @@
 //!
 //! A packet's key is looked up under one mask after another, and is under most of them in no map. So a `PacketKey` has its
 //! compact fields too, which are taken from all over the whole key once, and `get` masks 40 bytes by 40 others. Each map of
-//! compact keys has a Bloom filter (`KeyFilter`), one bit for a mark of a key, which takes a quarter of what its hash does.
+//! compact keys has a Bloom filter (`KeyFilter`), with one bit for the *mark* of a key. That is made of five words, which a
+//! `PacketKey` has ready (`KeyWords`), so that no field is masked for it, and it takes a fraction of what the hash does.
 //! Where the bit isn't set, no key in the map is this one (`RulesOut` in specs/Filters.antt), and nothing is hashed or
 //! compared. Of its bits at most one in eight is set, so that it rules seven of eight keys or more out that aren't there. A
 //! key that goes leaves its bit behind. Where so many are set, the filter is made anew from the keys that are there.
@@ -61,7 +62,9 @@ mod compact_mask;
 mod field_list;
 mod fields;
 mod key_filter;
+mod key_words;
 mod map;
+mod map_mask;
 mod mask_union;
 mod packet_key;
 

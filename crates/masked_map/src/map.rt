@@ -8,8 +8,8 @@ ghost use Rattle.masked_map.specs.Maps.{agreeing, listed, wanted_values};
 ghost use Rattle.masked_map.specs.Unions.{union_of};
 
 use crate::compact_map::CompactMap;
-use crate::compact_mask::CompactMask;
 use crate::fields::CompactFields;
+use crate::map_mask::MapMask;
 use crate::mask_union::MaskUnion;
 use crate::packet_key::PacketKey;
 use indexmap::IndexMap;
@@ -21,15 +21,9 @@ use std::hash::Hash;
 #[derive(Drop)]
 pub(crate) enum Entries<V> {
     /// The mask has no bits of wide fields, so each key under it is 0 there.
-    Compact {
-        mask: CompactMask,
-        map: CompactMap<V>,
-    },
+    Compact { mask: MapMask, map: CompactMap<V> },
     /// Any mask.
-    Whole {
-        mask: Mask,
-        map: IndexMap<Key, V>,
-    },
+    Whole { mask: Mask, map: IndexMap<Key, V> },
 }
 
 /// A map from keys under one mask to values.
@@ -49,7 +43,7 @@ impl<V: Drop> MaskedMap<V> {
         ensures mask { mask_of result ≡ bits mask.now }
         ensures empty { entries_of result ≡ [] }
     {
-        let entries = match CompactMask::of(mask) {
+        let entries = match MapMask::of(mask) {
             Some(mask) => Entries::Compact {
                 mask,
                 map: CompactMap::new(alloc),
@@ -68,7 +62,7 @@ impl<V: Drop> MaskedMap<V> {
         ensures { union_of union.new ≡ joined (union_of union.old) (mask_of self.now) }
     {
         match &self.entries {
-            Entries::Compact { mask, .. } => union.add_compact(mask),
+            Entries::Compact { mask, .. } => union.add_compact(&mask.bits),
             Entries::Whole { mask, .. } => union.add_whole(mask),
         }
     }
@@ -111,7 +105,7 @@ impl<V: Drop> MaskedMap<V> {
             ≡ value_at self.now (masked (numbers key.now.key.now) (mask_of self.now)) }
     {
         match &self.entries {
-            Entries::Compact { mask, map } => map.get(&key.masked(&mask.fields)),
+            Entries::Compact { mask, map } => map.get(key, mask),
             Entries::Whole { mask, map } => value_of(map, &masked(key.key, mask)),
         }
     }
@@ -122,7 +116,7 @@ impl<V: Drop> MaskedMap<V> {
     {
         match &self.entries {
             Entries::Compact { map, .. } => match CompactFields::of_key(key) {
-                Some(fields) => map.get(&fields),
+                Some(fields) => value_of(&map.by_key, &fields),
                 None => None,
             },
             Entries::Whole { map, .. } => value_of(map, key),
@@ -140,7 +134,7 @@ impl<V: Drop> MaskedMap<V> {
             else value_at self.old q) }
     {
         match &mut self.entries {
-            Entries::Compact { mask, map } => map.insert(mask.fields.masked(key), value),
+            Entries::Compact { mask, map } => map.insert(mask.bits.fields.masked(key), value),
             Entries::Whole { mask, map } => put(map, masked(key, mask), value),
         }
     }
@@ -156,7 +150,7 @@ impl<V: Drop> MaskedMap<V> {
         ensures room { room_of self.old ≤ room_of self.new }
     {
         match &mut self.entries {
-            Entries::Compact { mask, map } => map.swap_remove(&mask.fields.masked(key)),
+            Entries::Compact { mask, map } => map.swap_remove(&mask.bits.fields.masked(key)),
             Entries::Whole { mask, map } => map.swap_remove(&masked(key, mask)),
         }
     }
@@ -175,7 +169,7 @@ impl<V: Drop> MaskedMap<V> {
         let _ = self.len();
         match &self.entries {
             Entries::Compact { mask: own, map } => {
-                let common = own.fields.common(mask);
+                let common = own.bits.fields.common(mask);
                 add_with_bits(found, &map.by_key, &common.masked(key), &common)
             }
             Entries::Whole { mask: own, map } => add_whole(found, map, key, &and(mask, own)),

@@ -2,8 +2,11 @@ ghost use Rattle.std.specs.Prelude.{◌≡◌};
 ghost use Rattle.spec_keys.specs.Keys.{masked};
 ghost use Rattle.ovs_fields.specs.Packed.{numbers};
 ghost use Rattle.masked_map.specs.Compact.{compacted, list_of};
+ghost use Rattle.masked_map.specs.Marks.{AreWordsOf, mark_of};
 
 use crate::fields::{CompactFields, taken_of_key};
+use crate::key_words::KeyWords;
+use crate::map_mask::MapMask;
 use ovs_fields::Key;
 
 /// The key of a packet with its compact fields, which are taken once for look-ups under many masks.
@@ -11,7 +14,10 @@ use ovs_fields::Key;
 pub struct PacketKey<'a> {
     pub key: &'a Key,
     pub(crate) fields: CompactFields,
+    /// Its numbers in words, for marks.
+    pub(crate) words: KeyWords,
     pub(crate) ghost taken: { list_of fields ≡ compacted (numbers key.now) },
+    pub(crate) ghost worded: { AreWordsOf words (numbers key.now) },
 }
 
 impl<'a> PacketKey<'a> {
@@ -19,10 +25,9 @@ impl<'a> PacketKey<'a> {
     pub fn new(key: &'a Key) -> PacketKey<'a>
         ensures { result.key.now ≡ key.now }
     {
-        PacketKey {
-            key,
-            fields: taken_of_key(key),
-        }
+        let fields = taken_of_key(key);
+        let words = KeyWords::of(&fields);
+        PacketKey { key, fields, words }
     }
 
     /// The bits of the key that are in these of a mask.
@@ -31,5 +36,14 @@ impl<'a> PacketKey<'a> {
         ensures { list_of result ≡ masked (numbers self.now.key.now) (list_of mask.now) }
     {
         self.fields.and(mask)
+    }
+
+    /// The mark of the key under a mask.
+    #[inline(always)]
+    pub(crate) fn mark(&self, mask: &MapMask) -> u64
+        ensures { result
+            ≡ mark_of (masked (numbers self.now.key.now) (list_of mask.now.bits.fields)) }
+    {
+        self.words.and(&mask.words).mark()
     }
 }

@@ -65,7 +65,8 @@
 //!
 //! - A lookup takes, for each mask that it goes over, one probe for each stage that has bits of the mask of its own and
 //!   leaves some to later ones, up to the one that ends it, and one for the rules themselves, however many rules have the
-//!   mask. A probe takes no hash where all rules of the mask are alike under the stage, as routes are in the Ethernet type.
+//!   mask. A probe takes no hash where all rules of the mask are alike under the stage, as routes are in the Ethernet type,
+//!   and seldom one where no rule has the key (`masked_map`).
 //! - The first mask of a lookup that has a prefix of an address takes a walk of its trie, of a step for each node on the way.
 //!   Those after it take none, so the time of a lookup grows by the masks that it goes over, and hardly by the prefixes.
 //! - An add or a strict word, also in a bundle, finds the subtable of its mask by one hash, however many masks there are, and

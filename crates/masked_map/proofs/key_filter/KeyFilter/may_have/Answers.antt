@@ -2,25 +2,24 @@ use Rattle.std.proofs.Common.{◌==◌, slice_get, sym, ap, ap₂, ◌∙◌, ar
 use Rattle.std.specs.Vec.{vec_len}
 use Rattle.std.proofs.lemmas.Nat.Bits.{shr_and_one}
 use Rattle.std.proofs.lemmas.Option.{slice_get_past, slice_get_read}
-use Rattle.masked_map.specs.Compact.{list_of}
-use Rattle.masked_map.specs.Filters.{has_bit, mark_of, word_of, bit_of}
+use Rattle.masked_map.specs.Filters.{has_bit, word_of, bit_of}
 use Rattle.masked_map.proofs.key_filter.KeyFilter.may_have.Goals as goal
 
 pub returns-then-place-len : goal.returns-then-place-len
 returns-then-place-len c =
     let words = c.args.self.now.words in
-    let place = c.word_of-place.ensures ∙ ap₂ word_of c.len.ensures c.mark_of-mark.ensures in
+    let place = c.word_of-place.ensures ∙ ap (λ n. word_of n c.args.mark) c.len.ensures in
     let past = c.if-place-len.true in
     let len = c.len-2.ensures in
     let all = words.ok.0 in
-    sym (ap (λ i. has_bit (slice_get words.items i) (bit_of (mark_of (list_of c.args.key.now)))) (sym place)
-    ∙ ap (λ o. has_bit o (bit_of (mark_of (list_of c.args.key.now)))) (slice_get_past words.items c.word_of-place.result (omega (arith, past, len, all))))
+    sym (ap (λ i. has_bit (slice_get words.items i) (bit_of c.args.mark)) (sym place)
+    ∙ ap (λ o. has_bit o (bit_of c.args.mark)) (slice_get_past words.items c.word_of-place.result (omega (arith, past, len, all))))
 
 pub returns : goal.returns
 returns c =
     let words = c.args.self.now.words in
-    let place = c.word_of-place.ensures ∙ ap₂ word_of c.len.ensures c.mark_of-mark.ensures in
-    let bit = c.bit_of.ensures.value ∙ ap bit_of c.mark_of-mark.ensures in
+    let place = c.word_of-place.ensures ∙ ap (λ n. word_of n c.args.mark) c.len.ensures in
+    let bit = c.bit_of.ensures.value in
     let within = c.if-place-len.false in
     let len = c.len-2.ensures in
     ap (λ b. b == 1) (shr_and_one c.index.result.now c.bit_of.result)

@@ -3,14 +3,14 @@ use Rattle.std.specs.Map.{lookup}
 use Rattle.spec_keys.specs.Keys.{same}
 use Rattle.ovs_fields.specs.Packed.{numbers}
 use Rattle.masked_map.specs.Compact.{list_of}
-use Rattle.masked_map.specs.Maps.{listed, entries_in}
+use Rattle.masked_map.specs.Maps.{entries_in}
 use Rattle.masked_map.proofs.CompactLaws.{none_compact}
 use Rattle.masked_map.proofs.MapLaws.{lookup_at}
 use Rattle.masked_map.proofs.map.MaskedMap.get_exact.Goals as goal
 
 pub returns-in-Some : goal.returns-in-Some
 returns-in-Some g c =
-    c.get.ensures ∙ ap (λ l. lookup (same l) (listed list_of c.in-Compact.map.by_key.entries)) c.in-Some.ensures.some
+    c.value_of.ensures ∙ lookup_at list_of c.in-Compact.map.by_key.entries c.in-Some.fields _ c.in-Some.ensures.some
     ∙ ap (λ e. lookup (same (numbers c.args.key.now)) (entries_in e)) (sym c.in-Compact.is)
 
 pub returns-in-None : goal.returns-in-None
@@ -20,5 +20,5 @@ returns-in-None g c =
 
 pub returns-in-Whole : goal.returns-in-Whole
 returns-in-Whole g c =
-    c.value_of.ensures ∙ lookup_at numbers c.in-Whole.map.entries c.args.key.now _ refl
+    c.value_of-in-Whole.ensures ∙ lookup_at numbers c.in-Whole.map.entries c.args.key.now _ refl
     ∙ ap (λ e. lookup (same (numbers c.args.key.now)) (entries_in e)) (sym c.in-Whole.is)
