@@ -37,8 +37,8 @@
 //! compact keys has a Bloom filter (`KeyFilter`), with one bit for the *mark* of a key. That is made of five words, which a
 //! `PacketKey` has ready (`KeyWords`), so that no field is masked for it, and it takes a fraction of what the hash does.
 //! Where the bit isn't set, no key in the map is this one (`RulesOut` in specs/Filters.antt), and nothing is hashed or
-//! compared. Of its bits at most one in eight is set, so that it rules seven of eight keys or more out that aren't there. A
-//! key that goes leaves its bit behind. Where so many are set, the filter is made anew from the keys that are there.
+//! compared. Of its bits at most one in eight is set, so that it rules most keys out that aren't there; how many, nothing
+//! says. A key that goes leaves its bit behind. Where so many are set, the filter is made anew from the keys that are there.
 //!
 //! The bits of compact masks are added to one another in 40 bytes too, and to a whole mask at the end.
 //!
