@@ -84,7 +84,14 @@ module _ {K V : Type 0} (list : K → List ℕ) (wanted mask : List ℕ) where
       ap (λ vs. found ++ vs) (sym (wanted_values-cons e es false is))
       ∙ ap (λ xs. found ++ wanted_values wanted mask (listed list xs)) (sym first)
 
--- a test that the only key fails finds nothing
+-- a test that the only key passes finds its value
+pub only_found : {K V : Type 0} (test : K → Bool) (es : List (K × V)) (k : K) (v : V) → length es ≡ 1 → slice_get es 0 ≡ Some (k, v) → test k ≡ true → lookup test es ≡ Some v
+only_found test [] k v one at holds = absurd (omega (arith, one))
+only_found {K} {V} test (e ∷ []) k v one at holds =
+    ap (λ (x : K × V). cond (test x.0) (Some x.1) None) (same_Some e (k, v) at) ∙ ap (λ (t : Bool). cond t (Some v) None) holds
+only_found test (e ∷ f ∷ es) k v one at holds = absurd (omega (arith, one))
+
+-- .. and one that it fails, nothing
 pub none_but_only : {K V : Type 0} (test : K → Bool) (es : List (K × V)) (k : K) (v : V) → length es ≡ 1 → slice_get es 0 ≡ Some (k, v) → test k ≡ false → lookup test es ≡ None
 none_but_only test [] k v one at fails = absurd (omega (arith, one))
 none_but_only {K} {V} test (e ∷ []) k v one at fails =

@@ -2,16 +2,16 @@
 
 ghost use Rattle.std.specs.Prelude.{◌≡◌, ◌<◌, ◌≤◌, [], ℕ, List, None, Some, IfOk, OnOk, if◌then◌else◌};
 ghost use Rattle.std.specs.Option.{option_copied};
-ghost use Rattle.indexmap.specs.IndexMap.{spare};
+ghost use Rattle.indexmap.specs.IndexMap.{index_map_len, spare};
 ghost use Rattle.spec_keys.specs.Keys.{masked, same};
 ghost use Rattle.ovs_fields.specs.Packed.{numbers};
 ghost use Rattle.masked_map.specs.Compact.{list_of};
 ghost use Rattle.masked_map.specs.Filters.{RulesOut};
 
 use crate::fields::CompactFields;
+use crate::index_map::put;
 use crate::key_filter::KeyFilter;
 use crate::key_words::KeyWords;
-use crate::map::{put, value_of};
 use crate::map_mask::MapMask;
 use crate::packet_key::PacketKey;
 use indexmap::IndexMap;
@@ -52,15 +52,41 @@ impl<V: Drop> CompactMap<V> {
     }
 
     /// The value of a packet's key under a mask. A map of one key hashes nothing, and asks no filter.
-    #[inline]
+    #[inline(always)]
     pub(crate) fn get(&self, key: &PacketKey<'_>, mask: &MapMask) -> Option<&V>
         ensures { option_copied result
             ≡ value_in self.now (masked (numbers key.now.key.now) (list_of mask.now.bits.fields)) }
     {
-        if self.by_key.len() > 1 && !self.filter.may_have(key.mark(mask)) {
+        if self.by_key.len() == 1 {
+            return self.get_only(key, mask);
+        }
+        if !self.filter.may_have(key.mark(mask)) {
             return None;
         }
-        value_of(&self.by_key, &key.masked(&mask.bits.fields))
+        self.get_hashed(key, mask)
+    }
+
+    /// The same in a map of one key.
+    #[inline(always)]
+    fn get_only(&self, key: &PacketKey<'_>, mask: &MapMask) -> Option<&V>
+        requires { index_map_len self.now.by_key ≡ 1 }
+        ensures { option_copied result
+            ≡ value_in self.now (masked (numbers key.now.key.now) (list_of mask.now.bits.fields)) }
+    {
+        match self.by_key.get_index(0) {
+            Some((own, value)) => { if key.is(own, mask) { Some(value) } else { None } }
+            None => unreachable!(),
+        }
+    }
+
+    /// The same by the hash of the masked key. It is a call of its own, so that whoever asks the filter saves no registers
+    /// for it.
+    #[inline(never)]
+    fn get_hashed(&self, key: &PacketKey<'_>, mask: &MapMask) -> Option<&V>
+        ensures { option_copied result
+            ≡ value_in self.now (masked (numbers key.now.key.now) (list_of mask.now.bits.fields)) }
+    {
+        self.by_key.get(&key.masked(&mask.bits.fields))
     }
 
     /// Gives a key a value. The key is there, or there is room for it.

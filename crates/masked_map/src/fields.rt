@@ -6,7 +6,8 @@ ghost use Rattle.ovs_fields.specs.Packed.{numbers, bits};
 ghost use Rattle.masked_map.specs.Compact.{list_of, wide_fields, compacted};
 
 use crate::field_list::{with_compact, with_wide};
-use ovs_fields::{FieldId, Key, Mask, join_8, join_16, join_32, join_64};
+use crate::key_words::KeyWords;
+use ovs_fields::{FieldId, Key, Mask, join_64};
 use std::hash::{Hash, Hasher};
 
 /// The fields but those that are 0 in most keys and masks: metadata and the registers, the addresses of IPv6 and ARP, and the
@@ -65,12 +66,6 @@ macro_rules! of_both {
 macro_rules! of_either {
     (($a:ident, $b:ident) $([$variant:ident $name:ident $type:ident])*) => {
         CompactFields { $($name: $a.$name | $b.$name,)* }
-    };
-}
-
-macro_rules! all_same {
-    (($a:ident, $b:ident) $([$variant:ident $name:ident $type:ident])*) => {
-        $(($a.$name == $b.$name) &)* true
     };
 }
 
@@ -169,11 +164,10 @@ impl PartialEq for CompactFields {
     ghost laws = { same_partial_equivalence list_of };
 
     #[inline]
-    #[tactic(auto, unfolding(spec_keys::specs::Keys::same))]
     fn eq(&self, other: &CompactFields) -> bool
         ensures { result ≡ same (list_of self.now) (list_of other.now) }
     {
-        with_compact!(all_same(self, other))
+        KeyWords::of(self).are_same(&KeyWords::of(other))
     }
 }
 
@@ -194,19 +188,10 @@ impl Hash for CompactFields {
     /// The words are those that a whole key with these numbers feeds, in the order in which the fields lie here.
     #[inline]
     fn hash<H: Hasher>(&self, state: &mut H) {
-        let addresses = join_32(self.nw_src, self.nw_dst);
-        let ports = join_32(
-            join_16(self.in_port, self.dl_type),
-            join_16(self.tp_src, self.tp_dst),
-        );
-        let tag = join_16(self.vlan_tpid, self.vlan_tci);
-        let header = join_16(
-            join_8(self.nw_proto, self.nw_tos),
-            join_8(self.nw_ttl, self.ip_frag),
-        );
-        state.write_u128(join_64(self.dl_src, self.dl_dst));
-        state.write_u128(join_64(join_32(tag, header), addresses));
-        state.write_u64(ports);
+        let words = KeyWords::of(self);
+        state.write_u128(join_64(words.dl_src, words.dl_dst));
+        state.write_u128(join_64(words.header, words.addresses));
+        state.write_u64(words.ports);
     }
 }
 

@@ -8,6 +8,12 @@ use std::alloc::{AllocError, Global};
 /// How many bits a word has.
 const WORD_BITS: u64 = 64;
 
+/// The first bit of the upper half of a mark, which tells the word.
+const WORD_SHIFT: u32 = 32;
+
+/// The first of the bits of a mark that tell the bit of the word: those below the upper half.
+const BIT_SHIFT: u32 = WORD_SHIFT - 6;
+
 /// How many bits of a word may be set, on average.
 const KEYS_PER_WORD: usize = 8;
 
@@ -79,7 +85,7 @@ impl KeyFilter {
 fn word_of(count: usize, mark: u64) -> usize
     ensures { result ≡ word_of count mark }
 {
-    (mark >> 32).wrapping_mul(count as u64) as usize >> 32
+    ((mark >> WORD_SHIFT).wrapping_mul(count as u64) >> WORD_SHIFT) as usize
 }
 
 /// The bit of that word, by bits below these.
@@ -88,5 +94,5 @@ fn bit_of(mark: u64) -> u32
     ensures value { result ≡ bit_of mark }
     ensures within { result < 64 }
 {
-    ((mark >> 26) % WORD_BITS) as u32
+    ((mark >> BIT_SHIFT) % WORD_BITS) as u32
 }

@@ -33,12 +33,15 @@
 //! whole keys would be, and feed a hash function what these would, so both kinds obey the same clauses.
 //!
 //! A packet's key is looked up under one mask after another, and is under most of them in no map. So a `PacketKey` has its
-//! compact fields too, which are taken from all over the whole key once, and `get` masks 40 bytes by 40 others. Each map of
-//! compact keys has a Bloom filter (`KeyFilter`), with one bit for the *mark* of a key. That is made of five words, which a
-//! `PacketKey` has ready (`KeyWords`), so that no field is masked for it, and it takes a fraction of what the hash does.
-//! Where the bit isn't set, no key in the map is this one (`RulesOut` in specs/Filters.antt), and nothing is hashed or
-//! compared. Of its bits at most one in eight is set, so that it rules most keys out that aren't there; how many, nothing
-//! says. A key that goes leaves its bit behind. Where so many are set, the filter is made anew from the keys that are there.
+//! compact fields too, which are taken from all over the whole key once, and `get` masks 40 bytes by 40 others. It has them
+//! in five words as well, those that they feed to a hash function (`KeyWords`), and so has a map its mask: the words of the
+//! key under the mask are those of both, and-ed, and keys are equal where their words are. A map of one key compares these.
+//!
+//! Each map of more has a Bloom filter (`KeyFilter`), with one bit for the *mark* of a key, which is made of its words. So
+//! no field is masked for it, and it takes a fraction of what the hash does. Where the bit isn't set, no key in the map is
+//! this one (`RulesOut` in specs/Filters.antt), and nothing is hashed or compared. Of its bits at most one in eight is set,
+//! so that it rules most keys out that aren't there; how many, nothing says. A key that goes leaves its bit behind. Where so
+//! many are set, the filter is made anew from the keys that are there.
 //!
 //! The bits of compact masks are added to one another in 40 bytes too, and to a whole mask at the end.
 //!
@@ -61,6 +64,7 @@ mod compact_map;
 mod compact_mask;
 mod field_list;
 mod fields;
+mod index_map;
 mod key_filter;
 mod key_words;
 mod map;

@@ -1,6 +1,6 @@
 ghost use Rattle.std.specs.Prelude.{◌≡◌, ◌<◌, ◌≤◌, ◌^◌, ◌++◌, ◌↔◌, [], List, ℕ, None, Some, IsTrue, OnOk, if◌then◌else◌, length};
+ghost use Rattle.std.specs.Map.{lookup};
 ghost use Rattle.std.specs.Option.{option_copied};
-ghost use Rattle.indexmap.specs.IndexMap.{get, index_map_len, spare, Updates};
 ghost use Rattle.spec_keys.specs.Keys.{masked, same, common_bits, joined};
 ghost use Rattle.ovs_fields.specs.Packed.{numbers, bits};
 ghost use Rattle.masked_map.specs.Compact.{list_of};
@@ -9,13 +9,13 @@ ghost use Rattle.masked_map.specs.Unions.{union_of};
 
 use crate::compact_map::CompactMap;
 use crate::fields::CompactFields;
+use crate::index_map::{put, value_of};
 use crate::map_mask::MapMask;
 use crate::mask_union::MaskUnion;
 use crate::packet_key::PacketKey;
 use indexmap::IndexMap;
 use ovs_fields::{Key, Mask, agree, and, masked};
 use std::alloc::{AllocError, Global};
-use std::hash::Hash;
 
 /// The mask and the entries, by keys of one kind.
 #[derive(Drop)]
@@ -100,13 +100,14 @@ impl<V: Drop> MaskedMap<V> {
     }
 
     /// The value of a key under the mask.
+    #[inline]
     pub fn get(&self, key: &PacketKey<'_>) -> Option<&V>
         ensures { option_copied result
             ≡ value_at self.now (masked (numbers key.now.key.now) (mask_of self.now)) }
     {
         match &self.entries {
             Entries::Compact { mask, map } => map.get(key, mask),
-            Entries::Whole { mask, map } => value_of(map, &masked(key.key, mask)),
+            Entries::Whole { mask, map } => get_whole(map, mask, key.key),
         }
     }
 
@@ -177,41 +178,13 @@ impl<V: Drop> MaskedMap<V> {
     }
 }
 
-/// The value of a key. Where it is the only one nothing is hashed.
-pub(crate) fn value_of<'a, K: Eq + Hash, V>(map: &'a IndexMap<K, V>, key: &K) -> Option<&'a V>
-    ensures { option_copied result ≡ get K.eq map.now key.now }
+/// The value of a key under a mask. It is a call of its own, so that look-ups of compact keys save no registers for it.
+#[inline(never)]
+fn get_whole<'a, V>(map: &'a IndexMap<Key, V>, mask: &Mask, key: &Key) -> Option<&'a V>
+    ensures { option_copied result
+        ≡ lookup (same (masked (numbers key.now) (bits mask.now))) (listed numbers map.now.entries) }
 {
-    if map.len() == 1 {
-        return only_value(map, key);
-    }
-    map.get(key)
-}
-
-/// The value of a key in a map of one.
-fn only_value<'a, K: Eq + Hash, V>(map: &'a IndexMap<K, V>, key: &K) -> Option<&'a V>
-    requires { index_map_len map.now ≡ 1 }
-    ensures { option_copied result ≡ get K.eq map.now key.now }
-{
-    match map.get_index(0) {
-        Some((only, value)) => { if *key == *only { Some(value) } else { None } }
-        None => unreachable!(),
-    }
-}
-
-/// Gives a key a value. The key is there, or there is room for it.
-pub(crate) fn put<K: Eq + Hash + Drop, V: Drop>(
-    map: &mut IndexMap<K, V>,
-    key: K,
-    value: V,
-) -> Option<V>
-    requires { get K.eq map.old key ≡ None → 0 < spare map.old }
-    ensures old { result ≡ get K.eq map.old key }
-    ensures updates { Updates K.eq map.old map.new key (Some value) }
-{
-    let Ok(old) = map.insert(key, value) else {
-        unreachable!()
-    };
-    old
+    value_of(map, &masked(key, mask))
 }
 
 /// Adds the values at fields that have the wanted bits of these of a mask.

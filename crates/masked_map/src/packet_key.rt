@@ -1,5 +1,5 @@
 ghost use Rattle.std.specs.Prelude.{◌≡◌};
-ghost use Rattle.spec_keys.specs.Keys.{masked};
+ghost use Rattle.spec_keys.specs.Keys.{masked, same};
 ghost use Rattle.ovs_fields.specs.Packed.{numbers};
 ghost use Rattle.masked_map.specs.Compact.{compacted, list_of};
 ghost use Rattle.masked_map.specs.Marks.{AreWordsOf, mark_of};
@@ -14,7 +14,7 @@ use ovs_fields::Key;
 pub struct PacketKey<'a> {
     pub key: &'a Key,
     pub(crate) fields: CompactFields,
-    /// Its numbers in words, for marks.
+    /// These in words.
     pub(crate) words: KeyWords,
     pub(crate) ghost taken: { list_of fields ≡ compacted (numbers key.now) },
     pub(crate) ghost worded: { AreWordsOf words (numbers key.now) },
@@ -36,6 +36,15 @@ impl<'a> PacketKey<'a> {
         ensures { list_of result ≡ masked (numbers self.now.key.now) (list_of mask.now) }
     {
         self.fields.and(mask)
+    }
+
+    /// Whether the key under a mask is one with these compact fields.
+    #[inline(always)]
+    pub(crate) fn is(&self, own: &CompactFields, mask: &MapMask) -> bool
+        ensures { result
+            ≡ same (masked (numbers self.now.key.now) (list_of mask.now.bits.fields)) (list_of own.now) }
+    {
+        self.words.and(&mask.words).are_same(&KeyWords::of(own))
     }
 
     /// The mark of the key under a mask.

@@ -51,6 +51,7 @@ fn count_of(counts: &KeyCounts, key: &Key) -> usize
 }
 
 /// How often the key of a packet under the mask was counted.
+#[inline]
 pub(crate) fn count_of_packet(counts: &KeyCounts, key: &PacketKey<'_>) -> usize
     ensures { result ≡ count_at counts.now (masked (numbers key.now.key.now) (mask_of counts.now)) }
 {

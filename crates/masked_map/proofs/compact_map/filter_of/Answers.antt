@@ -11,7 +11,7 @@ use Rattle.masked_map.proofs.compact_map.filter_of.Goals as goal
 pub entries-preserved : goal.entries-preserved
 entries-preserved g c q out =
     passed (c.in-Some.key.now, c.in-Some.field-0-1.now) c.next.new.self c.args.by_key.now.entries q
-    (not_added c.add.new.self q (list_of c.in-Some.key.now) (sym (ap (has_mark c.add.new.self) (c.mark.ensures (list_of c.in-Some.key.now) c.of.ensures)) ∙ c.add.ensures.marked) out)
+    (not_added c.add.new.self q (list_of c.in-Some.key.now) (sym (ap (has_mark c.add.new.self) (c.mark.ensures (list_of c.in-Some.key.now) c.of.ensures.words)) ∙ c.add.ensures.marked) out)
     (sym (ap (λ es. lookup (same q) (listed list_of es)) c.in-Some.ensures.steps)
     ∙ c.entries.invariant q (no_more c.entries.filter c.add.new.self q (c.add.ensures.keeps (mark_of q)) out))
 

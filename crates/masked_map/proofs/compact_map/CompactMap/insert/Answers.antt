@@ -18,7 +18,7 @@ invariant_of-self g c = record {
   filtered = λ key out.
       let old = lookup (same key) (listed list_of c.args.self.now.by_key.entries) in
       updated_at_key list_of c.args.self.now.by_key c.put.new.map c.args.key _ (Some c.args.value) refl c.put.ensures.updates key
-      ∙ ap (λ t. if t then Some c.args.value else old) (not_added c.add.new.self key (list_of c.args.key) (sym (ap (has_mark c.add.new.self) (c.mark.ensures (list_of c.args.key) c.of.ensures)) ∙ c.add.ensures.marked) out)
+      ∙ ap (λ t. if t then Some c.args.value else old) (not_added c.add.new.self key (list_of c.args.key) (sym (ap (has_mark c.add.new.self) (c.mark.ensures (list_of c.args.key) c.of.ensures.words)) ∙ c.add.ensures.marked) out)
       ∙ c.args.self.now.filtered key (no_more c.args.self.now.filter c.add.new.self key (c.add.ensures.keeps (mark_of key)) out);
 }
 

@@ -9,6 +9,6 @@ returns c key are =
     ∙ ap₂ mixed_in
     (c.mixed_in-3.ensures
     ∙ ap₂ mixed_in
-    (c.mixed_in-2.ensures ∙ ap₂ mixed_in (c.mixed_in-hardware.ensures ∙ ap₂ mixed_in (c.mixed_in.ensures ∙ ap₂ mixed_in refl are.src) are.dst) are.addresses_are)
-    are.ports_are)
-    are.header_is
+    (c.mixed_in-2.ensures ∙ ap₂ mixed_in (c.mixed_in-hardware.ensures ∙ ap₂ mixed_in (c.mixed_in.ensures ∙ ap₂ mixed_in refl are.src) are.dst) are.header_is)
+    are.addresses_are)
+    are.ports_are

@@ -1,12 +1,8 @@
-use Rattle.std.proofs.Common.{refl, ap₂, ◌∙◌}
-use Rattle.ovs_fields.specs.Feeding.{joined_words}
+use Rattle.std.proofs.Common.{refl}
 use Rattle.masked_map.proofs.key_words.KeyWords.of.Goals as goal
 
-pub returns : goal.returns
-returns c = record {
-  src = refl;
-  dst = refl;
-  addresses_are = c.join_32.ensures;
-  ports_are = c.join_32-2.ensures ∙ ap₂ (joined_words 32) c.join_16.ensures c.join_16-2.ensures;
-  header_is = c.from.ensures ∙ c.join_8.ensures;
-}
+pub returns-clause-words : goal.returns-clause-words
+returns-clause-words c = record { src = refl; dst = refl; header_is = c.header_of.ensures.value; addresses_are = c.addresses_of.ensures.value; ports_are = c.ports_of.ensures.value }
+
+pub returns-clause-fits : goal.returns-clause-fits
+returns-clause-fits c = record { header = c.header_of.ensures.fits; addresses = c.addresses_of.ensures.fits; ports = c.ports_of.ensures.fits }

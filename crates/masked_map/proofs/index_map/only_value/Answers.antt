@@ -2,7 +2,7 @@ use Rattle.std.proofs.Common.{sym, ap, ◌∙◌}
 use Rattle.std.specs.Map.Iter.{deref_pair}
 use Rattle.std.specs.Option.{option_map}
 use Rattle.masked_map.proofs.MapLaws.{none_but_only}
-use Rattle.masked_map.proofs.map.only_value.Goals as goal
+use Rattle.masked_map.proofs.index_map.only_value.Goals as goal
 
 pub returns-else-eq : goal.returns-else-eq
 returns-else-eq g c =
