@@ -56,14 +56,15 @@ impl ExactCache {
         look_by_hash(&self.slots, HashedKey::of(key))
     }
 
-    /// Names an entry for a key, in place of the one that it named; another key may be forgotten for it. It takes no
-    /// memory.
-    pub fn put(&mut self, key: HashedKey<'_>, entry: u32)
+    /// Names an entry for a key, in place of the one that it named; another key may be forgotten for it. Where the entry
+    /// was seen is told to whoever looks the key up. It takes no memory.
+    pub fn put(&mut self, key: HashedKey<'_>, entry: u32, seen: usize)
         ensures { AreSameSlots self.new (with_cached (numbers key.entry.key.now) entry self.old) }
     {
         let kept = Kept {
             slot: slot_for(&self.slots, key),
             entry,
+            seen,
             hash: key.hash,
             key: *key.key,
         };

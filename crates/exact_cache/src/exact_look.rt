@@ -14,6 +14,8 @@ use ovs_fields::Key;
 pub struct ExactLook<'a> {
     pub key: HashedKey<'a>,
     pub entry: Option<u32>,
+    /// Where the entry was seen as the key was put, or 0. It only saves time: nothing rests on it.
+    pub seen: usize,
 }
 
 /// What a look for a key answers, where this key is kept at a place. If that is its first slot, the key is compared no
@@ -32,6 +34,7 @@ pub(crate) fn look_at<'a>(slots: &KeptSlots, place: usize, key: &'a Key) -> Opti
     Some(ExactLook {
         key,
         entry: Some(kept.entry),
+        seen: kept.seen,
     })
 }
 
@@ -45,5 +48,9 @@ pub(crate) fn look_by_hash<'a>(slots: &KeptSlots, key: HashedKey<'a>) -> ExactLo
         Some(entry) => Some(entry),
         None => entry_for(slots, second_slot(key.hash), key),
     };
-    ExactLook { key, entry }
+    ExactLook {
+        key,
+        entry,
+        seen: 0,
+    }
 }

@@ -12,6 +12,8 @@ pub(crate) struct Kept {
     /// The number of the slot.
     pub(crate) slot: u32,
     pub(crate) entry: u32,
+    /// Where the entry was seen, as whoever put it tells.
+    pub(crate) seen: usize,
     /// The hash of the key. It stands before the key, so that most keys of other frames needn't be read.
     pub(crate) hash: u64,
     pub(crate) key: Key,

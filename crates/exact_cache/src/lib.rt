@@ -47,6 +47,9 @@
 //! tell where the key is kept. Keys that share a hint take it from one another, and nothing rests on it: whatever it
 //! tells, keys are compared.
 //!
+//! With an entry stands where it was *seen*, a number that `put` is given, and that `look` hands on where a hint found the
+//! key. It saves whoever keeps the entries a hash, and nothing here rests on it.
+//!
 //! A key that its hint finds in its first slot is answered at once: it was compared once, and no slot is read. One that
 //! it finds in its second slot is looked for in both like any other, since nothing says here that the first doesn't hold
 //! it too.

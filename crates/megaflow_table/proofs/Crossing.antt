@@ -4,8 +4,8 @@ use denote.Param.Send.{IsSend, sendable}
 use Rattle.std.proofs.Crossing.{crosses}
 use Rattle.masked_map.proofs.Crossing.{compact_send, compact_mask_send, filter_send, key_send, mask_send}
 use Rattle.megaflow_table.specs.contracts.entry.Entry as entry
-use Rattle.megaflow_table.specs.contracts.megaflows.Placed as placed
 use Rattle.megaflow_table.specs.contracts.megaflows.Megaflows as megaflows
+use Rattle.megaflow_table.specs.contracts.placed.Placed as placed
 use Rattle.megaflow_table.specs.contracts.subtables.Fresh as fresh
 use Rattle.megaflow_table.specs.contracts.subtables.Subtable as subtable
 

@@ -8,7 +8,7 @@ use Rattle.indexmap.specs.IndexMap.{spare}
 use Rattle.ovs_fields.specs.declared.mask.Mask.{Mask}
 use Rattle.ovs_fields.specs.Packed.{numbers, bits}
 use Rattle.megaflow_table.specs.declared.entry.Entry.{Entry}
-use Rattle.megaflow_table.specs.declared.megaflows.Placed.{Placed}
+use Rattle.megaflow_table.specs.declared.placed.Placed.{Placed}
 use Rattle.megaflow_table.specs.declared.megaflows.Megaflows.TheInside.{Inside}
 use Rattle.megaflow_table.specs.Entries.{Flows, overlaps, without}
 use Rattle.megaflow_table.specs.Order.{AddsMask}

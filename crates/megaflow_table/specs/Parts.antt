@@ -6,7 +6,7 @@ use Rattle.indexmap.specs.IndexMap.{get, spare}
 use Rattle.spec_keys.specs.Keys.{masked}
 use Rattle.ovs_fields.specs.Packed.{numbers, bits}
 use Rattle.megaflow_table.specs.declared.entry.Entry.{Entry}
-use Rattle.megaflow_table.specs.declared.megaflows.Placed.{Placed}
+use Rattle.megaflow_table.specs.declared.placed.Placed.{Placed}
 use Rattle.megaflow_table.specs.declared.megaflows.Megaflows.TheInside.{Inside}
 use Rattle.megaflow_table.specs.Entries.{Flows, overlaps}
 use Rattle.megaflow_table.specs.Live.{IsIn, IsRising}

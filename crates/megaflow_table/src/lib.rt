@@ -19,11 +19,11 @@
 //!
 //! - `find` answers the number of the entry that covers a key, as a scan of the list finds it.
 //! - `get`, `numbers`, `after` and `overlaps` answer by the list too, and `len` says what holds of any list that can
-//!   come: no two entries overlap, and the numbers rise.
+//!   come: no two entries overlap, and the numbers rise. `get_seen` answers what `get` does, wherever the entry was seen.
 //! - `install` appends an entry, which must overlap none and have a greater number than all.
 //! - `hit`, `change` and `pay` change one entry as their names say, and `remove` takes one out. Everything else stays.
 //!   `change` answers the visits that the entry had, whose memory can be used again, and `hit` the version and the place
-//!   of the actions of its entry, so that a hit finds the entry once.
+//!   of the actions of its entry (`Hit`), so that a hit finds the entry once.
 //! - `rank` answers the masks in the order in which `find` probes them, with the number of *hits* of each: those of the
 //!   entries, each once, and the numbers never rise. `hit` counts one for the mask of its entry, up to the greatest number
 //!   that there is; a mask that comes anew has none, and one leaves with its last entry. No other call changes the hits of
@@ -51,7 +51,8 @@
 //! a probe finds it. Else each entry of the subtable is tested. So a new mask that covers all others costs one probe for
 //! each, and takes memory only where something overlaps.
 //!
-//! The entries themselves stand in a hash map by their numbers. The numbers stand in one sorted list beside it, which a
+//! The entries themselves stand in a hash map by their numbers. Where an entry stands there is a hint too: `hit` tells it,
+//! and whoever hands it to `get_seen` or `hit` later spares the hash, as long as no removal moved the entry. The numbers stand in one sorted list beside it, which a
 //! walk over the entries goes by. Whoever installs gives the greatest number so far, so it is appended. A removal finds
 //! its place by a binary search and moves the numbers behind it.
 //!
@@ -70,10 +71,11 @@ mod entry;
 mod live;
 mod megaflows;
 mod overlaps;
+mod placed;
 mod ranks;
 mod subtables;
 mod visits;
 
 pub use entry::Entry;
-pub use megaflows::Megaflows;
+pub use megaflows::{Hit, Megaflows};
 pub use visits::Visits;

@@ -9,6 +9,7 @@ ghost use Rattle.megaflow_table.specs.Order.{HasMasksOf, HasEachOnce, AreFalling
 use crate::entry::Entry;
 use crate::live::{first_above, remove_live};
 use crate::overlaps::overlapping;
+use crate::placed::{Placed, place_of};
 use crate::ranks::{count_hit, rank_at};
 use crate::subtables::{
     Fresh, Subtables, insert_under, number_in, remove_under, reserve_fresh, reserve_under,
@@ -20,11 +21,14 @@ use ovs_fields::{Key, Mask};
 use std::alloc::{AllocError, Global};
 use std::marker::Model;
 
-/// A live entry, and the place where the subtable of its mask was seen last.
-#[derive(Drop)]
-struct Placed {
-    entry: Entry,
-    place: usize,
+/// What a hit tells of its entry.
+#[derive(Clone, Copy, Debug)]
+pub struct Hit {
+    pub version: u32,
+    /// The place of its actions.
+    pub actions: u32,
+    /// Where the entry was seen: with that it is found next time without a hash, if it is still there.
+    pub seen: usize,
 }
 
 /// The live megaflows of a port, no two of which overlap.
@@ -104,6 +108,17 @@ impl Megaflows {
         Some(&placed.entry)
     }
 
+    /// The same, where the entry was seen at a place. Where it is still there, it takes no hash.
+    pub fn get_seen(&self, number: u32, seen: usize) -> Option<&Entry>
+        ensures { option_copied result ≡ entry_of number self.now.entries }
+    {
+        let _ = self.entries.len();
+        match self.entries.get_index(seen) {
+            Some((there, placed)) if *there == number => Some(&placed.entry),
+            _ => self.get(number),
+        }
+    }
+
     /// The number of the entry that covers a key. It takes no memory, and one probe for each mask until it is found, those
     /// with the most hits first.
     pub fn find(&self, key: &Key) -> Option<u32>
@@ -154,24 +169,31 @@ impl Megaflows {
         Ok(found)
     }
 
-    /// An entry decided one more packet, of this many bytes, at this time in nanoseconds, which is a hit of its mask.
-    /// Answers the entry's version and the place of its actions. It takes no memory.
-    pub fn hit(&mut self, number: u32, length: u32, time: u64) -> (u32, u32)
+    /// An entry that was seen at a place decided one more packet, of this many bytes, at this time in nanoseconds, which
+    /// is a hit of its mask. It takes no memory.
+    pub fn hit(&mut self, number: u32, seen: usize, length: u32, time: u64) -> Hit
         requires { ForEntry number self.old.entries (CanHit length) }
-        ensures named { option_map (λ e. (e.version, e.actions))
-            (entry_of number self.old.entries) ≡ Some result }
+        ensures version { option_map (λ e. e.version) (entry_of number self.old.entries)
+            ≡ Some result.version }
+        ensures actions { option_map (λ e. e.actions) (entry_of number self.old.entries)
+            ≡ Some result.actions }
         ensures entries { self.new.entries ≡ changed number (hit_at length time) self.old.entries }
         ensures hits { IfSome (entry_of number self.old.entries)
             (λ e. CountsHit (bits e.mask) self.old.order self.new.order) }
         ensures room { self.new.room ≡ self.old.room }
         ensures limit { self.new.limit ≡ self.old.limit }
     {
-        let Some(placed) = self.entries.get_mut(&number) else {
+        let Some(place) = place_of(&self.entries, number, seen) else {
             unreachable!()
         };
+        let (_, placed) = self.entries.pair_mut(place);
         placed.entry.hit(length, time);
         placed.place = count_hit(&mut self.subtables, &placed.entry.mask, placed.place);
-        (placed.entry.version, placed.entry.actions)
+        Hit {
+            version: placed.entry.version,
+            actions: placed.entry.actions,
+            seen: place,
+        }
     }
 
     /// Gives an entry the actions and visits of a version, and answers the visits that it had. Its counts stay. It takes

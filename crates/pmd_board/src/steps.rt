@@ -23,14 +23,14 @@ use run_xlate::Xlated;
 use spec_board::{BeginFault, EndFault, LookFault, Looked, OpenFault, PutFault, SettleFault};
 use std::alloc::AllocError;
 
-// The exact-match cache keeps which entry a look found among the megaflows.
-fn remember(caches: &mut PortCaches, key: HashedKey<'_>, found: Looked)
+// The exact-match cache keeps which entry a look found among the megaflows, and where it was seen.
+fn remember(caches: &mut PortCaches, key: HashedKey<'_>, found: Looked, seen: usize)
     ensures slots { AreSameSlots caches.new.slots
         (slots_after found (numbers key.entry.key.now) caches.old.slots) }
     ensures rest { caches.new ≡ record caches.old { slots = caches.new.slots } }
 {
     if let Looked::Mega(number) = found {
-        caches.remember(key, number);
+        caches.remember(key, number, seen);
     }
 }
 
@@ -72,17 +72,17 @@ impl<C: Case> Board<C> {
             self.laws_hold();
             return Err(fault);
         }
-        let KeyLook { key, found } = self.caches.look(&at.key);
+        let KeyLook { key, found, seen } = self.caches.look(&at.key);
         match found {
-            Looked::Exact(number) | Looked::Mega(number) => self.hit(at, key, number, found),
+            Looked::Exact(number) | Looked::Mega(number) => self.hit(at, key, number, seen, found),
             Looked::Miss => self.miss(at),
         }
         self.laws_hold();
         Ok(found)
     }
 
-    // The frame is decided by the entry that its look found.
-    fn hit(&mut self, at: &Keyed<C>, key: HashedKey<'_>, number: u32, found: Looked)
+    // The frame is decided by the entry that its look found, which was seen at a place.
+    fn hit(&mut self, at: &Keyed<C>, key: HashedKey<'_>, number: u32, seen: usize, found: Looked)
         requires port { at.now.port ≡ self.old.port }
         requires key { key.key.now ≡ at.now.key }
         requires may { look_fault C.run self.old.port (state_of C.run self.old) at.now.place
@@ -91,11 +91,14 @@ impl<C: Case> Board<C> {
         requires number { IsFound found number }
         ensures { Appends C.run self.old (steps.Look at.now.place found) self.new }
     {
-        let (version, list) = self.caches.hit(number, at.length, at.time);
-        remember(&mut self.caches, key, found);
+        let hit = self.caches.hit(number, seen, at.length, at.time);
+        remember(&mut self.caches, key, found, hit.seen);
         self.next += 1;
         self.clock = self.clock.max(at.time);
-        self.places[at.place as usize - 1] = Place::Decided { version, list };
+        self.places[at.place as usize - 1] = Place::Decided {
+            version: hit.version,
+            list: hit.list,
+        };
         self.journal.push_reserved(Step::Look {
             place: at.place,
             result: found,

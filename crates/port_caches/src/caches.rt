@@ -45,6 +45,17 @@ pub struct PortCaches {
 pub struct KeyLook<'a> {
     pub key: HashedKey<'a>,
     pub found: Looked,
+    /// Where the entry was seen that the exact-match cache names. It only saves time.
+    pub seen: usize,
+}
+
+/// What decides a frame that hits an entry: the entry's version, and the place of its actions.
+#[derive(Clone, Copy, Debug)]
+pub struct EntryHit {
+    pub version: u32,
+    pub list: usize,
+    /// Where the entry was seen. It only saves time.
+    pub seen: usize,
 }
 
 /// A frame that was settled: what was done beside deciding it, and the place of its list of actions.
@@ -158,29 +169,34 @@ impl PortCaches {
         let exact = self.exact.look(key);
         KeyLook {
             key: exact.key,
-            found: self.known(key, exact.entry),
+            found: self.known(key, exact.entry, exact.seen),
+            seen: exact.seen,
         }
     }
 
-    /// A frame of this length in bytes and this time in nanoseconds is decided by an entry. Answers the entry's
-    /// version and the place of its actions. It takes no memory.
-    pub fn hit(&mut self, number: u32, length: u32, time: u64) -> (u32, usize)
+    /// A frame of this length in bytes and this time in nanoseconds is decided by an entry, which was seen at a place. It
+    /// takes no memory.
+    pub fn hit(&mut self, number: u32, seen: usize, length: u32, time: u64) -> EntryHit
         requires { CanHit number length self.old }
-        ensures { IsHit number length time result.0 result.1 self.old self.new }
+        ensures { IsHit number length time result.version result.list self.old self.new }
     {
-        let (version, list) = self.flows.hit(number, length, time);
-        let list = list as usize;
+        let hit = self.flows.hit(number, seen, length, time);
+        let list = hit.actions as usize;
         hold(&mut self.lists, list);
-        (version, list)
+        EntryHit {
+            version: hit.version,
+            list,
+            seen: hit.seen,
+        }
     }
 
-    /// The exact-match cache keeps that an entry covers a key. It takes no memory.
-    pub fn remember(&mut self, key: HashedKey<'_>, number: u32)
+    /// The exact-match cache keeps that an entry covers a key, and where it was seen. It takes no memory.
+    pub fn remember(&mut self, key: HashedKey<'_>, number: u32, seen: usize)
         ensures slots { AreSameSlots self.new.slots
             (with_cached (numbers key.entry.key.now) number self.old.slots) }
         ensures rest { self.new ≡ record self.old { slots = self.new.slots } }
     {
-        self.exact.put(key, number);
+        self.exact.put(key, number, seen);
     }
 
     /// A frame of this length in bytes and this time in nanoseconds is settled by the translation of its key under a
@@ -281,13 +297,13 @@ impl PortCaches {
 
 // What calls are made of.
 impl PortCaches {
-    /// What knows a key for which the exact-match cache names this entry.
-    fn known(&self, key: &Key, named: Option<u32>) -> Looked
+    /// What knows a key for which the exact-match cache names this entry, which was seen at a place.
+    fn known(&self, key: &Key, named: Option<u32>, seen: usize) -> Looked
         requires { named ≡ cached self.now.slots (numbers key.now) }
         ensures { (s : State) → AreCachesOf self.now s → result ≡ looked (numbers key.now) s }
     {
         if let Some(number) = named {
-            if self.flows.get(number).is_some() {
+            if self.flows.get_seen(number, seen).is_some() {
                 return Looked::Exact(number);
             }
         }

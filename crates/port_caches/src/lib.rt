@@ -44,7 +44,8 @@
 //! that there is no memory.
 //!
 //! `look` answers a key with its hash (`HashedKey`), which `remember` takes, since a frame that hits a megaflow comes to
-//! both. Most keys that the exact-match cache has aren't hashed for it.
+//! both. Most keys that the exact-match cache has aren't hashed for it, and nor are the numbers of the entries that it
+//! names for them: with each it has where `hit` saw the entry, which `look` tells the next `hit` (`seen`).
 //!
 //! `settle` asks for all its memory first: the list, the numbers of the entries that the new one overlaps, and the
 //! table's room for it. From there on nothing is refused.
@@ -64,7 +65,7 @@ mod lists;
 mod threads;
 
 pub use board_steps::{EntryNumbers, Settled};
-pub use caches::{KeyLook, PortCaches, Revalidated, SettledFrame};
+pub use caches::{EntryHit, KeyLook, PortCaches, Revalidated, SettledFrame};
 pub use exact_cache::HashedKey;
 pub use flow_stats::Totals;
 pub use megaflow_table::{Entry, Megaflows};

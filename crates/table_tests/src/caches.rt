@@ -19,10 +19,10 @@ fn a_key_is_named_the_entry_that_was_put_last(rt: HostRuntime) -> Result<(), Fai
     let other = from_address(0x0a00_0002);
     let missed = cache.look(&key);
     assert_eq!(rt; missed.entry, None);
-    cache.put(missed.key, 1);
+    cache.put(missed.key, 1, 0);
     let hit = cache.look(&key);
     assert_eq!(rt; hit.entry, Some(1));
-    cache.put(hit.key, 2);
+    cache.put(hit.key, 2, 0);
     assert_eq!(rt; cache.look(&key).entry, Some(2));
     assert_eq!(rt; cache.look(&other).entry, None);
     Ok(())
@@ -33,8 +33,8 @@ fn keys_that_share_a_hint_keep_their_own_entries(rt: HostRuntime) -> Result<(), 
     let mut cache = ExactCache::new(rt.alloc())?;
     let key = from_address(0x0a00_0001);
     let other = from_address(0x0a00_0ed0);
-    cache.put(HashedKey::of(&key), 1);
-    cache.put(HashedKey::of(&other), 2);
+    cache.put(HashedKey::of(&key), 1, 0);
+    cache.put(HashedKey::of(&other), 2, 0);
     assert_eq!(rt; cache.look(&key).entry, Some(1));
     assert_eq!(rt; cache.look(&other).entry, Some(2));
     Ok(())
@@ -45,7 +45,7 @@ fn a_full_cache_takes_more_keys(rt: HostRuntime) -> Result<(), Fail> {
     let mut cache = ExactCache::new(rt.alloc())?;
     for address in 0..MANY {
         let key = from_address(address);
-        cache.put(HashedKey::of(&key), address);
+        cache.put(HashedKey::of(&key), address, 0);
         assert_eq!(rt; cache.look(&key).entry, Some(address));
     }
     Ok(())

@@ -103,7 +103,8 @@ fn hit(table: &mut Megaflows, number: u32, length: u32, time: u64) {
     let packets = entry.packets.max(entry.owed_packets);
     let bytes = entry.bytes.max(entry.owed_bytes);
     if packets.max(bytes) < FEW {
-        table.hit(number, length, time);
+        // Where it was seen may be anywhere.
+        table.hit(number, number as usize, length, time);
     }
 }
 

@@ -1,6 +1,6 @@
 use Rattle.std.proofs.Common.{Some, refl, sym, ap, ◌∙◌}
 use Rattle.std.specs.Option.{option_copied_mut, option_map}
-use Rattle.megaflow_table.specs.declared.megaflows.Placed.{Placed}
+use Rattle.megaflow_table.specs.declared.placed.Placed.{Placed}
 use Rattle.megaflow_table.specs.declared.entry.Entry.{Entry}
 use Rattle.megaflow_table.specs.Entries.{Flows, changed_to}
 use Rattle.megaflow_table.proofs.WriteLaws.{entry_in, written_table, written_flows, not_live, names_from}

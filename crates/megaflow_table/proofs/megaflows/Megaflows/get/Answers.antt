@@ -2,7 +2,7 @@ use Rattle.std.proofs.Common.{◌≡◌, ℕ, Option, None, ◌∙◌, sym, ap}
 use Rattle.std.specs.Prelude.{nat_eq}
 use Rattle.std.specs.Option.{option_map, option_copied}
 use Rattle.indexmap.specs.IndexMap.{get}
-use Rattle.megaflow_table.specs.declared.megaflows.Placed.{Placed}
+use Rattle.megaflow_table.specs.declared.placed.Placed.{Placed}
 use Rattle.megaflow_table.specs.declared.megaflows.Megaflows.TheInside.{Inside}
 use Rattle.megaflow_table.specs.Entries.{Flows, entry_of}
 use Rattle.megaflow_table.specs.Parts.{IsTable, flows_in}

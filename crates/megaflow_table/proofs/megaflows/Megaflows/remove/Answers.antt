@@ -1,7 +1,7 @@
 use Rattle.std.proofs.Common.{ap, refl, sym, subst, ◌∙◌, ◌==◌, nat_eq}
 use Rattle.std.specs.Option.{option_map}
 use Rattle.indexmap.specs.IndexMap.{get}
-use Rattle.megaflow_table.specs.declared.megaflows.Placed.{Placed}
+use Rattle.megaflow_table.specs.declared.placed.Placed.{Placed}
 use Rattle.megaflow_table.specs.Order.{KeepsHits}
 use Rattle.megaflow_table.specs.Subtables.{order_of}
 use Rattle.megaflow_table.specs.Entries.{Flows}

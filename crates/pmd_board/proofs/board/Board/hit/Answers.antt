@@ -20,8 +20,8 @@ use Rattle.pmd_board.proofs.LookedUp.{few_frames, found_there, hit_places, look_
 use Rattle.pmd_board.proofs.Pushed.{appends, key_looked_up, pushed_as}
 use Rattle.pmd_board.proofs.board.Board.hit.Goals as goal
 
-pub hit-version-requires : goal.hit-version-requires
-hit-version-requires g c =
+pub hit-hit-requires : goal.hit-hit-requires
+hit-hit-requires g c =
     let b = c.self.inside in
     let run : Run = g.C.Case.run in
     let k = c.self.invariant in
@@ -53,18 +53,18 @@ invariant_of-self g c =
     let frame = frame_at run b.port at.place in
     let time : at.time ≡ frame.time = rw (← port) at.time_is in
     let live = found_live run b.port b.caches.limit (steps_view b.journal.items) k.legal (key_at run b.port at.place) r number c.requires.number found in
-    let hit = c.hit-version.ensures in
+    let hit = c.hit-hit.ensures in
     let decided = hit.decided live.0 (ap (λ es. entry_of number es) (sym k.caches.caches.entries) ∙ live.1) in
     let key : numbers c.args.key.key.now ≡ key_at run b.port at.place = ap numbers c.requires.key ∙ at.key_is ∙ ap (λ q. key_at run q at.place) port in
     let rest = c.remember.ensures.rest in
     let caches_hit = hit.effect (advanced frame s) at.place frame (record { length_is = rw (← port) at.length_is; time_is = time })
     (recast b.caches s (advanced frame s) refl refl refl (λ rule. refl) k.caches.caches) in
-    let caches = remembered c.hit-version.new.self c.remember.new.caches (decided_by number at.place frame (advanced frame s)) (key_at run b.port at.place) r caches_hit rest
-    (subst (λ y. AreSameSlots c.remember.new.caches.slots (slots_after r y c.hit-version.new.self.slots)) key c.remember.ensures.slots) in
+    let caches = remembered c.hit-hit.new.self c.remember.new.caches (decided_by number at.place frame (advanced frame s)) (key_at run b.port at.place) r caches_hit rest
+    (subst (λ y. AreSameSlots c.remember.new.caches.slots (slots_after r y c.hit-hit.new.self.slots)) key c.remember.ensures.slots) in
     let limit = ap (λ (x : Caches). x.limit) rest ∙ hit.same.limit in
-    let lists : c.hit-version.new.self.lists ≡ c.remember.new.caches.lists = sym (ap (λ (x : Caches). x.lists) rest) in
+    let lists : c.hit-hit.new.self.lists ≡ c.remember.new.caches.lists = sym (ap (λ (x : Caches). x.lists) rest) in
     let keeps = subst (KeepsHeld b.caches.lists) lists hit.same.held in
-    let held = subst (λ l. IsHeld l c.hit-version.result.1 live.0.actions) lists decided.1 in
+    let held = subst (λ l. IsHeld l c.hit-hit.result.list live.0.actions) lists decided.1 in
     let push = c.push_reserved.ensures in
     pushed_as run b _ (rust.Look at.place r) (hit_state run b.port at.place number r s) (hit_is run b.port at.place number r s c.requires.number) k
     (record { port = refl; limit = limit; items = push.items }) refl legal keys
@@ -75,7 +75,7 @@ invariant_of-self g c =
       done = k.versions.done;
       is_sweeping = k.versions.is_sweeping;
     })
-    (hit_places run b _ at.place number c.hit-version.result.0 c.hit-version.result.1 frame live.0 (slots_after r (key_at run b.port at.place) s.slots) k turn
+    (hit_places run b _ at.place number c.hit-hit.result.version c.hit-hit.result.list frame live.0 (slots_after r (key_at run b.port at.place) s.slots) k turn
     (record { next = refl; places = refl; count = refl; blocks = refl; block = refl; sweeping = refl; listed = refl; limit = limit; room = ap (λ (x : Caches). x.room) rest ∙ hit.room; len = push.len; capacity = push.capacity; port = refl }) live.1 keeps decided.0 held
     (c.max-self-inside.ensures ∙ ap (max b.clock) time) refl)
     (record {
@@ -84,7 +84,7 @@ invariant_of-self g c =
       rules = ap (λ (x : Caches). x.rules) rest ∙ hit.same.rules ∙ k.caches.rules;
       made = (let m = sym caches.made ∙ k.caches.caches.made in omega (arith, m, k.caches.made));
     })
-    (looked_room run b _ at.place (rust_place.Decided c.hit-version.result.0 c.hit-version.result.1) k turn
+    (looked_room run b _ at.place (rust_place.Decided c.hit-hit.result.version c.hit-hit.result.list) k turn
     (record { next = refl; places = refl; count = refl; blocks = refl; block = refl; sweeping = refl; listed = refl; limit = limit; room = ap (λ (x : Caches). x.room) rest ∙ hit.room; len = push.len; capacity = push.capacity; port = refl }))
 
 pub returns : goal.returns
@@ -95,7 +95,7 @@ returns g c =
     let may = subst (λ (x : BoardView). look_fault run x.port (state_of run x) at.place ≡ None) (sym c.self.view_is) c.requires.may in
     let found = found_there run b c.args.self.now at.port at.place _ c.args.found c.self.view_is at.key_is c.requires.port c.requires.found in
     appends run b (rust.Look at.place c.args.found) c.args.self.now _ _ _ c.self.view_is refl
-    (ap (λ (x : Caches). x.limit) c.remember.ensures.rest ∙ c.hit-version.ensures.same.limit)
+    (ap (λ (x : Caches). x.limit) c.remember.ensures.rest ∙ c.hit-hit.ensures.same.limit)
     c.push_reserved.ensures.items (may, sym found)
 
 pub overflow_add-self : goal.overflow_add-self

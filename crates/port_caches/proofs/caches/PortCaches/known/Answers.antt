@@ -18,7 +18,7 @@ pub returns-then-is_some : goal.returns-then-is_some
 returns-then-is_some c s of =
     let of_fields : AreCachesOf (caches_in c.self.inside) s = subst (λ (v : Caches). AreCachesOf v s) (sym c.self.view_is) of in
     looked_exact c.self.inside s of_fields (numbers c.args.key.now) c.in-Some.number (named_in c.self.inside c.args.self.now (numbers c.args.key.now) c.args.named (Some c.in-Some.number) c.self.view_is c.requires c.in-Some.is)
-    (ap is_some (sym c.get.ensures) ∙ is_some-option_copied c.get.result ∙ sym c.is_some.ensures ∙ c.if-is_some.true)
+    (ap is_some (sym c.get_seen.ensures) ∙ is_some-option_copied c.get_seen.result ∙ sym c.is_some.ensures ∙ c.if-is_some.true)
 
 pub returns-in-Some-find : goal.returns-in-Some-find
 returns-in-Some-find c s of =
@@ -27,7 +27,7 @@ returns-in-Some-find c s of =
       | in-Some+else-is_some w ↦
           looked_mega c.self.inside s of_fields (numbers c.args.key.now)
           (not_live c.self.inside s of_fields (numbers c.args.key.now) w.in-Some.number (named_in c.self.inside c.args.self.now (numbers c.args.key.now) c.args.named (Some w.in-Some.number) c.self.view_is c.requires w.in-Some.is)
-          (ap is_some (sym w.get.ensures) ∙ is_some-option_copied w.get.result ∙ sym w.is_some.ensures ∙ w.if-is_some.false))
+          (ap is_some (sym w.get_seen.ensures) ∙ is_some-option_copied w.get_seen.result ∙ sym w.is_some.ensures ∙ w.if-is_some.false))
           c.in-Some-find.number c.in-Some-find.ensures
       | in_default w ↦
           looked_mega c.self.inside s of_fields (numbers c.args.key.now)
@@ -42,7 +42,7 @@ returns-in-None c s of =
       | in-Some+else-is_some w ↦
           looked_miss c.self.inside s of_fields (numbers c.args.key.now)
           (not_live c.self.inside s of_fields (numbers c.args.key.now) w.in-Some.number (named_in c.self.inside c.args.self.now (numbers c.args.key.now) c.args.named (Some w.in-Some.number) c.self.view_is c.requires w.in-Some.is)
-          (ap is_some (sym w.get.ensures) ∙ is_some-option_copied w.get.result ∙ sym w.is_some.ensures ∙ w.if-is_some.false))
+          (ap is_some (sym w.get_seen.ensures) ∙ is_some-option_copied w.get_seen.result ∙ sym w.is_some.ensures ∙ w.if-is_some.false))
           c.in-None.ensures
       | in_default w ↦
           looked_miss c.self.inside s of_fields (numbers c.args.key.now)
