@@ -52,9 +52,9 @@
 //! each, and takes memory only where something overlaps.
 //!
 //! The entries themselves stand in a hash map by their numbers. Where an entry stands there is a hint too: `hit` tells it,
-//! and whoever hands it to `get_seen` or `hit` later spares the hash, as long as no removal moved the entry. The numbers stand in one sorted list beside it, which a
-//! walk over the entries goes by. Whoever installs gives the greatest number so far, so it is appended. A removal finds
-//! its place by a binary search and moves the numbers behind it.
+//! and whoever hands it to `get_seen` or `hit` later spares the hash, as long as no removal moved the entry. The numbers
+//! stand in one sorted list beside it, which a walk over the entries goes by. Whoever installs gives the greatest number so
+//! far, so it is appended. A removal finds its place by a binary search and moves the numbers behind it.
 //!
 //! `reserve` makes room in each of these, and an empty subtable of the mask, for the case that it is new or its last entry
 //! goes before the next one comes. A subtable that is left of an earlier call serves where it is of the same mask.
