@@ -40,7 +40,7 @@ pub(crate) fn run_action(frame: &mut Vec<u8>, action: &DpAction) -> Result<(), A
 }
 
 /// A frame in a buffer of its own, which actions rewrite. The buffer is kept from frame to frame.
-#[derive(Debug, Drop)]
+#[derive(Drop)]
 pub struct FrameBuffer(Vec<u8>);
 
 impl Model for FrameBuffer {

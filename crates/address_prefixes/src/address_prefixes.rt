@@ -14,7 +14,7 @@ use rule_tables::Match;
 use std::alloc::{AllocError, Global};
 
 /// The prefixes of the addresses that a mask has.
-#[derive(Clone, Copy, Debug)]
+#[derive(Clone, Copy)]
 pub struct MaskPrefixes {
     pub(crate) ipv4: PairPrefixes,
     pub(crate) ipv6: PairPrefixes,
@@ -34,7 +34,7 @@ impl MaskPrefixes {
 }
 
 /// What is known so far of the addresses of a key, in the course of one lookup in a table.
-#[derive(Clone, Copy, Debug)]
+#[derive(Clone, Copy)]
 pub struct AddressLookups {
     pub(crate) ipv4: PairLookups,
     pub(crate) ipv6: PairLookups,

@@ -6,7 +6,7 @@ use crate::prefix::prefix_length;
 use ovs_fields::{FieldId, Mask, width};
 
 /// The prefix of a field that a mask has.
-#[derive(Clone, Copy, Debug)]
+#[derive(Clone, Copy)]
 pub(crate) struct FieldPrefix {
     pub(crate) field: FieldId,
     /// In bits, and 0 where the mask has none.

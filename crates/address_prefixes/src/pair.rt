@@ -16,7 +16,7 @@ use prefix_tracker::{Found, PrefixTrie};
 use std::alloc::{AllocError, Global};
 
 /// The prefixes of two addresses that a mask has.
-#[derive(Clone, Copy, Debug)]
+#[derive(Clone, Copy)]
 pub(crate) struct PairPrefixes {
     pub(crate) src: FieldPrefix,
     pub(crate) dst: FieldPrefix,
@@ -34,7 +34,7 @@ impl PairPrefixes {
 }
 
 /// What is known so far of two addresses of a key, in the course of one lookup.
-#[derive(Clone, Copy, Debug)]
+#[derive(Clone, Copy)]
 pub(crate) struct PairLookups {
     pub(crate) src: Option<Found>,
     pub(crate) dst: Option<Found>,

@@ -5,7 +5,7 @@ use spec_board::{Looked, PutDone};
 use std::marker::Model;
 
 /// The numbers of entries, in rising order.
-#[derive(Debug, Drop)]
+#[derive(Drop)]
 pub struct EntryNumbers(Vec<u32>);
 
 impl Model for EntryNumbers {
@@ -39,7 +39,7 @@ impl EntryNumbers {
 }
 
 /// What the settle of a frame did beside deciding it.
-#[derive(Debug, Drop)]
+#[derive(Drop)]
 pub enum Settled {
     /// This entry covers the frame's key already.
     Present(u32),
@@ -50,7 +50,7 @@ pub enum Settled {
 }
 
 /// A step of a board's journal. Places, entries and versions are counted from 1, and blocks from 0.
-#[derive(Debug, Drop)]
+#[derive(Drop)]
 pub enum Step {
     /// The block was opened.
     Open {

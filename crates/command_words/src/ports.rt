@@ -11,7 +11,7 @@ use std::alloc::{AllocError, Global};
 use text_numbers::{LAST_PORT, as_port, read_decimal};
 
 /// A port of the words, and the name of its trace, which is empty where it has none.
-#[derive(Clone, Copy, Debug)]
+#[derive(Clone, Copy)]
 pub struct PortWord<'a> {
     pub port: u16,
     pub file: &'a str,

@@ -27,7 +27,7 @@ const DEFAULT_FLOW_LIMIT: u128 = 8192;
 const MOST_MADE: u128 = 4_294_967_295;
 
 /// The files of a run, by their names.
-#[derive(Debug, Drop)]
+#[derive(Drop)]
 pub struct FilesNamed<'a> {
     pub edits: &'a str,
     /// The steps file, where there is one.
@@ -43,7 +43,7 @@ pub struct FilesNamed<'a> {
 }
 
 /// What is run.
-#[derive(Debug, Drop)]
+#[derive(Drop)]
 pub enum Input<'a> {
     Files(FilesNamed<'a>),
     /// What a number makes.
@@ -51,7 +51,7 @@ pub enum Input<'a> {
 }
 
 /// What the words of the command line ask for.
-#[derive(Debug, Drop)]
+#[derive(Drop)]
 pub struct Command<'a> {
     /// How many workers there are, at most 16; 0 for a run without threads.
     pub workers: u8,

@@ -5,7 +5,7 @@ use std::alloc::AllocError;
 use std::marker::Model;
 
 /// Datapath actions, in order.
-#[derive(Debug, Drop)]
+#[derive(Drop)]
 pub struct ActionList(Vec<DpAction>);
 
 impl Model for ActionList {

@@ -34,7 +34,7 @@ const MOST_SYNCS: usize = 63;
 const MOST_LINE_BYTES: usize = 4096;
 
 /// What a file of edits says.
-#[derive(Debug, Drop)]
+#[derive(Drop)]
 pub struct Script {
     /// The edits, in the order of their lines.
     pub edits: Vec<Edit>,
@@ -45,7 +45,7 @@ pub struct Script {
 }
 
 /// What the lines so far say.
-#[derive(Debug, Drop)]
+#[derive(Drop)]
 struct Reading {
     said: Script,
     /// Where the bundle that the lines are in was begun, if they are in one.

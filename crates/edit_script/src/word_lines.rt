@@ -18,7 +18,7 @@ const NANOSECONDS_OF_A_SECOND: u64 = 1_000_000_000;
 const MOST_NANOSECONDS: u128 = 999_999_999;
 
 /// Where a bundle was begun.
-#[derive(Clone, Copy, Debug)]
+#[derive(Clone, Copy)]
 pub struct Begun {
     pub line: u32,
     pub column: u32,

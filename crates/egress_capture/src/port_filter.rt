@@ -16,7 +16,7 @@ const BITS: u16 = 32;
 /// A bit for each port that a list of actions sends to: that of the port's number modulo `BITS`.
 ///
 /// Ports share bits, so that a port whose bit is there may still get nothing. One whose bit isn't there gets nothing.
-#[derive(Clone, Copy, Debug)]
+#[derive(Clone, Copy)]
 pub struct PortFilter {
     bits: u32,
 }

@@ -10,7 +10,7 @@ use crate::slots::{KeptSlots, entry_for, first_slot, second_slot};
 use ovs_fields::Key;
 
 /// A key that was looked up: with its hash, and the entry that the cache names for it.
-#[derive(Clone, Copy, Debug)]
+#[derive(Clone, Copy)]
 pub struct ExactLook<'a> {
     pub key: HashedKey<'a>,
     pub entry: Option<u32>,

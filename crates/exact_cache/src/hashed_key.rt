@@ -5,7 +5,7 @@ ghost use Rattle.ovs_fields.specs.Packed.{numbers};
 use ovs_fields::{Key, key_hash};
 
 /// A key with its hash, so that whoever looks it up and then puts it hashes it once.
-#[derive(Clone, Copy, Debug)]
+#[derive(Clone, Copy)]
 pub struct HashedKey<'a> {
     pub key: &'a Key,
     pub(crate) hash: u64,

@@ -13,7 +13,7 @@ const HINT_COUNT: usize = 1 << HINT_BITS;
 const SPREAD: u64 = 0x9e37_79b9_7f4a_7c15;
 
 /// Where a key may be kept.
-#[derive(Clone, Copy, Debug)]
+#[derive(Clone, Copy)]
 struct Hint {
     /// One more than the place, or 0 where it tells none.
     place: u16,

@@ -7,7 +7,7 @@ use crate::hashed_key::HashedKey;
 use ovs_fields::Key;
 
 /// What a slot keeps: a key, and the number of the entry that decided it last.
-#[derive(Clone, Copy, Debug)]
+#[derive(Clone, Copy)]
 pub(crate) struct Kept {
     /// The number of the slot.
     pub(crate) slot: u32,

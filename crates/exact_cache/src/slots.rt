@@ -14,7 +14,7 @@ use std::alloc::{AllocError, Global};
 pub(crate) const SLOT_COUNT: u64 = 8192;
 
 /// What the index has for a slot.
-#[derive(Clone, Copy, Debug)]
+#[derive(Clone, Copy)]
 pub(crate) struct Indexed {
     /// One more than the place where `kept` has what the slot keeps, or 0 if it was never written.
     pub(crate) place: u16,

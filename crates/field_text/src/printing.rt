@@ -16,7 +16,7 @@ use text_numbers::{
 };
 
 // How the values of a field are printed.
-#[derive(Clone, Copy, Debug)]
+#[derive(Clone, Copy)]
 pub enum PrintedForm {
     Decimal,
     Hexadecimal,

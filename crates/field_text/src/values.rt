@@ -17,7 +17,7 @@ use text_numbers::{
 };
 
 /// Bits of a named field: a value as it is written, and the mask of the bits that count.
-#[derive(Clone, Copy, Debug, PartialEq, Eq)]
+#[derive(Clone, Copy)]
 pub struct Bits {
     pub value: u128,
     pub mask: u128,

@@ -17,7 +17,7 @@ use std::alloc::Global;
 use step_runner::Finished;
 
 /// What is written of each board.
-#[derive(Clone, Copy, Debug, PartialEq, Eq)]
+#[derive(Clone, Copy)]
 enum OfBoard {
     Journal,
     Megaflows,

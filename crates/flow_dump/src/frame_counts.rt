@@ -14,7 +14,7 @@ use spec_actions::DpAction;
 use step_runner::Finished;
 
 /// How often frames are sent, and how many are sent nowhere.
-#[derive(Clone, Copy, Debug, PartialEq, Eq)]
+#[derive(Clone, Copy)]
 pub(crate) struct FrameCounts {
     pub(crate) sent: u128,
     pub(crate) dropped: u128,

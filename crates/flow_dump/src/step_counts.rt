@@ -11,7 +11,7 @@ use step_runner::Finished;
 /// How many steps there are of each result.
 ///
 /// Of one journal each is a number of 64 bits, and so those of all journals together are numbers of 128 bits.
-#[derive(Clone, Copy, Debug, PartialEq, Eq)]
+#[derive(Clone, Copy)]
 pub(crate) struct StepCounts {
     pub(crate) exact: u128,
     pub(crate) mega: u128,

@@ -7,7 +7,7 @@ use std::alloc::{AllocError, Global};
 use std::marker::Model;
 
 /// The packets and bytes that each rule was credited with.
-#[derive(Debug, Drop)]
+#[derive(Drop)]
 pub struct Totals {
     /// Those of each rule, in the order of their numbers.
     counts: Vec<Counts>,

@@ -8,7 +8,7 @@ use crate::fields::CompactFields;
 use ovs_fields::{FieldId, Mask};
 
 /// A mask without bits of wide fields.
-#[derive(Clone, Copy, Debug)]
+#[derive(Clone, Copy)]
 pub(crate) struct CompactMask {
     pub(crate) fields: CompactFields,
     pub(crate) ghost within: { IsKey (list_of fields) },

@@ -15,7 +15,7 @@ use std::hash::{Hash, Hasher};
 ///
 /// They stand so that no padding is between them, and in the order of the words that they feed to a hash function, each from
 /// its least bits on: such a word is read as it lies.
-#[derive(Clone, Copy, Debug)]
+#[derive(Clone, Copy)]
 pub(crate) struct CompactFields {
     pub(crate) dl_src: u64,
     pub(crate) dl_dst: u64,

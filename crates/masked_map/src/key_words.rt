@@ -13,7 +13,7 @@ use ovs_fields::{join_8, join_16, join_32};
 const SPREAD: u64 = 0x9e37_79b9_7f4a_7c15;
 
 /// The compact fields of a key, or of a mask, in the words that they feed to a hash function. Each is read as it lies.
-#[derive(Clone, Copy, Debug)]
+#[derive(Clone, Copy)]
 pub(crate) struct KeyWords {
     pub(crate) dl_src: u64,
     pub(crate) dl_dst: u64,

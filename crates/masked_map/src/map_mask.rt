@@ -9,7 +9,7 @@ use crate::key_words::KeyWords;
 use ovs_fields::Mask;
 
 /// The mask of a map of compact keys.
-#[derive(Clone, Copy, Debug)]
+#[derive(Clone, Copy)]
 pub(crate) struct MapMask {
     pub(crate) bits: CompactMask,
     /// Its bits in words, under which the words of a key are those of the masked key.

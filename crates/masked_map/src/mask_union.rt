@@ -9,7 +9,7 @@ use ovs_fields::{Mask, or};
 /// The bits of several masks. Those of compact masks stand apart, in 40 bytes, until all bits are asked for.
 ///
 /// Contracts see all of its bits as `union_of u`.
-#[derive(Clone, Copy, Debug)]
+#[derive(Clone, Copy)]
 pub struct MaskUnion {
     pub(crate) compact: CompactMask,
     /// The bits that were added otherwise.

@@ -10,7 +10,7 @@ use crate::map_mask::MapMask;
 use ovs_fields::Key;
 
 /// The key of a packet with its compact fields, which are taken once for look-ups under many masks.
-#[derive(Clone, Copy, Debug)]
+#[derive(Clone, Copy)]
 pub struct PacketKey<'a> {
     pub key: &'a Key,
     pub(crate) fields: CompactFields,

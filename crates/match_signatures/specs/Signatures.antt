@@ -1,5 +1,5 @@
 -- What a match states of a packet in a few bits.
-use Rattle.std.specs.Prelude.{ℕ, ◌*◌, ◌/◌, ◌%◌, ◌^◌, ◌==◌, ◌&&◌, Bool, List, bit_and, bit_or, bit_xor}
+use Rattle.std.specs.Prelude.{ℕ, ◌*◌, ◌/◌, ◌%◌, ◌^◌, ◌==◌, ◌&&◌, Bool, List, [], ◌∷◌, bit_and, bit_or, bit_xor}
 use Rattle.std.specs.List.{fold}
 use Rattle.spec_keys.specs.declared.field_id.FieldId.{FieldId}
 use Rattle.spec_keys.specs.declared.field_id.FieldId.TheVariants.{InPort, Metadata, Reg0, Reg1, Reg2, Reg3, Reg4, Reg5, Reg6, Reg7, Reg8, Reg9, Reg10, Reg11, Reg12, Reg13, Reg14, Reg15, DlSrc, DlDst, DlType, VlanTci, NwSrc, NwDst, Ipv6Src, Ipv6Dst, NwProto, NwTos, NwTtl, IpFrag, ArpSha, ArpTha, TpSrc, TpDst, VlanTpid, VlanTci2, VlanTpid2}
@@ -51,9 +51,26 @@ shift_of VlanTpid2 = 16
 abbrev pub shifted : FieldId → ℕ → ℕ
 shifted f n = n * 2 ^ shift_of f % 2 ^ 128
 
--- the bits that fields have, laid over one another
+-- the bits that fields have, laid over those of a word
+abbrev pub laid_on : ℕ → (FieldId → ℕ) → List FieldId → ℕ
+laid_on before of fs = fold (λ (word : ℕ) (f : FieldId). bit_or word (shifted f (of f))) before fs
+
+-- and over one another
 abbrev pub superimposed : (FieldId → ℕ) → List FieldId → ℕ
-superimposed of fs = fold (λ (word : ℕ) (f : FieldId). bit_or word (shifted f (of f))) 0 fs
+superimposed of fs = laid_on 0 of fs
+
+-- all fields, in four parts
+abbrev pub in_port_to_reg6 : List FieldId
+in_port_to_reg6 = InPort ∷ Metadata ∷ Reg0 ∷ Reg1 ∷ Reg2 ∷ Reg3 ∷ Reg4 ∷ Reg5 ∷ Reg6 ∷ []
+
+abbrev pub reg7_to_reg15 : List FieldId
+reg7_to_reg15 = Reg7 ∷ Reg8 ∷ Reg9 ∷ Reg10 ∷ Reg11 ∷ Reg12 ∷ Reg13 ∷ Reg14 ∷ Reg15 ∷ []
+
+abbrev pub dl_src_to_nw_proto : List FieldId
+dl_src_to_nw_proto = DlSrc ∷ DlDst ∷ DlType ∷ VlanTci ∷ NwSrc ∷ NwDst ∷ Ipv6Src ∷ Ipv6Dst ∷ NwProto ∷ []
+
+abbrev pub nw_tos_to_vlan_tpid2 : List FieldId
+nw_tos_to_vlan_tpid2 = NwTos ∷ NwTtl ∷ IpFrag ∷ ArpSha ∷ ArpTha ∷ TpSrc ∷ TpDst ∷ VlanTpid ∷ VlanTci2 ∷ VlanTpid2 ∷ []
 
 -- both halves of a word laid over one another
 abbrev pub halves : ℕ → ℕ

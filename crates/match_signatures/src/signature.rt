@@ -5,12 +5,12 @@ ghost use Rattle.spec_keys.specs.Keys.{masked};
 ghost use Rattle.spec_tables.specs.Rules.{Rule};
 ghost use Rattle.spec_tables.specs.Edits.{Edit, is_named_by, is_reached_by};
 ghost use Rattle.ovs_fields.specs.Packed.{numbers, bits};
-ghost use Rattle.match_signatures.specs.Signatures.{halves, superimposed, ones_of, zeros_of, signature_of, includes};
+ghost use Rattle.match_signatures.specs.Signatures.{halves, laid_on, superimposed, in_port_to_reg6, reg7_to_reg15, dl_src_to_nw_proto, nw_tos_to_vlan_tpid2, ones_of, zeros_of, signature_of, includes};
 
 use ovs_fields::{FieldId, Key, Mask};
 
 /// The bits that a match states, those of all fields laid over one another.
-#[derive(Clone, Copy, Debug)]
+#[derive(Clone, Copy)]
 pub struct Signature {
     /// Those that it states to be 1.
     pub(crate) ones: u64,
@@ -18,9 +18,11 @@ pub struct Signature {
     pub(crate) zeros: u64,
 }
 
-/// The one list of the fields in this crate, in the order of the key: of each how far it is shifted.
-/// `with_shifts!(made(a, b))` calls the macro `made` with its own arguments and then the list.
-macro_rules! with_shifts {
+// The one list of the fields in this crate, in the order of the key and in four parts, since long expressions are proved
+// part by part: of each field how far it is shifted. `with_shifts_of_..!(made(a, b))` calls the macro `made` with its own
+// arguments and then the part.
+
+macro_rules! with_shifts_of_in_port_to_reg6 {
     ($made:ident $arguments:tt) => {
         $made!(
             $arguments
@@ -33,6 +35,14 @@ macro_rules! with_shifts {
             [Reg4 0]
             [Reg5 32]
             [Reg6 0]
+        )
+    };
+}
+
+macro_rules! with_shifts_of_reg7_to_reg15 {
+    ($made:ident $arguments:tt) => {
+        $made!(
+            $arguments
             [Reg7 32]
             [Reg8 0]
             [Reg9 32]
@@ -42,6 +52,14 @@ macro_rules! with_shifts {
             [Reg13 32]
             [Reg14 0]
             [Reg15 32]
+        )
+    };
+}
+
+macro_rules! with_shifts_of_dl_src_to_nw_proto {
+    ($made:ident $arguments:tt) => {
+        $made!(
+            $arguments
             [DlSrc 0]
             [DlDst 16]
             [DlType 48]
@@ -51,6 +69,14 @@ macro_rules! with_shifts {
             [Ipv6Src 0]
             [Ipv6Dst 0]
             [NwProto 24]
+        )
+    };
+}
+
+macro_rules! with_shifts_of_nw_tos_to_vlan_tpid2 {
+    ($made:ident $arguments:tt) => {
+        $made!(
+            $arguments
             [NwTos 16]
             [NwTtl 16]
             [IpFrag 24]
@@ -65,15 +91,15 @@ macro_rules! with_shifts {
     };
 }
 
-macro_rules! superimposed_ones {
-    (($key:ident) $([$variant:ident $shift:literal])*) => {
-        0 $(| $key.get(FieldId::$variant) << $shift)*
+macro_rules! laid_ones {
+    (($word:ident, $key:ident) $([$variant:ident $shift:literal])*) => {
+        $word $(| $key.get(FieldId::$variant) << $shift)*
     };
 }
 
-macro_rules! superimposed_zeros {
-    (($key:ident, $mask:ident) $([$variant:ident $shift:literal])*) => {
-        0 $(| ($mask.get(FieldId::$variant) ^ $key.get(FieldId::$variant)) << $shift)*
+macro_rules! laid_zeros {
+    (($word:ident, $key:ident, $mask:ident) $([$variant:ident $shift:literal])*) => {
+        $word $(| ($mask.get(FieldId::$variant) ^ $key.get(FieldId::$variant)) << $shift)*
     };
 }
 
@@ -87,16 +113,70 @@ fn halves(word: u128) -> u64
     (word % HALF) as u64 | (word / HALF) as u64
 }
 
+fn ones_of_in_port_to_reg6(word: u128, key: &Key) -> u128
+    ensures { result ≡ laid_on word (ones_of (numbers key.now)) in_port_to_reg6 }
+{
+    with_shifts_of_in_port_to_reg6!(laid_ones(word, key))
+}
+
+fn ones_of_reg7_to_reg15(word: u128, key: &Key) -> u128
+    ensures { result ≡ laid_on word (ones_of (numbers key.now)) reg7_to_reg15 }
+{
+    with_shifts_of_reg7_to_reg15!(laid_ones(word, key))
+}
+
+fn ones_of_dl_src_to_nw_proto(word: u128, key: &Key) -> u128
+    ensures { result ≡ laid_on word (ones_of (numbers key.now)) dl_src_to_nw_proto }
+{
+    with_shifts_of_dl_src_to_nw_proto!(laid_ones(word, key))
+}
+
+fn ones_of_nw_tos_to_vlan_tpid2(word: u128, key: &Key) -> u128
+    ensures { result ≡ laid_on word (ones_of (numbers key.now)) nw_tos_to_vlan_tpid2 }
+{
+    with_shifts_of_nw_tos_to_vlan_tpid2!(laid_ones(word, key))
+}
+
+fn zeros_of_in_port_to_reg6(word: u128, key: &Key, mask: &Mask) -> u128
+    ensures { result ≡ laid_on word (zeros_of (numbers key.now) (bits mask.now)) in_port_to_reg6 }
+{
+    with_shifts_of_in_port_to_reg6!(laid_zeros(word, key, mask))
+}
+
+fn zeros_of_reg7_to_reg15(word: u128, key: &Key, mask: &Mask) -> u128
+    ensures { result ≡ laid_on word (zeros_of (numbers key.now) (bits mask.now)) reg7_to_reg15 }
+{
+    with_shifts_of_reg7_to_reg15!(laid_zeros(word, key, mask))
+}
+
+fn zeros_of_dl_src_to_nw_proto(word: u128, key: &Key, mask: &Mask) -> u128
+    ensures { result ≡ laid_on word (zeros_of (numbers key.now) (bits mask.now)) dl_src_to_nw_proto }
+{
+    with_shifts_of_dl_src_to_nw_proto!(laid_zeros(word, key, mask))
+}
+
+fn zeros_of_nw_tos_to_vlan_tpid2(word: u128, key: &Key, mask: &Mask) -> u128
+    ensures { result ≡ laid_on word (zeros_of (numbers key.now) (bits mask.now)) nw_tos_to_vlan_tpid2 }
+{
+    with_shifts_of_nw_tos_to_vlan_tpid2!(laid_zeros(word, key, mask))
+}
+
 fn ones_of(key: &Key) -> u128
     ensures { result ≡ superimposed (ones_of (numbers key.now)) fields }
 {
-    with_shifts!(superimposed_ones(key))
+    let word = ones_of_in_port_to_reg6(0, key);
+    let word = ones_of_reg7_to_reg15(word, key);
+    let word = ones_of_dl_src_to_nw_proto(word, key);
+    ones_of_nw_tos_to_vlan_tpid2(word, key)
 }
 
 fn zeros_of(key: &Key, mask: &Mask) -> u128
     ensures { result ≡ superimposed (zeros_of (numbers key.now) (bits mask.now)) fields }
 {
-    with_shifts!(superimposed_zeros(key, mask))
+    let word = zeros_of_in_port_to_reg6(0, key, mask);
+    let word = zeros_of_reg7_to_reg15(word, key, mask);
+    let word = zeros_of_dl_src_to_nw_proto(word, key, mask);
+    zeros_of_nw_tos_to_vlan_tpid2(word, key, mask)
 }
 
 impl Signature {

@@ -12,7 +12,7 @@ use rule_tables::{EditWord, Match};
 use std::alloc::Global;
 
 /// What a flow says before its actions.
-#[derive(Clone, Copy, Debug)]
+#[derive(Clone, Copy)]
 pub struct MatchText {
     pub table: Option<u8>,
     /// 32,768 where the flow states none.

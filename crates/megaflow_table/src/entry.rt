@@ -5,7 +5,7 @@ use ovs_fields::{Key, Mask, agree, and};
 use std::mem;
 
 /// A megaflow: it decides every packet whose key agrees with `key` on `mask`.
-#[derive(Debug, Drop)]
+#[derive(Drop)]
 pub struct Entry {
     /// What tells it from the other entries. A later entry has a greater one.
     pub number: u32,

@@ -3,7 +3,7 @@ ghost use Rattle.std.specs.Prelude.{◌≡◌};
 use std::marker::Model;
 
 /// The numbers of the rules that a translation visited, in the order of the visits.
-#[derive(Debug, Drop)]
+#[derive(Drop)]
 pub struct Visits(Vec<u32>);
 
 impl Model for Visits {

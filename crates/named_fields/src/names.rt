@@ -6,7 +6,7 @@ use ovs_fields::FieldId;
 use spec_actions::{NamedField, Prerequisite};
 
 /// The bits that a named field stands for (ovs-fields(7)).
-#[derive(Clone, Copy, Debug)]
+#[derive(Clone, Copy)]
 pub struct NamedBits {
     pub field: FieldId,
     /// The least of its bits in that field.

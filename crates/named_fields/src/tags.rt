@@ -12,7 +12,7 @@ pub const TAG_BIT: u16 = 0x1000;
 const CUSTOMER_TAG: u16 = 0x8100;
 
 /// A VLAN tag of a key: its type, and its content with `TAG_BIT`. Both are 0 where there is none.
-#[derive(Clone, Copy, Debug)]
+#[derive(Clone, Copy)]
 pub struct VlanTag {
     pub tpid: u16,
     pub tci: u16,

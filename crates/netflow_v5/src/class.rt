@@ -7,7 +7,7 @@ ghost use Rattle.netflow_v5.specs.Views.{class_view};
 use ovs_fields::{FieldId, Key};
 
 /// What the packets of a flow have in common.
-#[derive(Clone, Copy, Debug, PartialEq, Eq, Hash)]
+#[derive(Clone, Copy, PartialEq, Eq, Hash)]
 pub(crate) struct FlowClass {
     pub(crate) in_port: u16,
     pub(crate) nw_src: u32,

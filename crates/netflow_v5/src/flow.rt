@@ -25,7 +25,7 @@ const CONTROL_BITS_AT: usize = 13;
 const ICMP: u8 = 1;
 
 /// Packets of one class, and what is told of them.
-#[derive(Clone, Copy, Debug)]
+#[derive(Clone, Copy)]
 pub(crate) struct Flow {
     pub(crate) class: FlowClass,
     pub(crate) told: FlowRecord,

@@ -1,16 +1,44 @@
 ghost use Rattle.std.specs.Prelude.{◌≡◌};
-ghost use Rattle.spec_keys.specs.Keys.{agree, covers, common_bits, joined, masked};
+ghost use Rattle.spec_keys.specs.Keys.{agree, covers, common_bits, joined, masked, same};
 ghost use Rattle.spec_keys.specs.Stages.{staged, metadata_stage, ethernet_stage, network_stage};
 ghost use Rattle.ovs_fields.specs.Packed.{numbers, bits};
+ghost use Rattle.ovs_fields.specs.Lists.{from_reg7, from_dl_src, from_nw_tos};
 
-use crate::field_list::with_fields;
+use crate::field_list::{
+    with_fields, with_fields_from_dl_src, with_fields_from_in_port, with_fields_from_nw_tos,
+    with_fields_from_reg7,
+};
 use crate::fields::Fields;
 use crate::{Key, Mask};
 
-macro_rules! all_agree {
-    (($a:ident, $b:ident, $mask:ident) $([$variant:ident $name:ident $($more:tt)*])*) => {
-        $(($a.$name & $mask.$name == $b.$name & $mask.$name) &)* true
+/// Whether two keys have the same bits in these fields, wherever a mask has 1, and the rest of the test holds. The test is
+/// nested as the lists of its contracts are.
+macro_rules! agree_in {
+    (($a:ident, $b:ident, $mask:ident, $rest:expr)) => { $rest };
+    (($a:ident, $b:ident, $mask:ident, $rest:expr) $name:ident $($more:ident)*) => {
+        ($a.$name & $mask.$name == $b.$name & $mask.$name) & (agree_in!(($a, $b, $mask, $rest) $($more)*))
     };
+}
+
+#[tactic(auto, unfolding(spec_keys::specs::Keys::masked, spec_keys::specs::Keys::same))]
+fn agree_from_nw_tos(a: &Fields, b: &Fields, mask: &Fields) -> bool
+    ensures { result ≡ same (masked (from_nw_tos a.now) (from_nw_tos mask.now)) (masked (from_nw_tos b.now) (from_nw_tos mask.now)) }
+{
+    with_fields_from_nw_tos!(agree_in(a, b, mask, true))
+}
+
+#[tactic(auto, unfolding(spec_keys::specs::Keys::masked, spec_keys::specs::Keys::same))]
+fn agree_from_dl_src(a: &Fields, b: &Fields, mask: &Fields) -> bool
+    ensures { result ≡ same (masked (from_dl_src a.now) (from_dl_src mask.now)) (masked (from_dl_src b.now) (from_dl_src mask.now)) }
+{
+    with_fields_from_dl_src!(agree_in(a, b, mask, (agree_from_nw_tos(a, b, mask))))
+}
+
+#[tactic(auto, unfolding(spec_keys::specs::Keys::masked, spec_keys::specs::Keys::same))]
+fn agree_from_reg7(a: &Fields, b: &Fields, mask: &Fields) -> bool
+    ensures { result ≡ same (masked (from_reg7 a.now) (from_reg7 mask.now)) (masked (from_reg7 b.now) (from_reg7 mask.now)) }
+{
+    with_fields_from_reg7!(agree_in(a, b, mask, (agree_from_dl_src(a, b, mask))))
 }
 
 /// Whether two keys have the same bits wherever a mask has 1.
@@ -19,13 +47,36 @@ pub fn agree(a: &Key, b: &Key, mask: &Mask) -> bool
     ensures { result ≡ agree (numbers a.now) (numbers b.now) (bits mask.now) }
 {
     let (a, b, mask) = (&a.fields, &b.fields, &mask.fields);
-    with_fields!(all_agree(a, b, mask))
+    with_fields_from_in_port!(agree_in(a, b, mask, (agree_from_reg7(a, b, mask))))
 }
 
-macro_rules! all_covered {
-    (($a:ident, $b:ident) $([$variant:ident $name:ident $($more:tt)*])*) => {
-        $(($a.$name | $b.$name == $a.$name) &)* true
+/// Whether the mask `a` has every bit of `b` in these fields, and the rest of the test holds.
+macro_rules! covered_in {
+    (($a:ident, $b:ident, $rest:expr)) => { $rest };
+    (($a:ident, $b:ident, $rest:expr) $name:ident $($more:ident)*) => {
+        ($a.$name | $b.$name == $a.$name) & (covered_in!(($a, $b, $rest) $($more)*))
     };
+}
+
+#[tactic(auto, unfolding(spec_keys::specs::Keys::joined, spec_keys::specs::Keys::same))]
+fn covers_from_nw_tos(a: &Fields, b: &Fields) -> bool
+    ensures { result ≡ same (joined (from_nw_tos a.now) (from_nw_tos b.now)) (from_nw_tos a.now) }
+{
+    with_fields_from_nw_tos!(covered_in(a, b, true))
+}
+
+#[tactic(auto, unfolding(spec_keys::specs::Keys::joined, spec_keys::specs::Keys::same))]
+fn covers_from_dl_src(a: &Fields, b: &Fields) -> bool
+    ensures { result ≡ same (joined (from_dl_src a.now) (from_dl_src b.now)) (from_dl_src a.now) }
+{
+    with_fields_from_dl_src!(covered_in(a, b, (covers_from_nw_tos(a, b))))
+}
+
+#[tactic(auto, unfolding(spec_keys::specs::Keys::joined, spec_keys::specs::Keys::same))]
+fn covers_from_reg7(a: &Fields, b: &Fields) -> bool
+    ensures { result ≡ same (joined (from_reg7 a.now) (from_reg7 b.now)) (from_reg7 a.now) }
+{
+    with_fields_from_reg7!(covered_in(a, b, (covers_from_dl_src(a, b))))
 }
 
 /// Whether every bit of the mask `b` is in `a`.
@@ -34,7 +85,7 @@ pub fn covers(a: &Mask, b: &Mask) -> bool
     ensures { result ≡ covers (bits a.now) (bits b.now) }
 {
     let (a, b) = (&a.fields, &b.fields);
-    with_fields!(all_covered(a, b))
+    with_fields_from_in_port!(covered_in(a, b, (covers_from_reg7(a, b))))
 }
 
 macro_rules! in_common {

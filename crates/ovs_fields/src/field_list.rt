@@ -61,7 +61,51 @@ macro_rules! with_registers {
     };
 }
 
+/// The names of the fields from `nw_tos` on, as a macro is given them after its own arguments.
+macro_rules! with_fields_from_nw_tos {
+    ($made:ident $arguments:tt) => {
+        $made!(
+            $arguments
+            nw_tos nw_ttl ip_frag arp_sha arp_tha tp_src tp_dst vlan_tpid vlan_tci2 vlan_tpid2
+        )
+    };
+}
+
+/// The names of the fields from `dl_src` to `nw_proto`.
+macro_rules! with_fields_from_dl_src {
+    ($made:ident $arguments:tt) => {
+        $made!(
+            $arguments
+            dl_src dl_dst dl_type vlan_tci nw_src nw_dst ipv6_src ipv6_dst nw_proto
+        )
+    };
+}
+
+/// The names of the fields from `reg7` to `reg15`.
+macro_rules! with_fields_from_reg7 {
+    ($made:ident $arguments:tt) => {
+        $made!(
+            $arguments
+            reg7 reg8 reg9 reg10 reg11 reg12 reg13 reg14 reg15
+        )
+    };
+}
+
+/// The names of the fields from `in_port` to `reg6`.
+macro_rules! with_fields_from_in_port {
+    ($made:ident $arguments:tt) => {
+        $made!(
+            $arguments
+            in_port metadata reg0 reg1 reg2 reg3 reg4 reg5 reg6
+        )
+    };
+}
+
 pub(crate) use with_fields;
+pub(crate) use with_fields_from_dl_src;
+pub(crate) use with_fields_from_in_port;
+pub(crate) use with_fields_from_nw_tos;
+pub(crate) use with_fields_from_reg7;
 pub(crate) use with_registers;
 
 macro_rules! count {

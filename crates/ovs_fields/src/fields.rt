@@ -6,7 +6,7 @@ use crate::field_list::with_fields;
 /// A number for each field, in the least type that holds the field's width.
 ///
 /// The widest come first, so that no padding stands between them: 164 bytes, and twelve more at the end.
-#[derive(Clone, Copy, Debug)]
+#[derive(Clone, Copy)]
 pub(crate) struct Fields {
     pub(crate) ipv6_src: u128,
     pub(crate) ipv6_dst: u128,

@@ -10,7 +10,7 @@ use std::hash::{Hash, Hasher};
 /// The key of a packet: a number for each field, within the field's width.
 ///
 /// Contracts see its numbers as the list `numbers k`, and `k.is_key` says that they are within their widths.
-#[derive(Clone, Copy, Debug)]
+#[derive(Clone, Copy)]
 pub struct Key {
     pub(crate) fields: Fields,
     pub ghost is_key: { IsKey (list_of fields) },

@@ -10,7 +10,7 @@ use std::hash::{Hash, Hasher};
 /// A mask of keys: which bits of each field count.
 ///
 /// Contracts see its bits as the list `bits m`, and `m.is_key` says that they are within the fields' widths.
-#[derive(Clone, Copy, Debug)]
+#[derive(Clone, Copy)]
 pub struct Mask {
     pub(crate) fields: Fields,
     pub ghost is_key: { IsKey (list_of fields) },

@@ -13,7 +13,7 @@ use std::marker::Model;
 /// The frames of a capture file, at places counted from 1.
 ///
 /// It keeps the file's bytes, and lends the frames from them. Its value is what the file holds.
-#[derive(Debug, Drop)]
+#[derive(Drop)]
 pub struct Trace {
     bytes: Vec<u8>,
     starts: Vec<usize>,

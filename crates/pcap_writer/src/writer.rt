@@ -14,7 +14,7 @@ use std::marker::Model;
 ///
 /// It takes no memory of its own, and hands on the shelf's answers. Its value is whether the file counts fractions of
 /// a second in nanoseconds.
-#[derive(Debug, Drop)]
+#[derive(Drop)]
 pub struct PcapWriter {
     nanos: bool,
 }

@@ -95,7 +95,7 @@ fn look<L: Lookups>(
 }
 
 /// What comes of a translation, and the packet's key as it is then.
-#[derive(Debug, Drop)]
+#[derive(Drop)]
 pub struct Ended {
     pub made: Plain,
     pub key: Key,

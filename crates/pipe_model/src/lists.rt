@@ -5,7 +5,7 @@ use std::alloc::Global;
 use std::marker::Model;
 
 /// The numbers of the rules that a translation visited, in order, each as often as it was.
-#[derive(Debug, Drop)]
+#[derive(Drop)]
 pub struct Visits(Vec<u32>);
 
 impl Model for Visits {
@@ -39,7 +39,7 @@ impl Visits {
 }
 
 /// What the flow tables make of a packet.
-#[derive(Debug, Drop)]
+#[derive(Drop)]
 pub struct Plain {
     /// What is done to the frame, in order.
     pub actions: ActionList,
@@ -55,7 +55,7 @@ impl Plain {
 }
 
 /// Empty lists, in whose memory a translation is made.
-#[derive(Debug, Drop)]
+#[derive(Drop)]
 pub struct SpareLists {
     pub(crate) actions: ActionList,
     pub(crate) visits: Vec<u32>,

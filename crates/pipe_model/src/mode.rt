@@ -1,5 +1,5 @@
 /// Whether a translation goes on.
-#[derive(Clone, Copy, Debug)]
+#[derive(Clone, Copy)]
 pub(crate) enum Mode {
     Going,
     /// The list of actions that it was in has ended.

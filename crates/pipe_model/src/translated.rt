@@ -7,7 +7,7 @@ use ovs_fields::{Key, Mask};
 use std::marker::Model;
 
 /// What the tables of a version make of a packet, and the bits of its key that decide it.
-#[derive(Debug, Drop)]
+#[derive(Drop)]
 pub struct Translated {
     key: Key,
     version: u32,

@@ -1,5 +1,5 @@
 /// How far the frame of a place is. A decided one names its actions by their place among the board's lists of actions.
-#[derive(Clone, Copy, Debug)]
+#[derive(Clone, Copy)]
 pub enum Place {
     Waiting,
     Pending,
@@ -7,7 +7,7 @@ pub enum Place {
 }
 
 /// How far a block reaches: the newest version that it allows, and its last place.
-#[derive(Clone, Copy, Debug)]
+#[derive(Clone, Copy)]
 pub struct BlockBounds {
     pub hi: u32,
     pub last_place: u32,

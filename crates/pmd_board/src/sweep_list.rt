@@ -12,7 +12,7 @@ use std::collections::VecDeque;
 use std::marker::Model;
 
 /// The numbers of entries that a sweep has yet to put, in rising order. They are put from the front as a rule.
-#[derive(Debug, Drop)]
+#[derive(Drop)]
 pub struct SweepList(VecDeque<u32>);
 
 impl Model for SweepList {

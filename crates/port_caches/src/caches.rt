@@ -41,7 +41,7 @@ pub struct PortCaches {
 }
 
 /// A key that was looked up: with its hash, and what knows it.
-#[derive(Clone, Copy, Debug)]
+#[derive(Clone, Copy)]
 pub struct KeyLook<'a> {
     pub key: HashedKey<'a>,
     pub found: Looked,
@@ -50,7 +50,7 @@ pub struct KeyLook<'a> {
 }
 
 /// What decides a frame that hits an entry: the entry's version, and the place of its actions.
-#[derive(Clone, Copy, Debug)]
+#[derive(Clone, Copy)]
 pub struct EntryHit {
     pub version: u32,
     pub list: usize,
@@ -59,14 +59,14 @@ pub struct EntryHit {
 }
 
 /// A frame that was settled: what was done beside deciding it, and the place of its list of actions.
-#[derive(Debug, Drop)]
+#[derive(Drop)]
 pub struct SettledFrame {
     pub settled: Settled,
     pub list: usize,
 }
 
 /// An entry that was revalidated: what became of it, and lists that aren't needed any more.
-#[derive(Debug, Drop)]
+#[derive(Drop)]
 pub struct Revalidated {
     pub done: PutDone,
     pub lists: SpareLists,

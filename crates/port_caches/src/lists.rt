@@ -11,7 +11,7 @@ use std::mem;
 const MOST_LISTS: usize = 1 << 32;
 
 /// A list of actions, and whether a decided frame names it: then it stays as it is.
-#[derive(Debug, Drop)]
+#[derive(Drop)]
 pub struct HeldList {
     pub actions: ActionList,
     pub held: bool,

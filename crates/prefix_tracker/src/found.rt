@@ -1,5 +1,5 @@
 /// What the prefixes of a trie tell of a number.
-#[derive(Clone, Copy, Debug)]
+#[derive(Clone, Copy)]
 pub struct Found {
     /// Bit n, counted from the least, is 1 where the number begins with a prefix of n + 1 bits.
     pub lengths: u128,

@@ -22,10 +22,10 @@ fn by_two_passes<C: Case, R: Wait + Abort>(rt: &R, alloc: Global) -> Result<(), 
     let mut other = passes.remove(0);
     assert!(rt; queue.push(rt, &mut whole, FIRST).is_ok());
     assert!(rt; queue.push(rt, &mut other, SECOND).is_ok());
-    assert_eq!(rt; queue.pop(rt, &mut other), Some(FIRST));
+    assert!(rt; queue.pop(rt, &mut other) == Some(FIRST));
     queue.take_in(&mut whole, other);
-    assert_eq!(rt; queue.pop(rt, &mut whole), Some(SECOND));
-    assert_eq!(rt; queue.pop(rt, &mut whole), None);
+    assert!(rt; queue.pop(rt, &mut whole) == Some(SECOND));
+    assert!(rt; queue.pop(rt, &mut whole) == None);
     assert_eq!(rt; whole.refused(), 0);
     Ok(())
 }
@@ -45,10 +45,10 @@ fn with_one_place<C: Case, R: Wait + Abort>(rt: &R, alloc: Global) -> Result<(),
     assert_eq!(rt; queue.room(rt, &mut pass), 0);
     assert!(rt; queue.push(rt, &mut pass, SECOND) == Err(SECOND));
     assert_eq!(rt; pass.refused(), 1);
-    assert_eq!(rt; queue.pop(rt, &mut pass), Some(FIRST));
+    assert!(rt; queue.pop(rt, &mut pass) == Some(FIRST));
     assert_eq!(rt; queue.room(rt, &mut pass), 1);
     assert!(rt; queue.push(rt, &mut pass, SECOND).is_ok());
-    assert_eq!(rt; queue.pop(rt, &mut pass), Some(SECOND));
-    assert_eq!(rt; queue.pop(rt, &mut pass), None);
+    assert!(rt; queue.pop(rt, &mut pass) == Some(SECOND));
+    assert!(rt; queue.pop(rt, &mut pass) == None);
     Ok(())
 }

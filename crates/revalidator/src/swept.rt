@@ -1,7 +1,7 @@
 use newest_xlate::SpareLists;
 
 /// How a sweep ended.
-#[derive(Clone, Copy, Debug, PartialEq, Eq)]
+#[derive(Clone, Copy)]
 pub enum Swept {
     /// It was ended. It had begun at this version.
     Done { version: u32 },
@@ -16,7 +16,7 @@ pub enum Swept {
 }
 
 /// What a board answered to the beginning of a sweep.
-#[derive(Clone, Copy, Debug, PartialEq, Eq)]
+#[derive(Clone, Copy)]
 pub enum Begun {
     /// The sweep runs.
     Done,
@@ -27,7 +27,7 @@ pub enum Begun {
 }
 
 /// What a board answered to the put of a megaflow.
-#[derive(Debug, Drop)]
+#[derive(Drop)]
 pub enum Putting {
     /// It was put. These lists aren't needed any more.
     Done { lists: SpareLists },

@@ -4,7 +4,7 @@ use spec_actions::OfAction;
 use std::marker::Model;
 
 /// The actions of a rule or an edit, in order.
-#[derive(Debug, Drop)]
+#[derive(Drop)]
 pub struct Actions(Vec<OfAction>);
 
 impl Model for Actions {

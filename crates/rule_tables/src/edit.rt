@@ -13,7 +13,7 @@ use std::alloc::{AllocError, Global};
 use std::marker::Model;
 
 /// An edit of the tables (ovs-ofctl(8), `add-flow`, `mod-flows` and `del-flows`).
-#[derive(Debug, Drop)]
+#[derive(Drop)]
 pub struct Edit {
     pub word: EditWord,
     /// The table, from 0 to 254, where the edit names one.

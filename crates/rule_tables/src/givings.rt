@@ -18,7 +18,7 @@ use std::collections::HashMap;
 const MOST_GIVINGS: usize = 1_048_576;
 
 /// That a rule was given a modification.
-#[derive(Clone, Copy, Debug)]
+#[derive(Clone, Copy)]
 pub(crate) struct Giving {
     /// The place of the modification.
     pub(crate) modification: usize,
@@ -27,7 +27,7 @@ pub(crate) struct Giving {
 }
 
 /// What rules were given of the first modifications, in the order of these.
-#[derive(Debug, Drop)]
+#[derive(Drop)]
 pub(crate) struct GivingLog {
     pub(crate) givings: Vec<Giving>,
     /// How many modifications it tells of. Those past them are tested one by one.

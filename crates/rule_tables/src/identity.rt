@@ -5,7 +5,7 @@ use crate::matching::Match;
 use crate::rule::Rule;
 
 /// What tells the rules that are live at once apart: no two of them have the same table, priority and match.
-#[derive(Clone, Copy, Debug, PartialEq, Eq, Hash)]
+#[derive(Clone, Copy, PartialEq, Eq, Hash)]
 pub(crate) struct RuleIdentity {
     table: u8,
     priority: u16,

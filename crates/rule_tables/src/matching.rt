@@ -7,7 +7,7 @@ use ovs_fields::{Key, Mask, agree, covers};
 /// What a rule states of a packet: the numbers of the key, at the bits of the mask.
 ///
 /// It is normalised: the key's bits outside the mask are 0, so that equal matches are equal numbers.
-#[derive(Clone, Copy, Debug, PartialEq, Eq, Hash)]
+#[derive(Clone, Copy, PartialEq, Eq, Hash)]
 pub struct Match {
     pub key: Key,
     pub mask: Mask,

@@ -1,7 +1,7 @@
 use crate::matching::Match;
 
 /// A rule, without its actions.
-#[derive(Clone, Copy, Debug)]
+#[derive(Clone, Copy)]
 pub struct Rule {
     /// The number of the edit that added it, from 1.
     pub number: u32,

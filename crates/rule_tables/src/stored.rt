@@ -13,7 +13,7 @@ use std::collections::HashMap;
 
 /// What a modify made: after it the rules that its edit picks have the actions of the edit, and its cookie where it has
 /// one.
-#[derive(Debug, Drop)]
+#[derive(Drop)]
 pub(crate) struct Modification {
     /// The number of the edit.
     pub(crate) number: u32,
@@ -21,7 +21,7 @@ pub(crate) struct Modification {
 }
 
 /// A rule with its actions as its edit added it, the end of its life, and where what it was given is told.
-#[derive(Debug, Drop)]
+#[derive(Drop)]
 pub(crate) struct StoredRule {
     pub(crate) rule: Rule,
     pub(crate) actions: Actions,

@@ -9,7 +9,7 @@ use std::alloc::{AllocError, Global};
 use std::marker::Model;
 
 /// The last place of each block of one trace.
-#[derive(Debug, Drop)]
+#[derive(Drop)]
 pub struct BlockEnds(Vec<u32>);
 
 impl Model for BlockEnds {

@@ -7,7 +7,7 @@ use std::marker::Model;
 /// The ports of a run, in the order of the words: at least one, all different.
 ///
 /// A port is a number of 16 bits; it stands at a place that is counted from 0.
-#[derive(Debug, Drop)]
+#[derive(Drop)]
 pub struct Ports(Vec<u16>);
 
 impl Model for Ports {

@@ -19,7 +19,7 @@ use std::marker::PhantomData;
 ///
 /// Ports stand in the order of the words, the trace of each at the same place. Places of a trace are counted from 1,
 /// blocks from 0, and times are in nanoseconds.
-#[derive(Debug, Drop)]
+#[derive(Drop)]
 pub struct RunData<C: Case> {
     ports: Ports,
     edits: u32,

@@ -7,7 +7,7 @@ use run_case::Case;
 use std::marker::PhantomData;
 
 /// The edits of a run, in the order of their file, and the bundles that they make. Both are counted from 1.
-#[derive(Debug, Drop)]
+#[derive(Drop)]
 pub struct RunEdits<C: Case> {
     edits: Vec<Edit>,
     /// How many edits stand through each bundle.

@@ -14,7 +14,7 @@ use std::marker::{Model, PhantomData};
 /// What the tables of a version of a run make of a packet, and the bits of its key that decide it.
 ///
 /// Its type keeps that both are those of its key and its version.
-#[derive(Debug, Drop)]
+#[derive(Drop)]
 pub struct Xlated<C: Case> {
     made: Translated,
     of: PhantomData<C>,

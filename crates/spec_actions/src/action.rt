@@ -2,7 +2,7 @@ use crate::NamedField;
 use spec_keys::FieldId;
 
 /// Bits `low` to `high` of a named field, both included and counted from its least bit: `NAME[low..high]`.
-#[derive(Clone, Copy, Debug, PartialEq, Eq)]
+#[derive(Clone, Copy, PartialEq, Eq)]
 pub struct Slice {
     pub name: NamedField,
     pub low: u32,
@@ -10,7 +10,7 @@ pub struct Slice {
 }
 
 /// An action of a flow (ovs-actions(7)).
-#[derive(Clone, Copy, Debug, PartialEq, Eq)]
+#[derive(Clone, Copy, PartialEq, Eq)]
 pub enum OfAction {
     /// Send to a port.
     Output(u16),
@@ -50,7 +50,7 @@ pub enum OfAction {
 }
 
 /// An action on a frame.
-#[derive(Clone, Copy, Debug, PartialEq, Eq)]
+#[derive(Clone, Copy, PartialEq, Eq)]
 pub enum DpAction {
     /// Send the frame as it now is.
     Output(u16),

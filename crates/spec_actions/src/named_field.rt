@@ -2,7 +2,7 @@
 ///
 /// Several names may stand for bits of one field of the key, as `nw_src` and `arp_spa` do. The last three aren't names of the
 /// flow text: by them the type of a VLAN tag, and an inner tag, are told where megaflows and keys are printed.
-#[derive(Clone, Copy, Debug, PartialEq, Eq)]
+#[derive(Clone, Copy, PartialEq, Eq)]
 pub enum NamedField {
     InPort,
     Metadata,
@@ -59,7 +59,7 @@ pub enum NamedField {
 }
 
 /// What a packet has to be for a write to a named field to act (ovs-fields(7), "Prerequisites").
-#[derive(Clone, Copy, Debug, PartialEq, Eq)]
+#[derive(Clone, Copy)]
 pub enum Prerequisite {
     /// Any packet.
     Nothing,

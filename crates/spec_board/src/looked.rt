@@ -1,5 +1,5 @@
 /// What the look of a frame found.
-#[derive(Clone, Copy, Debug, PartialEq, Eq)]
+#[derive(Clone, Copy)]
 pub enum Looked {
     /// The exact-match cache names this entry.
     Exact(u32),

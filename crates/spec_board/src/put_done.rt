@@ -1,5 +1,5 @@
 /// What the revalidation of an entry did.
-#[derive(Clone, Copy, Debug, PartialEq, Eq)]
+#[derive(Clone, Copy)]
 pub enum PutDone {
     /// It wasn't used for long, and was dropped.
     Idle,

@@ -1,5 +1,5 @@
 /// When and where a frame came in. Arrivals are ordered by time, of equal times by ingress port, and then by place.
-#[derive(Clone, Copy, Debug, PartialEq, Eq, PartialOrd, Ord)]
+#[derive(Clone, Copy, PartialEq, Eq, PartialOrd, Ord)]
 pub struct Arrival {
     /// Nanoseconds since the epoch of the trace.
     pub time: u64,

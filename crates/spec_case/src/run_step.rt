@@ -1,7 +1,7 @@
 /// A step of a given schedule: what is done next, at which port.
 ///
 /// Places and entries are counted from 1.
-#[derive(Clone, Copy, Debug, PartialEq, Eq)]
+#[derive(Clone, Copy, PartialEq, Eq)]
 pub enum RunStep {
     /// Publish the next edit.
     Edit,

@@ -1,5 +1,5 @@
 /// The numbers of a schedule that was given.
-#[derive(Clone, Copy, Debug, PartialEq, Eq)]
+#[derive(Clone, Copy)]
 pub struct Ran {
     /// How many steps it has.
     pub steps: u32,

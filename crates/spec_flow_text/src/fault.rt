@@ -4,7 +4,7 @@ ghost use Rattle.spec_flow_text.specs.declared.fault.TextFault.TheVariants.{OutO
 use std::alloc::{AllocError, AllocFailed};
 
 /// What is wrong with a line of text. Columns are counted in bytes from 1.
-#[derive(Clone, Copy, Debug, PartialEq, Eq)]
+#[derive(Clone, Copy, PartialEq, Eq)]
 pub enum TextFault {
     /// A value is missing or stands where none belongs, an action list is missing or stands where none belongs, a
     /// bracket doesn't close, or a byte isn't ASCII.

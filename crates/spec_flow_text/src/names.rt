@@ -2,7 +2,7 @@ use crate::Shorthand;
 use spec_actions::NamedField;
 
 /// What the name of an item of a flow means (ovs-ofctl(8), "Flow Syntax").
-#[derive(Clone, Copy, Debug, PartialEq, Eq)]
+#[derive(Clone, Copy)]
 pub enum ItemName {
     Field(NamedField),
     Shorthand(Shorthand),
@@ -19,7 +19,7 @@ pub enum ItemName {
 }
 
 /// What the name of an item of an action list means (ovs-actions(7)).
-#[derive(Clone, Copy, Debug, PartialEq, Eq)]
+#[derive(Clone, Copy)]
 pub enum ActionName {
     /// A digit begins the item: it is the number of a port.
     Port,

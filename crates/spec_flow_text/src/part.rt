@@ -1,7 +1,7 @@
 use spec_keys::FieldId;
 
 /// How the value of a named field is written (ovs-fields(7), "Formats").
-#[derive(Clone, Copy, Debug, PartialEq, Eq)]
+#[derive(Clone, Copy)]
 pub enum ValueForm {
     /// The number of a port.
     Port,
@@ -14,7 +14,7 @@ pub enum ValueForm {
 }
 
 /// What a flow has to state, as exact values, for a field of its match to be kept (ovs-fields(7), "Prerequisites").
-#[derive(Clone, Copy, Debug, PartialEq, Eq)]
+#[derive(Clone, Copy)]
 pub enum MatchPrerequisite {
     Nothing,
     Ipv6,
@@ -32,7 +32,7 @@ pub enum MatchPrerequisite {
 
 /// Which part of a VLAN tag an item is about. An item on the identifier and one on the priority may both say that
 /// there is a tag.
-#[derive(Clone, Copy, Debug, PartialEq, Eq)]
+#[derive(Clone, Copy)]
 pub enum TagPart {
     Neither,
     Identifier,
@@ -40,7 +40,7 @@ pub enum TagPart {
 }
 
 /// Bits of a field that an item states.
-#[derive(Clone, Copy, Debug, PartialEq, Eq)]
+#[derive(Clone, Copy)]
 pub struct Part {
     pub field: FieldId,
     /// Its bits outside `mask` are 0.

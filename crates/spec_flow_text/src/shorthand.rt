@@ -1,5 +1,5 @@
 /// A word that states an Ethernet type, and the protocol of IP where it has one (ovs-fields(7), "Shorthand").
-#[derive(Clone, Copy, Debug, PartialEq, Eq)]
+#[derive(Clone, Copy)]
 pub enum Shorthand {
     Ip,
     Ipv6,

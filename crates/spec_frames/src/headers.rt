@@ -1,12 +1,12 @@
 /// What a frame carries by its Ethernet header: the type, and the offset at which that begins.
-#[derive(Clone, Copy, Debug, PartialEq, Eq)]
+#[derive(Clone, Copy)]
 pub struct Carried {
     pub dl_type: u16,
     pub at: usize,
 }
 
 /// Which part of an IP packet stands in a frame.
-#[derive(Clone, Copy, Debug, PartialEq, Eq)]
+#[derive(Clone, Copy)]
 pub enum Fragment {
     /// It is no fragment.
     Whole,
@@ -16,7 +16,7 @@ pub enum Fragment {
 }
 
 /// What an IP packet carries: its protocol, and the offset at which that begins.
-#[derive(Clone, Copy, Debug, PartialEq, Eq)]
+#[derive(Clone, Copy)]
 pub struct UpperLayer {
     pub protocol: u8,
     pub at: usize,
@@ -26,7 +26,7 @@ pub struct UpperLayer {
 }
 
 /// An IP packet without its addresses.
-#[derive(Clone, Copy, Debug, PartialEq, Eq)]
+#[derive(Clone, Copy)]
 pub struct Datagram {
     /// Type of service, or traffic class.
     pub tos: u8,
@@ -38,7 +38,7 @@ pub struct Datagram {
 }
 
 /// The network header of a frame: the offset at which it begins, and what it says.
-#[derive(Clone, Copy, Debug, PartialEq, Eq)]
+#[derive(Clone, Copy)]
 pub enum Network {
     Nothing,
     Arp(usize),

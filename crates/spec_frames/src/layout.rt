@@ -1,5 +1,5 @@
 /// The network header of a frame, and the offset in bytes at which it begins.
-#[derive(Clone, Copy, Debug, PartialEq, Eq)]
+#[derive(Clone, Copy, PartialEq, Eq)]
 pub enum L3 {
     None,
     /// RFC 826, of Ethernet and IPv4.
@@ -11,7 +11,7 @@ pub enum L3 {
 }
 
 /// The transport header of a frame, and the offset in bytes at which it begins.
-#[derive(Clone, Copy, Debug, PartialEq, Eq)]
+#[derive(Clone, Copy, PartialEq, Eq)]
 pub enum L4 {
     None,
     /// RFC 9293.
@@ -25,7 +25,7 @@ pub enum L4 {
 }
 
 /// Where the headers of a frame stand.
-#[derive(Clone, Copy, Debug, PartialEq, Eq)]
+#[derive(Clone, Copy, PartialEq, Eq)]
 pub struct Layout {
     /// How many VLAN tags stand after the addresses (IEEE 802.1Q): 0, 1 or 2.
     pub tags: u8,

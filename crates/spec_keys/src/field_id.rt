@@ -3,7 +3,7 @@
 ///
 /// `NwSrc` and `NwDst` also hold the addresses of ARP, `NwProto` its operation, and `TpSrc` and `TpDst` the type
 /// and code of ICMP and ICMPv6.
-#[derive(Clone, Copy, Debug, PartialEq, Eq)]
+#[derive(Clone, Copy, PartialEq, Eq)]
 pub enum FieldId {
     InPort,
     Metadata,

@@ -5,7 +5,7 @@ use spec_flow_text::TextFault;
 use std::alloc::{AllocError, AllocFailed};
 
 /// What is wrong with a mirrors file. Lines are counted from 1.
-#[derive(Clone, Copy, Debug, PartialEq, Eq)]
+#[derive(Clone, Copy, PartialEq, Eq)]
 pub enum MirrorFault {
     /// A line is no mirror. `why` is never `OutOfMemory`.
     Line { line: u32, why: TextFault },

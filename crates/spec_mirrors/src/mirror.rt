@@ -1,7 +1,7 @@
 use std::marker::Model;
 
 /// Which traffic of a switch is copied to a file of its own (ovs-vswitchd.conf.db(5), table Mirror).
-#[derive(Debug, Drop)]
+#[derive(Drop)]
 pub struct Mirror {
     /// The ports at which all that comes in is copied, each once.
     pub src: Vec<u16>,

@@ -1,5 +1,5 @@
 /// What the name of an item of a mirror selects (ovs-vswitchd.conf.db(5), table Mirror).
-#[derive(Clone, Copy, Debug, PartialEq, Eq)]
+#[derive(Clone, Copy)]
 pub enum Selector {
     /// `select_src_port`: what comes in at a port.
     SrcPort,

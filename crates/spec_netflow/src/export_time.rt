@@ -1,5 +1,5 @@
 /// When flows are exported, as the header of a datagram tells it.
-#[derive(Clone, Copy, Debug, PartialEq, Eq)]
+#[derive(Clone, Copy)]
 pub struct ExportTime {
     /// Milliseconds since the run began.
     pub uptime: u32,

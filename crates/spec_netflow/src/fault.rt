@@ -1,5 +1,5 @@
 /// Why bytes were not read as datagrams. Each names the offset of a datagram, in bytes from the beginning.
-#[derive(Clone, Copy, Debug, PartialEq, Eq)]
+#[derive(Clone, Copy, PartialEq, Eq)]
 pub enum NetflowFault {
     /// Fewer bytes are left than a header has, or than the number of records needs.
     Short { at: usize },

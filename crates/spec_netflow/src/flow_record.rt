@@ -1,5 +1,5 @@
 /// What an export tells of a flow: packets of one class, which came in at one port.
-#[derive(Clone, Copy, Debug, PartialEq, Eq)]
+#[derive(Clone, Copy, PartialEq, Eq)]
 pub struct FlowRecord {
     /// The IPv4 address of the source.
     pub src: u32,

@@ -1,5 +1,5 @@
 /// Which byte of a number comes first.
-#[derive(Clone, Copy, Debug, PartialEq, Eq)]
+#[derive(Clone, Copy)]
 pub enum ByteOrder {
     /// The least significant one.
     LittleEndian,
@@ -8,7 +8,7 @@ pub enum ByteOrder {
 }
 
 /// How a file writes its numbers.
-#[derive(Clone, Copy, Debug, PartialEq, Eq)]
+#[derive(Clone, Copy)]
 pub struct Format {
     pub order: ByteOrder,
     /// Whether fractions of a second are counted in nanoseconds. Else they are in microseconds.

@@ -1,5 +1,5 @@
 /// A quantity that has a limit.
-#[derive(Clone, Copy, Debug, PartialEq, Eq)]
+#[derive(Clone, Copy)]
 pub enum Quantity {
     /// The bytes of the file of edits.
     EditsBytes,

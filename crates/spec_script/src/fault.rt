@@ -5,7 +5,7 @@ use spec_flow_text::TextFault;
 use std::alloc::{AllocError, AllocFailed};
 
 /// What is wrong with a file of edits. Lines are counted from 1.
-#[derive(Clone, Copy, Debug, PartialEq, Eq)]
+#[derive(Clone, Copy, PartialEq, Eq)]
 pub enum ScriptFault {
     /// A line is no edit, and no sync line either.
     Line { line: u32, why: TextFault },

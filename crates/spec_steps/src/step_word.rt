@@ -1,5 +1,5 @@
 /// The first word of a step.
-#[derive(Clone, Copy, Debug, PartialEq, Eq)]
+#[derive(Clone, Copy)]
 pub enum StepWord {
     Edit,
     Rx,

@@ -1,5 +1,5 @@
 /// What an edit does to the rules of its table (ovs-ofctl(8), `add-flow`, `mod-flows` and `del-flows`).
-#[derive(Clone, Copy, Debug, PartialEq, Eq)]
+#[derive(Clone, Copy, PartialEq, Eq)]
 pub enum EditWord {
     /// Add a rule, in place of one of the same table, priority and match.
     Add,

@@ -1,5 +1,5 @@
 /// A lookup that a translation makes.
-#[derive(Clone, Copy, Debug, PartialEq, Eq)]
+#[derive(Clone, Copy)]
 pub struct Lookup {
     /// That of the first lookup is 0, and that of one that an action leads to is one more than the action's.
     pub depth: u32,

@@ -11,7 +11,7 @@ pub(crate) const NETWORK: u8 = 2;
 pub(crate) const PORTS: u8 = 3;
 
 /// What a subtable answers about a key.
-#[derive(Clone, Copy, Debug)]
+#[derive(Clone, Copy)]
 pub enum Probe {
     /// This stage is the first on which no rule agrees with the key, by its bits and those of the stages before. It is
     /// from 0, the metadata, over 1, Ethernet, and 2, IP and ARP, to 3, the ports.

@@ -2,7 +2,7 @@ ghost use Rattle.std.specs.Prelude.{◌≡◌};
 ghost use Rattle.staged_lookup.specs.Ranks.{is_outranked, better_rank, best_rank};
 
 /// What decides among rules that match: the greatest priority wins, and of equal ones the least number.
-#[derive(Clone, Copy, Debug)]
+#[derive(Clone, Copy)]
 pub struct Rank {
     pub priority: u16,
     pub number: u32,

@@ -15,7 +15,7 @@ use ovs_fields::{Key, Mask};
 use std::alloc::{AllocError, Global};
 
 /// What a stage of a lookup does for a mask, by the part of the mask that it reaches.
-#[derive(Clone, Copy, Debug)]
+#[derive(Clone, Copy)]
 pub(crate) enum StageKind {
     /// The part is that of the stage before, whose answer stands.
     LikeTheOneBefore,
@@ -26,7 +26,7 @@ pub(crate) enum StageKind {
 }
 
 /// What a stage tells of a key.
-#[derive(Clone, Copy, Debug)]
+#[derive(Clone, Copy)]
 pub(crate) enum Step {
     /// Some rule agrees with it on the part.
     Passes,

@@ -1,7 +1,7 @@
 use spec_actions::DpAction;
 
 /// A frame that came in, and what was decided of it.
-#[derive(Clone, Copy, Debug)]
+#[derive(Clone, Copy)]
 pub struct DecidedFrame<'a> {
     /// Nanoseconds since the beginning of 1970 (UTC).
     pub time: u64,

@@ -5,7 +5,7 @@ use switch_input::InputRefusal;
 use switch_output::OutputRefusal;
 
 /// Why a run was refused.
-#[derive(Debug, Drop)]
+#[derive(Drop)]
 pub enum Refusal<'a> {
     /// The words and the files were not read.
     Reading(InputRefusal<'a>),

@@ -11,7 +11,7 @@ use std::alloc::{AllocError, Global};
 
 /// The names of what is read: the file of edits, the steps file and the mirrors file where there are such, and the traces of
 /// the ports.
-#[derive(Clone, Copy, Debug)]
+#[derive(Clone, Copy)]
 pub struct Sources<'a, 'p> {
     pub edits: &'a str,
     pub steps: Option<&'a str>,

@@ -1,7 +1,7 @@
 use spec_mirrors::Mirror;
 
 /// What is written of a run.
-#[derive(Clone, Copy, Debug)]
+#[derive(Clone, Copy)]
 pub struct Outlets<'a> {
     /// The begin of the names of its files.
     pub out: &'a str,

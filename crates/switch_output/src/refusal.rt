@@ -6,7 +6,7 @@ use edge_io::Failed;
 use std::alloc::{AllocError, AllocFailed};
 
 /// Why the files of a run were not written.
-#[derive(Debug, Drop)]
+#[derive(Drop)]
 pub enum WriteRefusal {
     /// The shelf failed in writing the file of this name.
     WriteFault { name: String },
@@ -30,7 +30,7 @@ impl<T: Drop> From<AllocFailed<T>> for WriteRefusal {
 }
 
 /// Why it was not told whole what became of a run that was decided.
-#[derive(Debug, Drop)]
+#[derive(Drop)]
 pub enum OutputRefusal {
     /// Its files were not written.
     Files(WriteRefusal),

@@ -5,7 +5,7 @@ use spec_mirrors::Mirror;
 use std::alloc::{AllocError, Global};
 
 /// A file of a run.
-#[derive(Clone, Copy, Debug)]
+#[derive(Clone, Copy)]
 pub(crate) enum RunFile<'a> {
     /// What a port sends.
     Port(u16),

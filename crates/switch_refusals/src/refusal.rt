@@ -9,7 +9,7 @@ use spec_steps::StepsFault;
 use std::alloc::{AllocError, AllocFailed};
 
 /// What is wrong with an input. Names are those of the words.
-#[derive(Clone, Copy, Debug)]
+#[derive(Clone, Copy)]
 pub enum InputFault<'a> {
     /// The words are none that the program takes.
     Usage,
@@ -26,7 +26,7 @@ pub enum InputFault<'a> {
 }
 
 /// Why the words and the files were not read. Names are those of the words.
-#[derive(Clone, Copy, Debug)]
+#[derive(Clone, Copy)]
 pub enum InputRefusal<'a> {
     /// The words or a file are refused.
     Input(InputFault<'a>),

@@ -21,7 +21,7 @@ use std::sync::Wait;
 use std::thread::yield_now;
 
 /// Why no version was published.
-#[derive(Clone, Copy, PartialEq, Eq, Debug)]
+#[derive(Clone, Copy, PartialEq, Eq)]
 pub enum PublishFault {
     /// All bundles of the run are published, and make this version.
     NoneLeft { version: u32 },

@@ -6,8 +6,8 @@ use ovs_fields::{
 fn the_zero_key_has_0_in_each_field(rt: HostRuntime) {
     let fields = all_fields();
     assert_eq!(rt; fields.len(), FIELD_COUNT);
-    assert_eq!(rt; fields[0], FieldId::InPort);
-    assert_eq!(rt; fields[FIELD_COUNT - 1], FieldId::VlanTpid2);
+    assert!(rt; fields[0] == FieldId::InPort);
+    assert!(rt; fields[FIELD_COUNT - 1] == FieldId::VlanTpid2);
     for field in fields {
         assert_eq!(rt; Key::zero().get(*field), 0);
     }
@@ -15,20 +15,20 @@ fn the_zero_key_has_0_in_each_field(rt: HostRuntime) {
 
 #[test]
 fn fields_have_widths_and_stages(rt: HostRuntime) {
-    assert_eq!(rt; width(FieldId::Ipv6Dst), 128);
-    assert_eq!(rt; width(FieldId::IpFrag), 2);
-    assert_eq!(rt; stage(FieldId::InPort), 0);
-    assert_eq!(rt; stage(FieldId::TpDst), 3);
-    assert_eq!(rt; width(FieldId::VlanTpid2), 16);
-    assert_eq!(rt; stage(FieldId::VlanTci2), 1);
+    assert!(rt; width(FieldId::Ipv6Dst) == 128);
+    assert!(rt; width(FieldId::IpFrag) == 2);
+    assert!(rt; stage(FieldId::InPort) == 0);
+    assert!(rt; stage(FieldId::TpDst) == 3);
+    assert!(rt; width(FieldId::VlanTpid2) == 16);
+    assert!(rt; stage(FieldId::VlanTci2) == 1);
 }
 
 #[test]
 fn a_key_keeps_what_is_set(rt: HostRuntime) {
     let mut key = Key::zero();
     key.set(FieldId::DlSrc, 0x0200_0000_0001);
-    assert_eq!(rt; key.get(FieldId::DlSrc), 0x0200_0000_0001);
-    assert_eq!(rt; key.get(FieldId::DlDst), 0);
+    assert!(rt; key.get(FieldId::DlSrc) == 0x0200_0000_0001);
+    assert!(rt; key.get(FieldId::DlDst) == 0);
     assert!(rt; key == key);
     assert!(rt; key != Key::zero());
 }
@@ -39,7 +39,7 @@ fn masks_are_added_and_compared(rt: HostRuntime) {
     slash_16.add(FieldId::NwDst, 0xffff_0000);
     let mut slash_24 = slash_16;
     slash_24.add(FieldId::NwDst, 0x0000_ff00);
-    assert_eq!(rt; slash_24.get(FieldId::NwDst), 0xffff_ff00);
+    assert!(rt; slash_24.get(FieldId::NwDst) == 0xffff_ff00);
     assert!(rt; covers(&slash_24, &slash_16));
     assert!(rt; !covers(&slash_16, &slash_24));
     assert!(rt; and(&slash_16, &slash_24) == slash_16);

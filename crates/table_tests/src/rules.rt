@@ -82,12 +82,12 @@ fn a_modify_gives_its_actions_to_both_rules_from_its_version_on(
 ) -> Result<(), Fail> {
     let rules = five_versions(rt.alloc())?;
     assert!(rt; rules.live(2, 1));
-    assert_eq!(rt; rules.actions(2, 1), [OfAction::Output(2)].as_slice());
+    assert!(rt; rules.actions(2, 1) == [OfAction::Output(2)].as_slice());
     assert!(rt; rules.live(3, 1));
-    assert_eq!(rt; rules.actions(3, 1), [OfAction::Output(4)].as_slice());
+    assert!(rt; rules.actions(3, 1) == [OfAction::Output(4)].as_slice());
     assert_eq!(rt; rules.cookie(3, 1), 7);
     assert!(rt; rules.live(3, 2));
-    assert_eq!(rt; rules.actions(3, 2), [OfAction::Output(4)].as_slice());
+    assert!(rt; rules.actions(3, 2) == [OfAction::Output(4)].as_slice());
     Ok(())
 }
 
@@ -98,7 +98,7 @@ fn the_last_version_has_the_last_rule_alone(rt: HostRuntime) -> Result<(), Fail>
     assert!(rt; rules.live(4, 2));
     assert!(rt; !rules.live(5, 2));
     assert!(rt; rules.live(5, 5));
-    assert_eq!(rt; rules.actions(5, 5), [OfAction::Output(5)].as_slice());
+    assert!(rt; rules.actions(5, 5) == [OfAction::Output(5)].as_slice());
     assert_eq!(rt; rules.changes(), 7);
     Ok(())
 }
@@ -161,7 +161,7 @@ fn a_strict_modify_gives_its_cookie_to_its_rule_and_none_where_it_fits_no_rule(
     assert_eq!(rt; rules.cookie(1, 1), 7);
     assert!(rt; rules.live(3, 1));
     assert_eq!(rt; rules.cookie(3, 1), 9);
-    assert_eq!(rt; rules.actions(3, 1), [OfAction::Output(3)].as_slice());
+    assert!(rt; rules.actions(3, 1) == [OfAction::Output(3)].as_slice());
     assert!(rt; !rules.live(4, 1));
     assert_eq!(rt; rules.changes(), 3);
     Ok(())

@@ -10,16 +10,16 @@ fn a_rule_visited_twice_is_credited_twice(rt: HostRuntime) -> Result<(), Fail> {
         packets: 4,
         bytes: 240,
     };
-    assert_eq!(rt; totals.of(1), twice);
+    assert!(rt; totals.of(1) == twice);
     let none = Counts {
         packets: 0,
         bytes: 0,
     };
-    assert_eq!(rt; totals.of(2), none);
+    assert!(rt; totals.of(2) == none);
     let once = Counts {
         packets: 2,
         bytes: 120,
     };
-    assert_eq!(rt; totals.of(3), once);
+    assert!(rt; totals.of(3) == once);
     Ok(())
 }

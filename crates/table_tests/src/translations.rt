@@ -147,10 +147,10 @@ fn lists_that_are_handed_in_are_used_again(rt: HostRuntime) -> Result<(), Fail> 
     assert_eq!(rt; many.actions.len(), 8);
     let (many, room) = room_of(many);
     let few = sent_to(many, &PORTS)?;
-    assert_eq!(rt; few.actions.as_slice(), [DpAction::Output(2)].as_slice());
+    assert!(rt; few.actions.as_slice() == [DpAction::Output(2)].as_slice());
     assert_eq!(rt; few.visits.as_slice(), [7].as_slice());
     let fresh = sent_to(SpareLists::new(rt.alloc()), &PORTS)?;
-    assert_eq!(rt; fresh.actions.as_slice(), few.actions.as_slice());
+    assert!(rt; fresh.actions.as_slice() == few.actions.as_slice());
     assert_eq!(rt; fresh.visits.as_slice(), few.visits.as_slice());
     let (_, room_after) = room_of(few);
     assert_eq!(rt; room_after, room);
@@ -162,7 +162,7 @@ fn lists_that_are_handed_in_are_used_again(rt: HostRuntime) -> Result<(), Fail> 
 fn a_flood_goes_out_in_rising_order(rt: HostRuntime) -> Result<(), Fail> {
     let sent = sent_to(SpareLists::new(rt.alloc()), &[65535, 2, 1, 3, 0, 2])?;
     let rising = [0, 2, 2, 3, 65535].map(DpAction::Output);
-    assert_eq!(rt; sent.actions.as_slice(), rising.as_slice());
+    assert!(rt; sent.actions.as_slice() == rising.as_slice());
     let nowhere = sent_to(SpareLists::new(rt.alloc()), &[1, 1])?;
     assert_eq!(rt; nowhere.actions.len(), 0);
     Ok(())
@@ -214,10 +214,7 @@ fn a_tag_is_pushed_outside_of_another(rt: HostRuntime) -> Result<(), Fail> {
         tci: 0x1014,
     };
     let actions = done(rt.alloc(), &actions, &one_tag())?;
-    assert_eq!(rt;
-        actions.as_slice(),
-        [pushed, DpAction::Output(2)].as_slice()
-    );
+    assert!(rt; actions.as_slice() == [pushed, DpAction::Output(2)].as_slice());
     Ok(())
 }
 
@@ -243,10 +240,7 @@ fn a_pop_takes_the_outer_tag(rt: HostRuntime) -> Result<(), Fail> {
     ];
     let actions = done(rt.alloc(), &actions, &two_tags())?;
     let out = DpAction::Output(2);
-    assert_eq!(rt;
-        actions.as_slice(),
-        [DpAction::PopVlan, out, DpAction::PopVlan, out].as_slice()
-    );
+    assert!(rt; actions.as_slice() == [DpAction::PopVlan, out, DpAction::PopVlan, out].as_slice());
     Ok(())
 }
 
@@ -260,9 +254,6 @@ fn after_a_pop_the_inner_tag_is_written(rt: HostRuntime) -> Result<(), Fail> {
     };
     let actions = done(rt.alloc(), &actions, &two_tags())?;
     let pop = DpAction::PopVlan;
-    assert_eq!(rt;
-        actions.as_slice(),
-        [pop, pop, pushed, DpAction::Output(2)].as_slice()
-    );
+    assert!(rt; actions.as_slice() == [pop, pop, pushed, DpAction::Output(2)].as_slice());
     Ok(())
 }

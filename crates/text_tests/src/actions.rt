@@ -21,7 +21,7 @@ fn actions_of_a_line_and_their_text(rt: HostRuntime) -> Result<(), Fail> {
         OfAction::Resubmit(1),
         OfAction::Goto(254),
     ];
-    assert_eq!(rt; actions.as_slice(), expected.as_slice());
+    assert!(rt; actions.as_slice() == expected.as_slice());
     let mut text = String::new(rt.alloc());
     print_actions(actions.as_slice(), &mut text)?;
     let printed = "set_field:0x50/0xf0->reg0,output:in_port[0..15],resubmit(,1),goto_table:254";
@@ -38,7 +38,7 @@ fn tags_of_both_types_are_pushed(rt: HostRuntime) -> Result<(), Fail> {
         OfAction::PushVlan(0x88a8),
         OfAction::PopVlan,
     ];
-    assert_eq!(rt; actions.as_slice(), expected.as_slice());
+    assert!(rt; actions.as_slice() == expected.as_slice());
     let mut text = String::new(rt.alloc());
     print_actions(actions.as_slice(), &mut text)?;
     assert_eq!(rt; text.as_str(), "push_vlan:0x8100,push_vlan:0x88a8,pop_vlan");

@@ -27,7 +27,7 @@ fn a_script_has_edits_and_sync_points(rt: HostRuntime) -> Result<(), Fail> {
             after: 1,
         },
     ];
-    assert_eq!(rt; script.syncs.as_slice(), syncs.as_slice());
+    assert!(rt; script.syncs.as_slice() == syncs.as_slice());
     Ok(())
 }
 
@@ -42,7 +42,7 @@ fn edits_between_begin_and_commit_are_one_bundle(rt: HostRuntime) -> Result<(), 
         time: 1_000_000_000,
         after: 2,
     };
-    assert_eq!(rt; script.syncs.as_slice(), [sync].as_slice());
+    assert!(rt; script.syncs.as_slice() == [sync].as_slice());
     Ok(())
 }
 
@@ -53,32 +53,29 @@ fn fault_of(script: Result<Script, ScriptFault>) -> Option<ScriptFault> {
 #[test]
 fn a_fault_has_its_line_and_column(rt: HostRuntime) {
     let list_of_a_delete = read_script(rt.alloc(), b"actions=2\ndelete in_port=1,actions=2\n");
-    assert_eq!(rt;
-        fault_of(list_of_a_delete),
-        Some(ScriptFault::Line {
-            line: 2,
-            why: TextFault::Syntax { col: 18 }
-        })
+    assert!(rt;
+        fault_of(list_of_a_delete)
+            == Some(ScriptFault::Line {
+                line: 2,
+                why: TextFault::Syntax { col: 18 }
+            })
     );
     let late_time = read_script(rt.alloc(), b"\nsync 4294967296\n");
-    assert_eq!(rt;
-        fault_of(late_time),
-        Some(ScriptFault::Line {
-            line: 2,
-            why: TextFault::BadValue { col: 6 }
-        })
+    assert!(rt;
+        fault_of(late_time)
+            == Some(ScriptFault::Line {
+                line: 2,
+                why: TextFault::BadValue { col: 6 }
+            })
     );
     let falling_time = read_script(rt.alloc(), b"sync 2\nsync 1.999\n");
-    assert_eq!(rt;
-        fault_of(falling_time),
-        Some(ScriptFault::SyncOrder { line: 2 })
-    );
+    assert!(rt; fault_of(falling_time) == Some(ScriptFault::SyncOrder { line: 2 }));
     let left_open = read_script(rt.alloc(), b"actions=1\n  begin\nactions=2\n");
-    assert_eq!(rt;
-        fault_of(left_open),
-        Some(ScriptFault::Line {
-            line: 2,
-            why: TextFault::Syntax { col: 3 }
-        })
+    assert!(rt;
+        fault_of(left_open)
+            == Some(ScriptFault::Line {
+                line: 2,
+                why: TextFault::Syntax { col: 3 }
+            })
     );
 }

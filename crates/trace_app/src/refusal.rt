@@ -7,7 +7,7 @@ use std::alloc::AllocError;
 use switch_refusals::InputRefusal;
 
 /// Why there is no trace. Names are those of the words.
-#[derive(Clone, Copy, Debug)]
+#[derive(Clone, Copy)]
 pub enum Refusal<'a> {
     /// The words are none that the program takes.
     Usage,

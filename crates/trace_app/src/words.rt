@@ -16,7 +16,7 @@ use text_numbers::cut_at;
 const MOST_PORTS: u32 = 32;
 
 /// What the words say.
-#[derive(Debug, Drop)]
+#[derive(Drop)]
 pub struct Command<'a> {
     /// The name of the file of edits.
     pub edits: &'a str,

@@ -17,7 +17,7 @@ const INCREMENT: u64 = 1_442_695_040_888_963_407;
 const LOW_BITS: u32 = 33;
 
 /// A linear congruential generator modulo 2^64.
-#[derive(Debug, Drop)]
+#[derive(Drop)]
 pub struct Draws {
     state: u64,
 }

@@ -14,7 +14,7 @@ const FIRST_PRIORITY: u32 = 100;
 const REGISTER_VALUES: u32 = 16;
 
 /// What is drawn for the rule of a subnet 10.A.B.0/24: A, B, and the value that is put into the register.
-#[derive(Debug, Clone, Copy)]
+#[derive(Clone, Copy)]
 pub struct Subnet {
     second: u32,
     third: u32,

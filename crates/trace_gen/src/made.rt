@@ -23,7 +23,7 @@ const TRACE_LENGTH: usize = HEADER_LENGTH
     + FRAMES_OF_PORT as usize * (RECORD_HEADER_LENGTH + FRAME_LENGTH as usize);
 
 /// A trace, and the port at which its frames come in.
-#[derive(Debug, Drop)]
+#[derive(Drop)]
 pub struct MadeTrace {
     /// The port, from 1.
     pub port: u16,
@@ -32,7 +32,7 @@ pub struct MadeTrace {
 }
 
 /// What a number makes.
-#[derive(Debug, Drop)]
+#[derive(Drop)]
 pub struct Made {
     /// The bytes of the file of edits.
     pub edits: Vec<u8>,

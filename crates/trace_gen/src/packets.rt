@@ -20,7 +20,7 @@ const HEADER_WORDS: usize = 10;
 pub const FRAME_LENGTH: u32 = 42;
 
 /// What is drawn for a packet from 10.0.0.(1 + source) to 10.C.D.E.
-#[derive(Debug, Clone, Copy)]
+#[derive(Clone, Copy)]
 pub struct Packet {
     source: u16,
     c: u16,

@@ -18,7 +18,7 @@ use staged_lookup::Rank;
 use std::alloc::{AllocError, Global};
 
 /// A live rule, and where its actions are among the lists of actions.
-#[derive(Clone, Copy, Debug)]
+#[derive(Clone, Copy)]
 pub(crate) struct LiveRule {
     pub(crate) rule: Rule,
     pub(crate) given: u32,

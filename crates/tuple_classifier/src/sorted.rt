@@ -6,7 +6,7 @@ ghost use Rattle.tuple_classifier.specs.Numbers.{times, numbers_in, entry_number
 use std::alloc::{AllocError, Global};
 
 /// A number, and how often it was put in. Where that is more than a count can say, the number has several entries.
-#[derive(Clone, Copy, Debug)]
+#[derive(Clone, Copy)]
 pub(crate) struct Counted {
     pub(crate) number: u16,
     pub(crate) count: u32,

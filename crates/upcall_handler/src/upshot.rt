@@ -1,5 +1,5 @@
 /// How the handling of an upcall ended.
-#[derive(Clone, Copy, Debug, PartialEq, Eq)]
+#[derive(Clone, Copy)]
 pub enum Upshot {
     /// The frame is decided.
     Done,
@@ -12,7 +12,7 @@ pub enum Upshot {
 }
 
 /// What a board answered to the settle of a frame.
-#[derive(Clone, Copy, Debug, PartialEq, Eq)]
+#[derive(Clone, Copy)]
 pub enum Settling {
     /// The frame is decided.
     Done,
