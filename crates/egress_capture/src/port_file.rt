@@ -18,7 +18,7 @@ use pcap_writer::PcapWriter;
 use run_case::{Case, RunData};
 use spec_case::Arrival;
 use std::alloc::Global;
-use step_runner::Finished;
+use run_boards::Finished;
 
 // Writes an arrived frame as often as what was decided of it sends it out at the port. Where its filter has no bit of the
 // port, nothing of it is looked at.

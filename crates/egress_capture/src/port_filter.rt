@@ -8,7 +8,7 @@ ghost use Rattle.egress_capture.specs.Filters.{bit_of, PassesAll, AreFilters};
 use run_case::{Case, RunData};
 use spec_actions::DpAction;
 use std::alloc::{AllocError, Global};
-use step_runner::Finished;
+use run_boards::Finished;
 
 /// How many bits a filter has.
 const BITS: u16 = 32;

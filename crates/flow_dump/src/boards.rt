@@ -14,7 +14,7 @@ use edge_io::{Failed, Shelf, write_file};
 use pmd_board::Board;
 use run_case::Case;
 use std::alloc::Global;
-use step_runner::Finished;
+use run_boards::Finished;
 
 /// What is written of each board.
 #[derive(Clone, Copy)]

@@ -11,7 +11,7 @@ use action_exec::is_output;
 use pmd_board::Board;
 use run_case::{Case, RunData};
 use spec_actions::DpAction;
-use step_runner::Finished;
+use run_boards::Finished;
 
 /// How often frames are sent, and how many are sent nowhere.
 #[derive(Clone, Copy)]

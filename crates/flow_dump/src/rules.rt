@@ -15,7 +15,7 @@ use rule_tables::VersionedRules;
 use run_case::{Case, RunData};
 use spec_dumps::RuleCounts;
 use std::alloc::Global;
-use step_runner::Finished;
+use run_boards::Finished;
 
 // Writes the line of a rule that is live.
 fn write_live<S: Shelf>(

@@ -6,7 +6,7 @@ ghost use Rattle.flow_dump.specs.StepCounts as counts;
 use board_steps::{Settled, Step};
 use run_case::Case;
 use spec_board::Looked;
-use step_runner::Finished;
+use run_boards::Finished;
 
 /// How many steps there are of each result.
 ///

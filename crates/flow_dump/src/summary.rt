@@ -10,7 +10,7 @@ use run_case::{Case, RunData};
 use spec_dumps::Ran;
 use std::alloc::{AllocError, Global};
 use std::fmt::Write;
-use step_runner::Finished;
+use run_boards::Finished;
 
 // How many frames came in, at all ports.
 fn frame_count<C: Case>(run: &RunData<C>) -> u128

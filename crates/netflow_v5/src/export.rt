@@ -11,7 +11,7 @@ use edge_io::{Failed, Shelf, write_all, write_file};
 use run_case::{Case, RunData};
 use spec_netflow::{ExportTime, FlowRecord};
 use std::alloc::Global;
-use step_runner::Finished;
+use run_boards::Finished;
 
 // Writes the datagrams of these records, one after the other, each by one call.
 fn write_datagrams<S: Shelf>(

@@ -12,7 +12,7 @@ use run_case::{Case, RunData};
 use spec_case::Arrival;
 use spec_netflow::{ExportTime, FlowRecord};
 use std::alloc::{AllocError, Global};
-use step_runner::Finished;
+use run_boards::Finished;
 
 /// A second in nanoseconds.
 const SECOND: u64 = 1_000_000_000;

@@ -8,18 +8,19 @@ use run_xlate::Xlated;
 use std::alloc::AllocError;
 use std::sync::Wait;
 use table_publish::Seer;
+use table_versions::RunTables;
 
 /// Translates a packet of a key under the newest version that is published. It is made in `lists`, as `Tables::translate`
 /// makes it.
 ///
 /// The only error is out of memory.
-pub fn translate_newest<C: Case, R: Wait>(
+pub fn translate_newest<C: Case, T: RunTables<C>, R: Wait>(
     rt: &R,
-    seer: Seer<C>,
+    seer: Seer<C, T>,
     run: &RunData<C>,
     key: &Key,
     lists: SpareLists,
-) -> (Seer<C>, Result<Xlated<C>, AllocError>)
+) -> (Seer<C, T>, Result<Xlated<C>, AllocError>)
     ensures publication { result.0.publication ≡ seer.publication }
     ensures newer { seer.version ≤ result.0.version }
     ensures key { IfOk result.1 (λ x. x.key ≡ numbers key.now) }

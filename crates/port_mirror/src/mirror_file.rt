@@ -19,7 +19,7 @@ use run_case::{Case, RunData};
 use spec_case::Arrival;
 use spec_mirrors::Mirror;
 use std::alloc::Global;
-use step_runner::Finished;
+use run_boards::Finished;
 
 // Whether a mirror copies what comes in at a port.
 fn takes_in(mirror: &Mirror, port: u16) -> bool

@@ -42,17 +42,11 @@
 //! `egress_capture` and `flow_dump` write; what datapath actions make of a frame is `action_exec`'s.
 #![tactic(auto)]
 
-mod boards;
 mod closing;
-mod decided_frame;
 mod deciding;
-mod finished;
 mod finishing;
 mod steps;
 mod sweeping;
 
-pub use boards::Boards;
 pub use closing::close_phase;
-pub use decided_frame::DecidedFrame;
-pub use finished::Finished;
 pub use finishing::{finish, finish_block};

@@ -17,7 +17,7 @@ use rule_tables::VersionedRules;
 use run_case::{Case, RunData};
 use spec_dumps::Ran;
 use std::alloc::Global;
-use step_runner::Finished;
+use run_boards::Finished;
 
 /// Tells what became of a run: its files are written, where it has outlets, and then its summary is printed, with what is
 /// told of given steps.

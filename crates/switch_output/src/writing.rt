@@ -24,7 +24,7 @@ use rule_tables::VersionedRules;
 use run_case::{Case, RunData};
 use spec_mirrors::Mirror;
 use std::alloc::Global;
-use step_runner::Finished;
+use run_boards::Finished;
 
 // What the files of a run are made of.
 #[derive(Drop)]

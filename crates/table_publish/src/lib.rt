@@ -61,5 +61,5 @@ mod threads;
 
 pub use editor::{Editor, PublishFault};
 pub use publication::{MOST_SEERS, publish};
-pub use run_tables::Tables;
+pub use table_versions::{RunTables, Tables};
 pub use seer::{Guard, News, Seer};

@@ -5,6 +5,7 @@ ghost use Rattle.switch_input.specs.InputViews.{run_view, IsWithinLimits};
 use crate::counts::Counts;
 use crate::words::Command;
 use given_steps::run_schedule;
+use run_tables::ClassifierTables;
 use run_case::{Case, RunData};
 use run_edits::RunEdits;
 use std::alloc::{AllocError, Global};
@@ -39,7 +40,8 @@ fn counts_in_rounds<C: Case>(
     )?;
     let mut counts = Counts::new();
     'rounds: for _ in 0..rounds {
-        let (finished, _) = run_schedule(alloc, &run, &edits, flow_limit, &steps)?;
+        let (finished, _) =
+            run_schedule::<C, ClassifierTables<C>>(alloc, &run, &edits, flow_limit, &steps)?;
         for board in finished.boards() {
             counts.add_board(&run, board);
         }

@@ -14,14 +14,13 @@ use Rattle.megaflow_table.proofs.Crossing.{megaflows_send}
 use Rattle.pmd_board.specs.contracts.board.Board as board
 use Rattle.port_caches.specs.contracts.caches.PortCaches as caches
 use Rattle.port_caches.specs.contracts.lists.HeldList as held
-use Rattle.rule_tables.specs.contracts.edit.Edit as edit
+use Rattle.rule_tables.proofs.Crossing.{edit_sync}
 use Rattle.run_case.specs.contracts.run_data.RunData as run_data
 use Rattle.run_case.specs.declared.case.Case.{Ghosts}
 use Rattle.run_edits.specs.contracts.edits.RunEdits as run_edits
 use Rattle.spec_actions.specs.contracts.action.DpAction as dp_action
 use Rattle.spec_keys.specs.contracts.field_id.FieldId as field_id
-use Rattle.staged_lookup.proofs.Crossing.{key_send}
-use Rattle.tuple_classifier.proofs.Crossing.{actions_sync, matching_sync}
+use Rattle.ovs_fields.proofs.Crossing.{key_send}
 use Rattle.upcall_queue.specs.contracts.pass.Pass as pass
 use Rattle.upcall_queue.specs.contracts.queue.UpcallQueue as queue
 use Rattle.worker_phase.specs.contracts.editing.PhaseEditor as phase_editor
@@ -39,9 +38,6 @@ use Rattle.std.specs.Prelude.{[], ◌∷◌}
 use Rattle.std.specs.contracts.alloc.AllocError as alloc_error
 use Rattle.std.specs.contracts.option.Option as option
 use Rattle.std.specs.contracts.result.Result as result
-
-edit_sync : IsSync edit.the_row
-edit_sync = search (sendable, crosses, actions_sync, matching_sync) depth 100 fits 20000
 
 pub run_data_sync : (C : RattleType) (g : Ghosts C.Denot) → IsSync C → IsSync (run_data.the_row C g)
 run_data_sync C g c = search (sendable, crosses) depth 100 fits 20000

@@ -12,6 +12,7 @@ use run_case::{Case, RunData};
 use std::alloc::{AllocError, Global};
 use std::sync::{Mutex, Wait};
 use table_publish::Seer;
+use table_versions::RunTables;
 
 /// Puts an entry and ends the sweep, once it is told of the entry.
 #[derive(Drop)]
@@ -53,14 +54,14 @@ fn first_key<C: Case>(board: &Board<C>) -> Key {
 }
 
 /// Sweeps a board of one entry, which another puts meanwhile.
-pub fn swept_beside<C: Case, R: Wait>(
+pub fn swept_beside<C: Case, T: RunTables<C>, R: Wait>(
     rt: &R,
     alloc: Global,
-    seer: Seer<C>,
+    seer: Seer<C, T>,
     run: &RunData<C>,
     board: &Mutex<Board<C>>,
     again: Option<u32>,
-) -> (Seer<C>, Result<Swept, AllocError>) {
+) -> (Seer<C, T>, Result<Swept, AllocError>) {
     let key = first_key(&*board.lock(rt));
     let (seer, made) = translate_newest(rt, seer, run, &key, SpareLists::new(alloc));
     let made = match made {

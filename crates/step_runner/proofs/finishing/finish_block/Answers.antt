@@ -2,7 +2,7 @@ use Rattle.std.proofs.Common.{arith, ◌≡◌, max, ap, ◌∙◌, subst}
 use Rattle.spec_case.specs.Run.{Run}
 use Rattle.spec_case.specs.Blocks.{hi}
 use Rattle.pmd_board.specs.BoardView.{BoardView}
-use Rattle.step_runner.specs.Scheduled.{block_to_finish, TookTurns}
+use Rattle.run_boards.specs.Scheduled.{block_to_finish, TookTurns}
 use Rattle.step_runner.proofs.Turns.{turns_done, turns_version, turns_made}
 use Rattle.step_runner.proofs.finishing.finish_block.Goals as goal
 
