@@ -1,19 +1,18 @@
 //! Sweeps of a board that threads share.
 ghost use Rattle.std.specs.Prelude.{◌≡◌, ◌≤◌, ◌<◌, ◌^◌, IfOk, IfSome};
-ghost use Rattle.newest_xlate.specs.Versions.{EndsBlock};
+ghost use Rattle.table_publish.specs.Versions.{EndsBlock};
 ghost use Rattle.revalidator.specs.Puts.{TellsPut};
 ghost use Rattle.revalidator.specs.Sweeps.{HasCause};
 
 use crate::lent::{begin_lent, end_lent, listed_above, put_lent};
 use crate::swept::{Begun, Putting, Swept};
 use edge_io::{Gate, Point};
-use newest_xlate::{SpareLists, translate_newest};
 use ovs_fields::Key;
 use pmd_board::{Board, Xlated};
 use run_case::{Case, RunData};
 use std::alloc::{AllocError, Global};
 use std::sync::{Mutex, Wait};
-use table_publish::Seer;
+use table_publish::{Seer, SpareLists, translate_newest};
 use table_versions::RunTables;
 
 // The version that a seer sees now.

@@ -1,4 +1,4 @@
-use newest_xlate::SpareLists;
+use table_publish::SpareLists;
 
 /// How a sweep ended.
 #[derive(Clone, Copy, PartialEq, Eq)]

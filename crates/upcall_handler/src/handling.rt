@@ -8,14 +8,13 @@ use crate::settling::settle_lent;
 use crate::translated::Translated;
 use crate::upshot::{Settling, Upshot};
 use edge_io::{Gate, Point};
-use newest_xlate::{SpareLists, translate_newest};
 use pmd_board::Board;
 use run_case::{Case, Keyed, RunData};
 use std::alloc::{AllocError, Global};
 use std::sync::{Mutex, Wait};
-use table_publish::Seer;
-use upcalls::Upcall;
+use table_publish::{Seer, SpareLists, translate_newest};
 use table_versions::RunTables;
+use upcalls::Upcall;
 
 /// How often a frame is translated, where each time a newer sweep had begun.
 const TRIES: u32 = 4;

@@ -4,14 +4,13 @@
 //! could: it puts the entry and ends the sweep, and may begin one more.
 use crate::runs::PORT;
 use edge_io::{Gate, Point};
-use newest_xlate::{SpareLists, translate_newest};
 use ovs_fields::Key;
 use pmd_board::{Board, Xlated};
 use revalidator::{Swept, begin_lent, end_lent, put_lent, sweep_board};
 use run_case::{Case, RunData};
 use std::alloc::{AllocError, Global};
 use std::sync::{Mutex, Wait};
-use table_publish::Seer;
+use table_publish::{Seer, SpareLists, translate_newest};
 use table_versions::RunTables;
 
 /// Puts an entry and ends the sweep, once it is told of the entry.

@@ -1,14 +1,13 @@
 ghost use Rattle.std.specs.Prelude.{◌≡◌, ◌≤◌, IfOk};
 ghost use Rattle.ovs_fields.specs.Packed.{numbers};
 
+use crate::seer::Seer;
 use ovs_fields::Key;
 use run_case::{Case, RunData};
-use run_tables::SpareLists;
 use run_xlate::Xlated;
 use std::alloc::AllocError;
 use std::sync::Wait;
-use table_publish::Seer;
-use table_versions::RunTables;
+use table_versions::{RunTables, SpareLists};
 
 /// Translates a packet of a key under the newest version that is published. It is made in `lists`, as `Tables::translate`
 /// makes it.
