@@ -2,7 +2,6 @@
 use Rattle.std.proofs.Common.{◌≡◌, ◌⊎◌, inl, inr, ℕ, zero, suc, ◌+◌, ◌≤◌, ◌<◌, ◌==◌, max, List, [], length, map, slice_index_or, All, refl, sym, ap, ◌∙◌, subst, arith}
 use Rattle.std.specs.Fn.{iterate}
 use Rattle.std.proofs.lemmas.Bool.{cases_eq, cond-false, ne_eqb}
-use Rattle.std.proofs.lemmas.List.{get_or_default}
 use Rattle.std.proofs.lemmas.Simd.{map-map}
 use Rattle.spec_case.specs.Run.{Run, last_version}
 use Rattle.spec_case.specs.Blocks.{AreInOrder, hi, last_block}

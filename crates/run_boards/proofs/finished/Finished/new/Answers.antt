@@ -1,8 +1,7 @@
-use Rattle.std.proofs.Common.{All, subst}
+use Rattle.std.proofs.Common.{All}
 use Rattle.std.specs.Prelude.{nat_eq}
 use Rattle.std.specs.List.{IsDistinct}
 use Rattle.spec_case.specs.Run.{Run}
-use Rattle.frame_arrivals.specs.Arrivals.{IsArrival}
 use Rattle.frame_arrivals.proofs.Places.{are_arrivals}
 use Rattle.run_boards.specs.Scheduled.{IsKnown}
 use Rattle.run_boards.proofs.Whole.{are_whole}
