@@ -20,8 +20,8 @@ use pmd_board::{
 use run_case::{Case, RunData};
 use run_edits::RunEdits;
 use run_tables::ClassifierTables;
-use table_versions::Tables;
 use std::alloc::{AllocError, Global};
+use table_versions::Tables;
 
 /// A call of a board, with what it is to answer.
 #[derive(Clone, Copy)]

@@ -11,14 +11,14 @@ ghost use Rattle.run_boards.specs.Scheduled.{block_to_finish, schedule_of, under
 ghost use Rattle.given_steps.specs.Running.{without_kept};
 
 use crate::schedule::{boards_after, scheduled_boards, take_given};
+use run_boards::{Boards, Finished};
 use run_case::{Case, RunData};
 use run_edits::RunEdits;
-use table_versions::{RunTables, Tables};
 use spec_case::RunStep;
 use spec_dumps::Ran;
 use std::alloc::{AllocError, Global};
-use run_boards::{Boards, Finished};
 use step_runner::finish;
+use table_versions::{RunTables, Tables};
 
 /// Carries out given steps on the boards of a run, one after the other, and answers the boards, how many steps there were
 /// and how many of them were not met. One that isn't met is passed over. Translations that are kept at the end are given

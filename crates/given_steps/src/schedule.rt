@@ -10,12 +10,12 @@ ghost use Rattle.given_steps.specs.Running.{AreOfPorts, block_of_all, board_of, 
 use crate::scheduled_board::ScheduledBoard;
 use crate::steps::take_step;
 use pmd_board::Board;
+use run_boards::Boards;
 use run_case::{Case, RunData};
 use run_edits::RunEdits;
-use table_versions::{RunTables, Tables};
 use spec_case::RunStep;
 use std::alloc::{AllocError, Global};
-use run_boards::Boards;
+use table_versions::{RunTables, Tables};
 
 // ---- boards that begin and end
 

@@ -18,9 +18,9 @@ use ovs_fields::Key;
 use pipe_model::SpareLists;
 use pmd_board::Board;
 use run_case::{Case, RunData};
-use table_versions::{RunTables, Tables};
 use spec_case::RunStep;
 use std::alloc::{AllocError, Global};
+use table_versions::{RunTables, Tables};
 
 // ---- frames
 
@@ -82,7 +82,10 @@ fn settle<C: Case>(
 // ---- sweeps
 
 // A sweep of the tables' version begins.
-fn sweep<C: Case, T: RunTables<C>>(tables: &Tables<C, T>, board: &mut ScheduledBoard<C>) -> Result<bool, AllocError>
+fn sweep<C: Case, T: RunTables<C>>(
+    tables: &Tables<C, T>,
+    board: &mut ScheduledBoard<C>,
+) -> Result<bool, AllocError>
     ensures { IfOk result
         (λ met. Takes C.run tables.now (given.Sweep board.old.board.port)
         board.old met board.new) }

@@ -9,12 +9,12 @@ use crate::edits::{EDITS, bundles_of, edits_of};
 use rule_tables::Edit;
 use run_case::Case;
 use run_edits::RunEdits;
+use run_tables::ClassifierTables;
 use std::alloc::Global;
 use std::marker::{Brand, Model, PhantomData};
 use std::process::Abort;
 use std::sync::{Mutex, Wait};
 use std::test::*;
-use run_tables::ClassifierTables;
 use table_publish::{Editor, News, Seer, publish};
 use table_versions::RunTables;
 

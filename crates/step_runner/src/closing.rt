@@ -8,13 +8,13 @@ ghost use Rattle.run_boards.specs.Scheduled.{schedule_of};
 ghost use Rattle.run_boards.specs.Boards.{AreOfPhase};
 ghost use Rattle.run_boards.specs.Finished.{AreFinished};
 
-use run_boards::Boards;
 use crate::finishing::{finish_block, finish_blocks};
 use pmd_board::Board;
+use run_boards::Boards;
 use run_case::{Case, RunData};
 use run_edits::RunEdits;
-use table_versions::{RunTables, Tables};
 use std::alloc::{AllocError, Global};
+use table_versions::{RunTables, Tables};
 
 // All blocks are finished from new boards and new tables.
 fn start_over<C: Case, T: RunTables<C>>(

@@ -13,8 +13,8 @@ use crate::steps;
 use pipe_model::SpareLists;
 use pmd_board::{Board, Looked};
 use run_case::{Case, Keyed, RunData};
-use table_versions::{RunTables, Tables};
 use std::alloc::{AllocError, Global};
+use table_versions::{RunTables, Tables};
 
 // Decides a pending frame: its key is translated, and it is settled by that.
 fn upcall<C: Case, T: RunTables<C>>(

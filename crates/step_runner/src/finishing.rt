@@ -9,16 +9,15 @@ ghost use Rattle.run_boards.specs.Progress.{IsPast, IsSameBoard, IsSwept, OnlyPl
 ghost use Rattle.run_boards.specs.Scheduled.{under_way, schedule_of, block_to_finish, HasDone, AreOnlyPlanned, IsNew, TookTurn, TookTurns};
 ghost use Rattle.run_boards.specs.Finished.{AreFinished, journals_in};
 
-use run_boards::Boards;
 use crate::deciding::{decide_all, settle_pending};
-use run_boards::{Finished, recall_laws};
 use crate::steps;
 use crate::sweeping::{end_sweep, sweep};
 use pmd_board::Board;
+use run_boards::{Boards, Finished, recall_laws};
 use run_case::{Case, RunData};
 use run_edits::RunEdits;
-use table_versions::{RunTables, Tables};
 use std::alloc::{AllocError, Global};
+use table_versions::{RunTables, Tables};
 
 // ---- one board
 

@@ -10,8 +10,8 @@ use crate::steps;
 use pipe_model::SpareLists;
 use pmd_board::Board;
 use run_case::{Case, RunData};
-use table_versions::{RunTables, Tables};
 use std::alloc::{AllocError, Global};
+use table_versions::{RunTables, Tables};
 
 // Puts each entry that the sweep of a board lists, in rising order, by the translation of its key under the last version
 // of its block. Each translation is made in the lists that the put before it gave back, so that a sweep that keeps its

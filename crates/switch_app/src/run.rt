@@ -81,12 +81,7 @@ fn decide_alone<C: Case, D: Decider>(
 }
 
 // Decides all frames of a run: in threads where there are workers, and else as its schedule has it.
-fn decide<
-    C: Case + Send + Sync,
-    D: Decider,
-    R: Threads + Wait + Sync,
-    G: Gate + Sync,
->(
+fn decide<C: Case + Send + Sync, D: Decider, R: Threads + Wait + Sync, G: Gate + Sync>(
     rt: &R,
     alloc: Global,
     run: &RunData<C>,
@@ -164,8 +159,7 @@ fn decide_and_tell<
         script.syncs,
         traces,
     )?;
-    let (finished, told) =
-        decide::<C, D, R, G>(rt, alloc, &run, &edits, &command, &steps, gate)?;
+    let (finished, told) = decide::<C, D, R, G>(rt, alloc, &run, &edits, &command, &steps, gate)?;
     let outlets = outlets_of(&command.input, &mirrors);
     put_out(alloc, shelf, say, outlets, &run, &rules, &finished, told)
 }

@@ -84,9 +84,7 @@ pub fn status_of<R: Threads + Wait + Sync, S: Shelf>(
     for word in words {
         owned.push(String::from_str(alloc, word)?)?;
     }
-    Ok(run_switch::<SwitchDecider, _, _, _, _>(
-        rt, alloc, &owned, shelf, say, &OpenGate,
-    ))
+    Ok(run_switch::<SwitchDecider, _, _, _, _>(rt, alloc, &owned, shelf, say, &OpenGate))
 }
 
 /// The files that a run writes.

@@ -14,11 +14,11 @@ use left_right::reader::Factory;
 use left_right::writer::Writer;
 use run_case::Case;
 use run_edits::RunEdits;
-use table_versions::{RunTables, Tables};
 use std::alloc::{AllocError, Global};
 use std::marker::Model;
 use std::sync::Wait;
 use std::thread::yield_now;
+use table_versions::{RunTables, Tables};
 
 /// Why no version was published.
 #[derive(Clone, Copy, PartialEq, Eq)]

@@ -5,9 +5,9 @@ use left_right::Absorb;
 use rule_tables::Edit;
 use run_case::Case;
 use run_edits::RunEdits;
-use table_versions::{RunTables, Tables};
 use std::alloc::{AllocError, Global};
 use std::marker::{Model, PhantomData};
+use table_versions::{RunTables, Tables};
 
 /// A bundle of the run, which makes the next version of the tables. Contracts see the version that it makes.
 #[derive(Drop)]

@@ -5,10 +5,10 @@ ghost use Rattle.left_right.specs.Sides.{view};
 use crate::rule::{Grows, Sees};
 use left_right::reader::{Factory, Reader, Reading};
 use run_case::Case;
-use table_versions::{RunTables, Tables};
 use std::marker::Model;
 use std::sync::Wait;
 use std::thread::yield_now;
+use table_versions::{RunTables, Tables};
 
 /// Reads the tables that are published. Contracts see the greatest version that it saw or learnt.
 #[derive(Drop)]

@@ -3,6 +3,8 @@ use crate::tables::{RunTables, Tables};
 use run_case::Case;
 use thread_bounds::crosses_threads;
 
-fn tables_cross_threads<C: Case + Send + Sync, T: RunTables<C> + Send + Sync>(tables: &Tables<C, T>) {
+fn tables_cross_threads<C: Case + Send + Sync, T: RunTables<C> + Send + Sync>(
+    tables: &Tables<C, T>,
+) {
     crosses_threads(tables)
 }

@@ -5,9 +5,9 @@ ghost use Rattle.switch_input.specs.InputViews.{run_view, IsWithinLimits};
 use crate::counts::Counts;
 use crate::words::Command;
 use given_steps::run_schedule;
-use run_tables::ClassifierTables;
 use run_case::{Case, RunData};
 use run_edits::RunEdits;
+use run_tables::ClassifierTables;
 use std::alloc::{AllocError, Global};
 use std::marker::Brand;
 use switch_input::Inputs;
@@ -40,8 +40,9 @@ fn counts_in_rounds<C: Case>(
     )?;
     let mut counts = Counts::new();
     'rounds: for _ in 0..rounds {
-        let (finished, _) =
-            run_schedule::<C, ClassifierTables<C>>(alloc, &run, &edits, flow_limit, &steps)?;
+        let (finished, _) = run_schedule::<C, ClassifierTables<C>>(
+            alloc, &run, &edits, flow_limit, &steps,
+        )?;
         for board in finished.boards() {
             counts.add_board(&run, board);
         }

@@ -13,8 +13,8 @@ use std::alloc::{AllocError, Global};
 use std::marker::PhantomData;
 use std::sync::{Mutex, Wait};
 use table_publish::Seer;
-use upcall_queue::{Pass, UpcallQueue};
 use table_versions::RunTables;
+use upcall_queue::{Pass, UpcallQueue};
 
 /// A lock for each board.
 pub fn locked<C: Case>(
@@ -64,7 +64,9 @@ pub fn next_pass<C: Case, P: Phase>(passes: &mut Vec<Pass<C>>) -> Result<Pass<C>
 
 // The last of the seers.
 #[tactic(auto, using(crate::proofs::Lists::before_last))]
-fn next_seer<C: Case, T: RunTables<C>, P: Phase>(seers: &mut Vec<Seer<C, T>>) -> Result<Seer<C, T>, AllocError>
+fn next_seer<C: Case, T: RunTables<C>, P: Phase>(
+    seers: &mut Vec<Seer<C, T>>,
+) -> Result<Seer<C, T>, AllocError>
     requires { All (λ s. s.publication ≡ P.publication) seers.old.items }
     ensures publication { All (λ s. s.publication ≡ P.publication) seers.new.items }
     ensures seer { IfOk result (λ s. s.publication ≡ P.publication) }

@@ -9,14 +9,14 @@ ghost use Rattle.run_boards.specs.Finished.{AreFinished};
 use crate::pool::WorkerPool;
 use edge_io::Gate;
 use pmd_board::Board;
+use run_boards::{Boards, Finished};
 use run_case::{Case, RunData};
 use run_edits::RunEdits;
-use table_versions::{RunTables, Tables};
 use std::alloc::{AllocError, Global};
 use std::sync::Wait;
 use std::thread::Threads;
-use run_boards::{Boards, Finished};
 use step_runner::close_phase;
+use table_versions::{RunTables, Tables};
 
 // Ends a phase: the tables, which aren't the published ones, are carried to the last version of its block, and the boards
 // finish it. It says whether they fitted; where they didn't, the whole run is finished.
@@ -42,7 +42,12 @@ fn close_block<C: Case, T: RunTables<C>>(
 }
 
 // A phase, and its end.
-fn decide_block<C: Case + Send + Sync, T: RunTables<C> + Send + Sync, R: Threads + Wait + Sync, G: Gate + Sync>(
+fn decide_block<
+    C: Case + Send + Sync,
+    T: RunTables<C> + Send + Sync,
+    R: Threads + Wait + Sync,
+    G: Gate + Sync,
+>(
     rt: &R,
     alloc: Global,
     run: &RunData<C>,
@@ -73,7 +78,12 @@ fn decide_block<C: Case + Send + Sync, T: RunTables<C> + Send + Sync, R: Threads
 }
 
 // All phases, until each block is finished.
-fn decide_blocks<C: Case + Send + Sync, T: RunTables<C> + Send + Sync, R: Threads + Wait + Sync, G: Gate + Sync>(
+fn decide_blocks<
+    C: Case + Send + Sync,
+    T: RunTables<C> + Send + Sync,
+    R: Threads + Wait + Sync,
+    G: Gate + Sync,
+>(
     rt: &R,
     alloc: Global,
     run: &RunData<C>,
@@ -125,7 +135,9 @@ fn decide_blocks<C: Case + Send + Sync, T: RunTables<C> + Send + Sync, R: Thread
 pub fn decide_by_workers<
     C: Case + Send + Sync,
     T: RunTables<C> + Send + Sync,
-    R: Threads + Wait + Sync, G: Gate + Sync>(
+    R: Threads + Wait + Sync,
+    G: Gate + Sync,
+>(
     rt: &R,
     alloc: Global,
     run: &RunData<C>,

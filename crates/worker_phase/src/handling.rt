@@ -9,10 +9,10 @@ use std::alloc::{AllocError, Global};
 use std::marker::PhantomData;
 use std::sync::Wait;
 use table_publish::Seer;
+use table_versions::RunTables;
 use upcall_handler::handle_all;
 use upcall_queue::Pass;
 use upcalls::Upcall;
-use table_versions::RunTables;
 
 /// How many upcalls a handler takes at a time, at most.
 const MOST_UPCALLS: usize = 32;

@@ -16,8 +16,8 @@ use std::marker::Brand;
 use std::sync::Wait;
 use std::thread::Threads;
 use table_publish::{Editor, Seer, publish};
-use upcall_queue::UpcallQueue;
 use table_versions::RunTables;
+use upcall_queue::UpcallQueue;
 
 /// How many workers of each kind a run has, the editor of its tables, and a seer of them for each handler and for the
 /// revalidator. End it by `end`.

@@ -12,8 +12,8 @@ use std::sync::{Condvar, Mutex, Wait};
 use std::thread;
 use std::time::Duration;
 use table_publish::Seer;
-use upcall_queue::UpcallQueue;
 use table_versions::RunTables;
+use upcall_queue::UpcallQueue;
 
 /// In how many turns of waiting a worker yields. In later ones it sleeps.
 const YIELDS: u32 = 16;

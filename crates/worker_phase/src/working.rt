@@ -17,8 +17,8 @@ use std::sync::atomic::AtomicU64;
 use std::sync::{Condvar, Wait};
 use std::thread::Threads;
 use table_publish::{Editor, Seer};
-use upcall_queue::{Pass, UpcallQueue};
 use table_versions::RunTables;
+use upcall_queue::{Pass, UpcallQueue};
 
 // Works at a block in threads. It gives the seers back, and the boards as they come out of their locks.
 fn work_in_threads<

@@ -14,12 +14,12 @@ use pcap_reader::{Trace, read_trace};
 use pmd_board::Board;
 use run_case::{Case, Ports, RunData};
 use run_edits::RunEdits;
+use run_tables::ClassifierTables;
 use std::alloc::{AllocError, Global};
 use std::marker::Brand;
 use std::process::Abort;
 use std::sync::Wait;
 use std::test::Fail;
-use run_tables::ClassifierTables;
 use table_publish::{Editor, publish};
 use table_versions::RunTables;
 
