@@ -1,8 +1,8 @@
 """What the gate costs by crate, checks/costs.tsv, and what of it is held to a budget.
 
 A row has the processor seconds of a crate's proof, its tests and its must-fail edits, the most memory in MB that a
-process had that proved the crate or its tests, and the commit that these are of. A cell is empty where there is nothing
-to do, or too little to be seen.
+process had that proved the crate or its tests, and the commit that these are of. A cell is empty where there is
+nothing to do, or too little to be seen.
 """
 import csv
 import os
@@ -13,8 +13,8 @@ TABLE = "checks/costs.tsv"
 KINDS = ("proof", "tests", "edits")
 COLUMNS = ("crate", *KINDS, "memory", "commit")
 
-# The budget: processor seconds of the whole gate from nothing, of the proof of the program alone, and of the longest chain
-# of crates that wait for one another below it; and the most memory of a check, in MB.
+# The budget: processor seconds of the whole gate from nothing, of the proof of the program alone, and of the longest
+# chain of crates below it that wait for one another; and the most memory of a check, in MB.
 PROGRAM = "megaswitch"
 MOST_IN_ALL, MOST_OF_PROGRAM, MOST_OF_CHAIN, MOST_MEMORY = 10_000, 5_500, 1_000, 3_000
 
@@ -32,8 +32,8 @@ def number_in(row, column):
     return int(row.get(column) or 0)
 
 
-def seconds_in(row, kinds=KINDS):
-    return sum(number_in(row, kind) for kind in kinds)
+def seconds_in(row):
+    return sum(number_in(row, kind) for kind in KINDS)
 
 
 def write_rows(rows):
@@ -56,7 +56,7 @@ def longest_chain(below, seconds):
     length, chain = {}, {}
     for name, others in below.items():
         before = max(others, key=length.get, default=None)
-        length[name] = seconds.get(name, 0) + length.get(before, 0)
+        length[name] = seconds[name] + length.get(before, 0)
         chain[name] = [*chain.get(before, []), name]
     return chain[max(length, key=length.get)]
 
@@ -69,13 +69,16 @@ def against(what, used, most, unit):
 
 def totals(rows):
     """The lines that hold the table to the budget."""
-    yield f"{TABLE}: " + ", ".join(f"{sum(seconds_in(row, [kind]) for row in rows.values()):,} s for {kind}" for kind in KINDS)
-    yield against("the gate from nothing", sum(map(seconds_in, rows.values())), MOST_IN_ALL, "s")
+    of_kinds = {kind: sum(number_in(row, kind) for row in rows.values()) for kind in KINDS}
+    yield f"{TABLE}: " + ", ".join(f"{seconds:,} s for {kind}" for kind, seconds in of_kinds.items())
+    yield against("the gate from nothing", sum(of_kinds.values()), MOST_IN_ALL, "s")
     below = program_of(PROGRAM)
-    proofs = {name: seconds_in(rows[name], ["proof"]) for name in below if name in rows}
-    yield against(f"the proof of {PROGRAM} and the {len(below) - 1} crates below it", sum(proofs.values()), MOST_OF_PROGRAM, "s")
+    proofs = {name: number_in(rows.get(name, {}), "proof") for name in below}
+    what = f"the proof of {PROGRAM} and the {len(below) - 1} crates below it"
+    yield against(what, sum(proofs.values()), MOST_OF_PROGRAM, "s")
     chain = longest_chain(below, proofs)
-    yield against("its longest chain", sum(proofs.get(name, 0) for name in chain), MOST_OF_CHAIN, "s") + f": {' > '.join(chain)}"
+    what = against("its longest chain", sum(proofs[name] for name in chain), MOST_OF_CHAIN, "s")
+    yield f"{what}: {' > '.join(chain)}"
     largest = max(rows.values(), key=lambda row: number_in(row, "memory"), default={})
     yield against(f"the largest check, {largest.get('crate')}", number_in(largest, "memory"), MOST_MEMORY, "MB")
     missing = missing_in(rows)

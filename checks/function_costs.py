@@ -11,16 +11,16 @@ from processes import lines_under_watch, seconds_of
 sys.path.insert(0, os.path.join(TOP, "tools"))
 import kit
 
-# The last of Rattle's stages before that in which proofs are checked. These read the crate and the interfaces below it.
-LAST_BEFORE_PROOFS = "batches"
+# The last of Rattle's stages that read the crate and the interfaces below it. Then proofs are checked.
+LAST_OF_READING = "batches"
 CHECKED = re.compile(r"checked (\S+), \d+ of \d+")
 # The seconds of a function that has a line of its own.
 TOLD = 0.1
 
 
 class Timed:
-    """A check under a clock: the processor seconds until it had read what is below, those of each function since the one
-    before it, and those after the last."""
+    """A check under a clock: the processor seconds until it had read what is below, those of each function since the
+    one before it, and those after the last."""
 
     def __init__(self, words, folder, stages):
         self.stages, self.used, self.reading, self.functions, self.lines = stages, 0, None, [], []
@@ -38,7 +38,7 @@ class Timed:
     def look(self):
         # Until it is waited for, an ended process keeps what it used.
         self.used = seconds_of(self.run.pid)
-        if self.reading is None and LAST_BEFORE_PROOFS in stages_in(self.stages):
+        if self.reading is None and LAST_OF_READING in stages_in(self.stages):
             self.reading = self.used
 
 
@@ -62,13 +62,13 @@ def timed_check(rtlib, crate):
 
 
 def tell_functions(name):
-    """Checks a crate from nothing over built libraries, and tells the seconds of its functions, dearest first: 0 where it
-    is proved."""
+    """Checks a crate from nothing over built libraries, and tells the seconds of its functions, dearest first: the
+    status, 0 where it is proved."""
     rtlib = kit.load()
     crate = rtlib.Crate(os.path.abspath(f"crates/{name}"), os.getcwd(), {})
     missing = [library.name for library in crate.below() if not library.is_built()]
     if missing:
-        print(f"{name}: {len(missing)} libraries below it aren't built, {missing[0]} first; tools/prove {name} builds them")
+        print(f"{name}: {len(missing)} libraries below it aren't built, {missing[0]} first: tools/prove builds them")
         return 2
     timed, peak = timed_check(rtlib, crate)
     if timed.status:
@@ -77,8 +77,9 @@ def tell_functions(name):
     print(f"{name}: {timed.used:.1f} s for {len(timed.functions)} functions, and {peak:,.0f} MB at most")
     print(f"{timed.reading or 0:7.1f}  to read the crate and the interfaces below it")
     print(f"{timed.after:7.1f}  after the last function")
-    first, told = timed.functions[:1], [it for it in timed.functions if it[0] >= TOLD]
+    told = [it for it in timed.functions if it[0] >= TOLD]
     for seconds, function in sorted(told, reverse=True):
-        print(f"{seconds:7.1f}  {function}" + ", the first, with what is loaded for all" * ((seconds, function) in first))
+        note = ", the first, with what is loaded for all" if function == timed.functions[0][1] else ""
+        print(f"{seconds:7.1f}  {function}{note}")
     print(f"{sum(seconds for seconds, _ in timed.functions if seconds < TOLD):7.1f}  the other functions")
     return 0

@@ -6,7 +6,7 @@ TICKS = os.sysconf("SC_CLK_TCK")
 
 
 def lines_under_watch(run, look, pause):
-    """The lines that a command prints. `look` is called before those that came together, and each `pause` in seconds."""
+    """The lines that a command prints. `look` is called before those that came together, and each `pause` seconds."""
     text = b""
     while True:
         ready = select.select([run.stdout], [], [], pause)[0]
@@ -52,8 +52,8 @@ def running():
 
 
 class Watched:
-    """The work of the processes below one, where `work_of` tells from a process's words and folder what it works on, or
-    None. What a process's own children do is its work too."""
+    """The work of the processes below one: `work_of` tells from a process's words and folder what it works on, or
+    None. What its own children do is its work too."""
 
     def __init__(self, top, work_of):
         self.top, self.work_of = top, work_of

@@ -1,6 +1,7 @@
 """The Rattle kit's own rtlib, in which `rt` has what a crate is, and how it is checked and built.
 
-Its names are no promise of the kit: where one that is used here isn't there, `load` says so, and who calls does without.
+Its names are no promise of the kit: where one that is used here isn't there, `load` says so, and who calls does
+without.
 """
 import importlib.machinery
 import importlib.util
@@ -48,8 +49,8 @@ def load():
 
 
 def keep_stamps(rtlib):
-    """Has a crate's stamp made once, until `forget_stamps`: a stamp reads the files of all crates below, which rtlib does
-    anew for each way that leads down to a crate."""
+    """Has a crate's stamp made once, until `forget_stamps`: a stamp reads the files of all crates below, which rtlib
+    does anew for each way that leads down to a crate."""
     make, kept = rtlib.Crate.stamp, {}
 
     def stamp(crate):
