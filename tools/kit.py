@@ -10,7 +10,7 @@ import shutil
 import sys
 
 # What is used of rtlib, and of its class Crate.
-NAMES = ("Crate", "KIT", "RATTLE", "guarded", "sum_of", "text_of")
+NAMES = ("Crate", "KIT", "RATTLE", "guarded", "help_of", "sum_of", "text_of")
 NAMES_OF_CRATE = ("below", "count", "is_built", "need", "stamp", "words")
 
 
@@ -44,6 +44,8 @@ def load():
         raise OtherKit(f"{path} can't be loaded: {error}") from error
     if missing:
         raise OtherKit(f"{path} has no {missing[0]}")
+    if "--statements" not in rtlib.help_of("build"):
+        raise OtherKit("its `rattle build` has no --statements")
     keep_stamps(rtlib)
     return rtlib
 
