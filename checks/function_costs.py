@@ -1,5 +1,5 @@
-"""What a check of one crate spends on each of its functions, on each of its own files of definitions and lemmas, and on
-what is made of its types: `checks/costs --functions CRATE`."""
+"""What a check of one crate is spent on: each of its functions, each of its own files of definitions and lemmas, and
+what is made of its types, as `checks/costs --functions CRATE` tells."""
 import bisect
 import os
 import re
@@ -101,7 +101,7 @@ def timed_check(rtlib, crate):
 
 
 def tell_functions(name):
-    """Checks a crate from nothing over built libraries, and tells what it spends on what, dearest first: the status, 0
+    """Checks a crate from nothing over built libraries, and tells what that is spent on, dearest first: the status, 0
     where it is proved."""
     rtlib = kit.load()
     crate = rtlib.Crate(os.path.abspath(f"crates/{name}"), os.getcwd(), {})
