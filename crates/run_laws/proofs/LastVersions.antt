@@ -40,7 +40,7 @@ module _ (s : State) (place : ℕ) (is : is_decided (place_at place s) ≡ true)
       by_cases (inr r) = r
 
 -- The place of a decision is one of the port's trace.
-abbrev IsWithin : Run → ℕ → ℕ → Type 0
+abbrev pub IsWithin : Run → ℕ → ℕ → Type 0
 IsWithin run port place = (1 ≤ place) × (place ≤ length (frames_of run port))
 
 module _ (run : Run) (port : ℕ) where
@@ -57,7 +57,7 @@ module _ (run : Run) (port : ℕ) where
           let last = decided_upto t place (ap is_decided is) in
           (omega (arith, same, decided_from t place (ap is_decided is)), omega (arith, same, last, count))
 
-  decisions_within : (done steps : List Step) (s : State) (d : Decision) → s ≡ after run port done → Among d (decisions_from run port s steps) → IsWithin run port d.place
+  pub decisions_within : (done steps : List Step) (s : State) (d : Decision) → s ≡ after run port done → Among d (decisions_from run port s steps) → IsWithin run port d.place
   unfolding decisions_from
   decisions_within done [] s d is there = absurd there
   decisions_within done (step ∷ steps) s d is there =
