@@ -7,8 +7,8 @@
 plain_path() {
     local command
     mkdir -p "$room/plain" || return 1
-    for command in sh awk cat chmod dirname find getconf gzip head mkdir mktemp mv readlink rm sed sha256sum sleep \
-        sort tail touch wc; do
+    for command in sh awk cat chmod dirname find getconf gzip head mkdir mktemp mv readlink rm rmdir sed sha256sum \
+        sleep sort tail touch wc; do
         ln -sf "$(type -P "$command")" "$room/plain" || return 1
     done
 }
@@ -70,17 +70,22 @@ launcher=./megaswitch
 path=$room/plain
 path_with_kit=$room/kit:$room/plain:/usr/bin:/bin
 
+# Runs the launcher, and ends with its status. What it prints is in two files.
+launch() {
+    PATH=$path XDG_CACHE_HOME=$room/cache "$launcher" "$@" >"$room/said" 2>"$room/complained" </dev/null
+}
+
 # Whether the launcher runs the program that tells this name of itself, and on standard error there is this text, if
 # any, and what the program says there.
 runs() {
-    PATH=$path "$launcher" '--some words' '' last >"$room/said" 2>"$room/complained" </dev/null
+    launch '--some words' '' last
     [ $? = 5 ] && diff <(echo "$1: --some words  last") "$room/said" \
         && diff <(printf '%s' "${2:+$2$newline}" && echo "$1 complains") "$room/complained"
 }
 
 # Whether it runs nothing, for this reason.
 runs_nothing() {
-    PATH=$path "$launcher" some words >"$room/said" 2>"$room/complained" </dev/null
+    launch some words
     [ $? = 125 ] && [ ! -s "$room/said" ] && diff <(echo "megaswitch: $1, $no_kit") "$room/complained"
 }
 
@@ -138,7 +143,7 @@ program_that_does_not_start() {
     small_repository no_start && printf '#!/bin/sh\necho no >&2\nexit 1\n' | make_program "$built" && make_release \
         && rm -r crates/megaswitch/out \
         && runs_nothing 'the released program, for x86-64 with glibc 2.34 or later, does not start here' \
-        && [ -z "$(ls -A release/out)" ]
+        && [ ! -e release/out ] && [ -z "$(ls -A "$room/cache/megaswitch")" ]
 }
 
 # Whether it runs as released, by a user who isn't root and has these settings, and this is said.
@@ -201,8 +206,9 @@ proved_by_the_kit() {
 }
 
 not_proved() {
+    path=$path_with_kit
     small_repository not_proved && make_prover 1 || return 1
-    PATH=$path_with_kit ./megaswitch some words >"$room/said" 2>"$room/complained"
+    launch some words
     [ $? = 125 ] && [ ! -s "$room/said" ] \
         && diff <(echo "megaswitch: there is no release; $proving" && echo 'prove: megaswitch') "$room/complained"
 }
@@ -226,7 +232,8 @@ proof_is_stopped() {
 
 # Whether the launcher of a program answers these words on standard output alone, and ends with 0.
 answers() {
-    PATH=$path "$top/$1" "${@:2}" >"$room/said" 2>"$room/complained" && [ ! -s "$room/complained" ]
+    launcher=$top/$1
+    launch "${@:2}" && [ ! -s "$room/complained" ]
 }
 
 # The statuses that are told are those of the manual page.
@@ -255,7 +262,7 @@ help_is_whole() {
 
 # Whether a program of a small repository runs on these words.
 runs_on() {
-    PATH=$path ./megaswitch "$@" >"$room/said" 2>"$room/complained"
+    launch "$@"
     [ $? = 5 ] && diff <(echo "released: $*") "$room/said"
 }
 
@@ -266,7 +273,7 @@ other_words_are_passed() {
 
 # Whether the version is told in these lines.
 tells_version() {
-    PATH=$path ./megaswitch --version 2>&1 | diff - <(printf '%s\n' "$@")
+    launch --version && [ ! -s "$room/complained" ] && diff <(printf '%s\n' "$@") "$room/said"
 }
 
 version_is_told() {
@@ -350,16 +357,19 @@ release_is_the_proved_build() {
     gzip -dc "release/$1.gz" | cmp - "crates/$1/out/$1"
 }
 
-# Whether a copy of the files that a clone has runs the released programs, with no kit and within a minute.
+# Whether a copy of the repository, with nothing built or unpacked, runs the released programs within a minute, and
+# with no kit.
 clone_runs_at_once() {
     local begun=$SECONDS name
-    plain_path && mkdir "$room/clone" && git ls-files -z | tar -c --null -T - | tar -x -C "$room/clone" \
+    plain_path && mkdir "$room/clone" && tar -c --exclude=./.git --exclude=out . | tar -x -C "$room/clone" \
         && cd "$room/clone" || return 1
     for name in $programs; do
-        PATH=$path "./$name" >"$room/said" 2>"$room/complained"
+        launcher=./$name
+        launch
         [ $? = 2 ] && diff <(echo "${unpacked/megaswitch/$name} to $PWD/release/out${how/megaswitch/$name}") \
             "$room/complained" || return 1
     done
-    PATH=$path ./megaswitch --generate 7 >"$room/said" 2>"$room/complained" && [ ! -s "$room/complained" ] \
+    launcher=./megaswitch
+    launch --generate 7 && [ ! -s "$room/complained" ] \
         && grep -x 'ports=4 frames=20000 edits=81 blocks=2' "$room/said" && [ $((SECONDS - begun)) -lt 60 ]
 }
