@@ -19,8 +19,9 @@ use pmd_board::{
 };
 use run_case::{Case, RunData};
 use run_edits::RunEdits;
-use run_tables::Tables;
+use run_tables::ClassifierTables;
 use std::alloc::{AllocError, Global};
+use table_versions::Tables;
 
 /// A call of a board, with what it is to answer.
 #[derive(Clone, Copy)]
@@ -70,7 +71,7 @@ fn translation<C: Case>(
     requires made { version ≤ last_version C.run }
     ensures { IfOk result (λ x. x.key ≡ numbers key.now) }
 {
-    let mut tables = Tables::new(alloc);
+    let mut tables = Tables::<C, ClassifierTables<C>>::new(alloc);
     tables.follow(edits, version)?;
     tables.translate(run, key, SpareLists::new(alloc))
 }

@@ -149,7 +149,7 @@ pub trait Sink {
 /// A point of a run at which threads can be held, so that a test picks their order.
 ///
 /// Ports are from 1 to 65,279. Places of frames in a trace and numbers of entries are from 1.
-#[derive(Clone, Copy, Debug)]
+#[derive(Clone, Copy, Debug, PartialEq, Eq)]
 pub enum Point {
     /// Before a batch of frames of this ingress port is looked up.
     Batch { port: u16 },

@@ -28,7 +28,7 @@
 //!
 //! # What is left to others
 //!
-//! That every frame is decided (`step_runner`, whose `Finished` has it as its type), the name of the file, and that
+//! That every frame is decided (`run_boards`, whose `Finished` has it as its type), the name of the file, and that
 //! files are written for all ports.
 #![tactic(auto)]
 

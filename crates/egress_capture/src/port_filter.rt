@@ -5,10 +5,10 @@ ghost use Rattle.spec_case.specs.Arrivals.{in_order, arrivals as came_in};
 ghost use Rattle.egress_capture.specs.Sending.{sends_to};
 ghost use Rattle.egress_capture.specs.Filters.{bit_of, PassesAll, AreFilters};
 
+use run_boards::Finished;
 use run_case::{Case, RunData};
 use spec_actions::DpAction;
 use std::alloc::{AllocError, Global};
-use step_runner::Finished;
 
 /// How many bits a filter has.
 const BITS: u16 = 32;

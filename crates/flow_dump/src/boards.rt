@@ -12,9 +12,9 @@ use crate::journal::write_journal;
 use crate::megaflows::write_entries;
 use edge_io::{Failed, Shelf, write_file};
 use pmd_board::Board;
+use run_boards::Finished;
 use run_case::Case;
 use std::alloc::Global;
-use step_runner::Finished;
 
 /// What is written of each board.
 #[derive(Clone, Copy)]

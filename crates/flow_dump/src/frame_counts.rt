@@ -9,9 +9,9 @@ ghost use Rattle.pmd_board.specs.BoardView.{journal_view};
 
 use action_exec::is_output;
 use pmd_board::Board;
+use run_boards::Finished;
 use run_case::{Case, RunData};
 use spec_actions::DpAction;
-use step_runner::Finished;
 
 /// How often frames are sent, and how many are sent nowhere.
 #[derive(Clone, Copy)]

@@ -39,7 +39,7 @@
 //! # What is left to others
 //!
 //! The text of a step (`board_steps`), of a rule (`rule_lines`) and of a megaflow (`megaflow_lines`), that the boards are
-//! finished and in the order of the words (`step_runner`), and the name of the file. What a shelf does with a file that
+//! finished and in the order of the words (`run_boards`), and the name of the file. What a shelf does with a file that
 //! was written in part: it may still be in use.
 #![tactic(auto)]
 

@@ -12,10 +12,10 @@ use edge_io::{Failed, Shelf, write_all, write_file};
 use rule_lines::{RulePlace, is_gone, live_in_order, push_gone, push_live};
 use rule_sums::count_rules;
 use rule_tables::VersionedRules;
+use run_boards::Finished;
 use run_case::{Case, RunData};
 use spec_dumps::RuleCounts;
 use std::alloc::Global;
-use step_runner::Finished;
 
 // Writes the line of a rule that is live.
 fn write_live<S: Shelf>(

@@ -4,9 +4,9 @@ ghost use Rattle.board_steps.specs.StepViews.{step_view, steps_view};
 ghost use Rattle.flow_dump.specs.StepCounts as counts;
 
 use board_steps::{Settled, Step};
+use run_boards::Finished;
 use run_case::Case;
 use spec_board::Looked;
-use step_runner::Finished;
 
 /// How many steps there are of each result.
 ///

@@ -6,11 +6,11 @@ ghost use Rattle.spec_dumps.specs.Summary as summary;
 use crate::frame_counts::count_all_frames;
 use crate::step_counts::count_all_steps;
 use edge_io::{Failed, Sink, say_all};
+use run_boards::Finished;
 use run_case::{Case, RunData};
 use spec_dumps::Ran;
 use std::alloc::{AllocError, Global};
 use std::fmt::Write;
-use step_runner::Finished;
 
 // How many frames came in, at all ports.
 fn frame_count<C: Case>(run: &RunData<C>) -> u128

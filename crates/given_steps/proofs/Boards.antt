@@ -10,8 +10,8 @@ use Rattle.spec_board.specs.Schedules as schedules
 use Rattle.spec_board.specs.Journals.{IsLegal}
 use Rattle.board_laws.proofs.Kept.{kept_after}
 use Rattle.pmd_board.specs.BoardView.{BoardView, Appends, state_of}
-use Rattle.step_runner.specs.Scheduled.{under_way}
-use Rattle.step_runner.proofs.Scheduled.{state_after, put_step}
+use Rattle.run_boards.specs.Scheduled.{under_way}
+use Rattle.run_boards.proofs.Scheduled.{state_after, put_step}
 use Rattle.given_steps.specs.Keys.{IsKeyOfEntry}
 use Rattle.given_steps.specs.Taken.{GoesOn, TookIf}
 use Rattle.given_steps.proofs.Entries.{keys_stay}

@@ -13,8 +13,8 @@ use Rattle.spec_board.specs.State.{Entry}
 use Rattle.spec_board.specs.Results.{key_at, looked, entry_of}
 use Rattle.spec_board.specs.Schedules.{Board, Schedule, with_step, look_next, settle_at, put_entry, put_at, swept, with_sweep_ended, pending_places, with_pending_settled, with_sweep_made, settle_if_missed, decide_next, with_all_decided, with_next_opened, finish_board, least_block, finish_block, finish}
 use Rattle.spec_run.specs.Journals.{journal_in}
-use Rattle.step_runner.specs.Scheduled.{finished_in}
-use Rattle.step_runner.specs.Finished.{journals_in}
+use Rattle.run_boards.specs.Scheduled.{finished_in}
+use Rattle.run_boards.specs.Finished.{journals_in}
 use Rattle.given_steps.specs.Running.{without_kept}
 
 -- ---- one board: each stage does the same without kept translations

@@ -13,7 +13,7 @@ use Rattle.spec_board.specs.Effects.{is_among}
 use Rattle.spec_board.specs.Schedules as schedules
 use Rattle.spec_board.specs.GivenSteps.{Met, met_if, given_step, kept_version, given_up, keeping, settle_kept, put_kept, port_of}
 use Rattle.pmd_board.specs.BoardView.{BoardView, state_of}
-use Rattle.step_runner.specs.Scheduled.{under_way}
+use Rattle.run_boards.specs.Scheduled.{under_way}
 use Rattle.given_steps.specs.Translations.{versions}
 use Rattle.given_steps.specs.ScheduledViews.{ScheduledView, scheduled}
 use Rattle.given_steps.specs.ByNumber.{NumberedBoard, by_number}

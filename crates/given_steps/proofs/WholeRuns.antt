@@ -10,10 +10,10 @@ use Rattle.spec_board.specs.GivenSteps.{with_given_steps}
 use Rattle.spec_board.specs.Scheduled as whole_runs
 use Rattle.spec_run.specs.Journals.{scheduled_journals}
 use Rattle.pmd_board.specs.BoardView.{BoardView}
-use Rattle.step_runner.specs.Scheduled.{under_way, schedule_of, block_to_finish, IsNew}
-use Rattle.step_runner.specs.Boards.{AreBoards}
-use Rattle.step_runner.specs.Finished.{journals_in}
-use Rattle.step_runner.proofs.BoardLists.{ports_of}
+use Rattle.run_boards.specs.Scheduled.{under_way, schedule_of, block_to_finish, IsNew}
+use Rattle.run_boards.specs.Boards.{AreBoards}
+use Rattle.run_boards.specs.Finished.{journals_in}
+use Rattle.run_boards.proofs.BoardLists.{ports_of}
 use Rattle.given_steps.specs.ScheduledViews.{ScheduledView, scheduled}
 use Rattle.given_steps.specs.Running.{AreOfPorts, block_of_all, without_kept}
 use Rattle.given_steps.proofs.GivenUp.{given_up, least_kept, journals_kept, finish_unmet}

@@ -5,7 +5,7 @@ use Rattle.spec_case.specs.declared.run_step.RunStep.{RunStep}
 use Rattle.spec_board.specs.Schedules as schedules
 use Rattle.spec_board.specs.GivenSteps.{given_step}
 use Rattle.pmd_board.specs.BoardView.{BoardView, state_of}
-use Rattle.step_runner.specs.Scheduled.{under_way}
+use Rattle.run_boards.specs.Scheduled.{under_way}
 use Rattle.given_steps.specs.Keys.{IsKeyOfEntry}
 use Rattle.given_steps.specs.ScheduledViews.{ScheduledView, scheduled}
 use Rattle.given_steps.specs.ByNumber.{by_number}

@@ -8,7 +8,7 @@ ghost use Rattle.spec_board.specs.Effects.{is_among, key_of_entry};
 ghost use Rattle.spec_board.specs.Refusals.{open_fault, look_fault, settle_fault, begin_fault, put_fault, end_fault};
 ghost use Rattle.spec_board.specs.Schedules as schedules;
 ghost use Rattle.pmd_board.specs.BoardView.{state_of};
-ghost use Rattle.step_runner.specs.Scheduled.{under_way};
+ghost use Rattle.run_boards.specs.Scheduled.{under_way};
 ghost use Rattle.given_steps.specs.Taken.{GoesOn, TookIf};
 
 use pmd_board::{BeginFault, Board, SettleFault, Xlated};

@@ -7,29 +7,30 @@ ghost use Rattle.spec_steps.specs.Steps.{most_steps};
 ghost use Rattle.spec_board.specs.GivenSteps.{with_given_steps};
 ghost use Rattle.spec_board.specs.Scheduled as whole_runs;
 ghost use Rattle.spec_run.specs.Journals.{AreJournals};
-ghost use Rattle.step_runner.specs.Scheduled.{block_to_finish, schedule_of, under_way};
+ghost use Rattle.run_boards.specs.Scheduled.{block_to_finish, schedule_of, under_way};
 ghost use Rattle.given_steps.specs.Running.{without_kept};
 
 use crate::schedule::{boards_after, scheduled_boards, take_given};
+use run_boards::{Boards, Finished};
 use run_case::{Case, RunData};
 use run_edits::RunEdits;
-use run_tables::Tables;
 use spec_case::RunStep;
 use spec_dumps::Ran;
 use std::alloc::{AllocError, Global};
-use step_runner::{Boards, Finished, finish};
+use step_runner::finish;
+use table_versions::{RunTables, Tables};
 
 /// Carries out given steps on the boards of a run, one after the other, and answers the boards, how many steps there were
 /// and how many of them were not met. One that isn't met is passed over. Translations that are kept at the end are given
 /// up.
 ///
 /// It takes memory; where there is none, the boards are given up, and the tables are left on the way.
-pub fn run_steps<C: Case>(
+pub fn run_steps<C: Case, T: RunTables<C>>(
     alloc: Global,
     run: &RunData<C>,
     edits: &RunEdits<C>,
     boards: Boards<C>,
-    tables: &mut Tables<C>,
+    tables: &mut Tables<C, T>,
     steps: &[RunStep],
 ) -> Result<(Boards<C>, Ran), AllocError>
     requires few { length steps.now ≤ most_steps }
@@ -63,7 +64,7 @@ pub fn run_steps<C: Case>(
 /// those of the schedule; where no steps are given, each frame is decided under the last version of its block.
 ///
 /// It takes memory for the boards, the tables, kept translations and the arrivals of all frames; there may be none.
-pub fn run_schedule<C: Case>(
+pub fn run_schedule<C: Case, T: RunTables<C>>(
     alloc: Global,
     run: &RunData<C>,
     edits: &RunEdits<C>,
@@ -79,7 +80,7 @@ pub fn run_schedule<C: Case>(
     ensures unmet { IfOk result (λ r. r.1.unmet ≡ (whole_runs.scheduled C.run).unmet) }
 {
     let boards = Boards::new(alloc, run, flow_limit)?;
-    let mut tables = Tables::new(alloc);
+    let mut tables = Tables::<C, T>::new(alloc);
     let (left, ran) = run_steps(alloc, run, edits, boards, &mut tables, steps)?;
     // There is one board for each port, with the run's flow limit.
     let _ = left.as_slice();

@@ -2,7 +2,7 @@
 ghost use Rattle.std.specs.Prelude.{◌≡◌, ◌+◌, ◌≤◌, ℕ, All, map, nat_lt, Some, if◌then◌else◌, IfOk, OnOk};
 ghost use Rattle.spec_case.specs.Blocks.{hi, last_block};
 ghost use Rattle.spec_board.specs.GivenSteps.{counted, is_met_at, port_of, with_step_at};
-ghost use Rattle.step_runner.specs.Scheduled.{under_way};
+ghost use Rattle.run_boards.specs.Scheduled.{under_way};
 ghost use Rattle.given_steps.specs.ScheduledViews.{scheduled};
 ghost use Rattle.given_steps.specs.ByNumber.{by_number, all_by_number};
 ghost use Rattle.given_steps.specs.Running.{AreOfPorts, block_of_all, board_of, schedule_in, stepped_at, without_kept};
@@ -10,12 +10,12 @@ ghost use Rattle.given_steps.specs.Running.{AreOfPorts, block_of_all, board_of, 
 use crate::scheduled_board::ScheduledBoard;
 use crate::steps::take_step;
 use pmd_board::Board;
+use run_boards::Boards;
 use run_case::{Case, RunData};
 use run_edits::RunEdits;
-use run_tables::Tables;
 use spec_case::RunStep;
 use std::alloc::{AllocError, Global};
-use step_runner::Boards;
+use table_versions::{RunTables, Tables};
 
 // ---- boards that begin and end
 
@@ -102,11 +102,11 @@ fn least_block<C: Case>(run: &RunData<C>, boards: &[ScheduledBoard<C>]) -> u32
 }
 
 // Publishes the next bundle, if one of the least block of the boards is left, and answers whether it did.
-fn publish<C: Case>(
+fn publish<C: Case, T: RunTables<C>>(
     run: &RunData<C>,
     edits: &RunEdits<C>,
     boards: &[ScheduledBoard<C>],
-    tables: &mut Tables<C>,
+    tables: &mut Tables<C, T>,
 ) -> Result<bool, AllocError>
     ensures met { IfOk result
         (λ met. met ≡ nat_lt tables.old (hi C.run (block_of_all C.run boards.now))) }
@@ -121,10 +121,10 @@ fn publish<C: Case>(
 }
 
 // Carries out a given step of a port, and answers whether it is met. Where the port isn't one of the run's it isn't.
-fn take_port_step<C: Case>(
+fn take_port_step<C: Case, T: RunTables<C>>(
     alloc: Global,
     run: &RunData<C>,
-    tables: &Tables<C>,
+    tables: &Tables<C, T>,
     boards: &mut Vec<ScheduledBoard<C>>,
     port: u16,
     step: &RunStep,
@@ -151,11 +151,11 @@ fn take_port_step<C: Case>(
 /// Carries out a given step, and answers whether it is met.
 ///
 /// It takes memory; where there is none, boards and tables are left on the way.
-pub(crate) fn take_given<C: Case>(
+pub(crate) fn take_given<C: Case, T: RunTables<C>>(
     alloc: Global,
     run: &RunData<C>,
     edits: &RunEdits<C>,
-    tables: &mut Tables<C>,
+    tables: &mut Tables<C, T>,
     boards: &mut Vec<ScheduledBoard<C>>,
     step: &RunStep,
 ) -> Result<bool, AllocError>

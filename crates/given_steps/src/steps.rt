@@ -18,9 +18,9 @@ use ovs_fields::Key;
 use pipe_model::SpareLists;
 use pmd_board::Board;
 use run_case::{Case, RunData};
-use run_tables::Tables;
 use spec_case::RunStep;
 use std::alloc::{AllocError, Global};
+use table_versions::{RunTables, Tables};
 
 // ---- frames
 
@@ -39,10 +39,10 @@ fn rx<C: Case>(run: &RunData<C>, board: &mut ScheduledBoard<C>) -> bool
 }
 
 // The key of a pending frame is translated, and the translation is kept.
-fn snap<C: Case>(
+fn snap<C: Case, T: RunTables<C>>(
     alloc: Global,
     run: &RunData<C>,
-    tables: &Tables<C>,
+    tables: &Tables<C, T>,
     board: &mut ScheduledBoard<C>,
     place: u32,
 ) -> Result<bool, AllocError>
@@ -82,7 +82,10 @@ fn settle<C: Case>(
 // ---- sweeps
 
 // A sweep of the tables' version begins.
-fn sweep<C: Case>(tables: &Tables<C>, board: &mut ScheduledBoard<C>) -> Result<bool, AllocError>
+fn sweep<C: Case, T: RunTables<C>>(
+    tables: &Tables<C, T>,
+    board: &mut ScheduledBoard<C>,
+) -> Result<bool, AllocError>
     ensures { IfOk result
         (λ met. Takes C.run tables.now (given.Sweep board.old.board.port)
         board.old met board.new) }
@@ -106,10 +109,10 @@ fn listed_key<C: Case>(board: &Board<C>, number: u32) -> Option<Key>
 }
 
 // The key of a listed entry is translated, and the translation is kept.
-fn check<C: Case>(
+fn check<C: Case, T: RunTables<C>>(
     alloc: Global,
     run: &RunData<C>,
-    tables: &Tables<C>,
+    tables: &Tables<C, T>,
     board: &mut ScheduledBoard<C>,
     entry: u32,
 ) -> Result<bool, AllocError>
@@ -163,10 +166,10 @@ fn open<C: Case>(run: &RunData<C>, board: &mut ScheduledBoard<C>) -> bool
 // ---- all of them
 
 // A given step is carried out at the board of its port.
-fn taken<C: Case>(
+fn taken<C: Case, T: RunTables<C>>(
     alloc: Global,
     run: &RunData<C>,
-    tables: &Tables<C>,
+    tables: &Tables<C, T>,
     board: &mut ScheduledBoard<C>,
     step: RunStep,
 ) -> Result<bool, AllocError>
@@ -190,10 +193,10 @@ fn taken<C: Case>(
 /// Carries out a given step at the board of its port, and answers whether it is met. It translates one key at most.
 ///
 /// The only error is out of memory, and then the board is left on the way.
-pub fn take_step<C: Case>(
+pub fn take_step<C: Case, T: RunTables<C>>(
     alloc: Global,
     run: &RunData<C>,
-    tables: &Tables<C>,
+    tables: &Tables<C, T>,
     board: &mut ScheduledBoard<C>,
     step: &RunStep,
 ) -> Result<bool, AllocError>

@@ -8,10 +8,10 @@ ghost use Rattle.edge_io.specs.Written.{WritesAll, WritesFile};
 use crate::datagram::{HEADER_SIZE, MOST_RECORDS, RECORD_SIZE, fill_datagram};
 use crate::run_flows::{export_time, flows};
 use edge_io::{Failed, Shelf, write_all, write_file};
+use run_boards::Finished;
 use run_case::{Case, RunData};
 use spec_netflow::{ExportTime, FlowRecord};
 use std::alloc::Global;
-use step_runner::Finished;
 
 // Writes the datagrams of these records, one after the other, each by one call.
 fn write_datagrams<S: Shelf>(

@@ -8,11 +8,11 @@ ghost use Rattle.frame_arrivals.specs.Arrivals.{IsArrival};
 use crate::flow::alone;
 use crate::flow_table::FlowTable;
 use frame_layout::{L3, layout_of};
+use run_boards::Finished;
 use run_case::{Case, RunData};
 use spec_case::Arrival;
 use spec_netflow::{ExportTime, FlowRecord};
 use std::alloc::{AllocError, Global};
-use step_runner::Finished;
 
 /// A second in nanoseconds.
 const SECOND: u64 = 1_000_000_000;

@@ -23,7 +23,7 @@
 //!
 //! # What is left to others
 //!
-//! That every frame is decided (`step_runner`, whose `Finished` has it as its type), how a mirror is read (`mirror_script`),
+//! That every frame is decided (`run_boards`, whose `Finished` has it as its type), how a mirror is read (`mirror_script`),
 //! the name of the file, and that files are written for all mirrors.
 #![tactic(auto)]
 

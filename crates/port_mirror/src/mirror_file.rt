@@ -15,11 +15,11 @@ use action_exec::FrameBuffer;
 use edge_io::{Failed, Shelf, write_file};
 use egress_capture::{PortFilter, send_first};
 use pcap_writer::PcapWriter;
+use run_boards::Finished;
 use run_case::{Case, RunData};
 use spec_case::Arrival;
 use spec_mirrors::Mirror;
 use std::alloc::Global;
-use step_runner::Finished;
 
 // Whether a mirror copies what comes in at a port.
 fn takes_in(mirror: &Mirror, port: u16) -> bool

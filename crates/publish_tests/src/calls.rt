@@ -6,14 +6,15 @@ use run_edits::RunEdits;
 use std::process::Abort;
 use std::sync::Wait;
 use table_publish::{Editor, PublishFault, Seer};
+use table_versions::RunTables;
 
 /// Publishes the next bundle, which is to be answered so.
-pub fn publishes<C: Case, R: Wait + Abort>(
+pub fn publishes<C: Case, T: RunTables<C>, R: Wait + Abort>(
     rt: &R,
-    editor: Editor<C>,
+    editor: Editor<C, T>,
     edits: &RunEdits<C>,
     answer: Result<u32, PublishFault>,
-) -> Editor<C>
+) -> Editor<C, T>
     ensures { result.publication ≡ editor.publication }
 {
     let (editor, published) = editor.publish_next(rt, edits);
@@ -22,7 +23,11 @@ pub fn publishes<C: Case, R: Wait + Abort>(
 }
 
 /// Enters the tables, which are to be of this version, and leaves them.
-pub fn enters<C: Case, R: Wait + Abort>(rt: &R, seer: Seer<C>, version: u32) -> Seer<C>
+pub fn enters<C: Case, T: RunTables<C>, R: Wait + Abort>(
+    rt: &R,
+    seer: Seer<C, T>,
+    version: u32,
+) -> Seer<C, T>
     ensures { result.publication ≡ seer.publication }
 {
     let guard = seer.enter(rt);

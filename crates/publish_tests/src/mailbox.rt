@@ -9,12 +9,14 @@ use crate::edits::{EDITS, bundles_of, edits_of};
 use rule_tables::Edit;
 use run_case::Case;
 use run_edits::RunEdits;
+use run_tables::ClassifierTables;
 use std::alloc::Global;
 use std::marker::{Brand, Model, PhantomData};
 use std::process::Abort;
 use std::sync::{Mutex, Wait};
 use std::test::*;
 use table_publish::{Editor, News, Seer, publish};
+use table_versions::RunTables;
 
 // Names one publication.
 trait Publication {
@@ -31,12 +33,12 @@ impl Publication for Brand {
 
 // The newest news of a publication.
 #[derive(Drop)]
-struct Mailbox<C: Case, P: Publication> {
-    news: Option<News<C>>,
+struct Mailbox<C: Case, T: RunTables<C>, P: Publication> {
+    news: Option<News<C, T>>,
     of: PhantomData<P>,
 }
 
-impl<C: Case, P: Publication> Model for Mailbox<C, P> {
+impl<C: Case, T: RunTables<C>, P: Publication> Model for Mailbox<C, T, P> {
     ghost use Rattle.std.specs.Prelude.{◌≡◌, IfSome};
 
     ghost Value = { Unit {0} };
@@ -46,22 +48,22 @@ impl<C: Case, P: Publication> Model for Mailbox<C, P> {
     ghost invariant = { λ m. IfSome m.news (λ n. n.publication ≡ P.id) };
 }
 
-impl<C: Case, P: Publication> Mailbox<C, P> {
-    fn new() -> Mailbox<C, P> {
+impl<C: Case, T: RunTables<C>, P: Publication> Mailbox<C, T, P> {
+    fn new() -> Mailbox<C, T, P> {
         Mailbox {
             news: None,
             of: PhantomData,
         }
     }
 
-    fn post(&mut self, news: News<C>)
+    fn post(&mut self, news: News<C, T>)
         requires { news.publication ≡ P.id }
     {
         self.news = Some(news);
     }
 
     // Has a seer learn the news, if there are any.
-    fn inform(&mut self, seer: Seer<C>) -> Seer<C>
+    fn inform(&mut self, seer: Seer<C, T>) -> Seer<C, T>
         requires { seer.publication ≡ P.id }
         ensures publication { result.publication ≡ seer.publication }
         ensures version { seer.version ≤ result.version }
@@ -94,22 +96,22 @@ fn in_run<C: Case, R: Wait + Abort>(
     requires few { length C.run.edits ≡ EDITS }
 {
     let edits = RunEdits::<C>::new(edits, bundles);
-    let (editor, mut seers) = publish(rt, alloc, 1)?;
+    let (editor, mut seers) = publish::<C, ClassifierTables<C>, R>(rt, alloc, 1)?;
     let editor = publishes(rt, editor, &edits, Ok(1));
-    in_publication::<C, Brand, R>(rt, editor, seers.remove(0));
+    in_publication::<C, ClassifierTables<C>, Brand, R>(rt, editor, seers.remove(0));
     Ok(())
 }
 
-fn in_publication<C: Case, P: Publication, R: Wait + Abort>(
+fn in_publication<C: Case, T: RunTables<C>, P: Publication, R: Wait + Abort>(
     rt: &R,
-    editor: Editor<C>,
-    seer: Seer<C>,
+    editor: Editor<C, T>,
+    seer: Seer<C, T>,
 )
     requires editor { editor.publication ≡ P.id }
     requires seer { seer.publication ≡ P.id }
 {
     let mut editor = editor;
-    let mailbox: Mutex<Mailbox<C, P>> = Mutex::new(Mailbox::new());
+    let mailbox: Mutex<Mailbox<C, T, P>> = Mutex::new(Mailbox::new());
     let news = editor.tell(rt);
     assert_eq!(rt; news.version(), 1);
     mailbox.lock(rt).post(news);

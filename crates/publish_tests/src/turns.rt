@@ -9,6 +9,7 @@ use crate::edits::{EDITS, bundles_of, edits_of};
 use rule_tables::Edit;
 use run_case::Case;
 use run_edits::RunEdits;
+use run_tables::ClassifierTables;
 use std::alloc::Global;
 use std::marker::Brand;
 use std::process::Abort;
@@ -39,7 +40,7 @@ fn in_turn<C: Case, R: Wait + Abort>(
     requires few { length C.run.edits ≡ EDITS }
 {
     let edits = RunEdits::<C>::new(edits, bundles);
-    let (editor, mut seers) = publish(rt, alloc, SEERS)?;
+    let (editor, mut seers) = publish::<C, ClassifierTables<C>, R>(rt, alloc, SEERS)?;
     assert_eq!(rt; seers.len(), SEERS);
     let guard = seers.remove(0).enter(rt);
     let editor = publishes(rt, editor, &edits, Ok(1));

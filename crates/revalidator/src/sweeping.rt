@@ -1,22 +1,22 @@
 //! Sweeps of a board that threads share.
 ghost use Rattle.std.specs.Prelude.{◌≡◌, ◌≤◌, ◌<◌, ◌^◌, IfOk, IfSome};
-ghost use Rattle.newest_xlate.specs.Versions.{EndsBlock};
+ghost use Rattle.table_publish.specs.Versions.{EndsBlock};
 ghost use Rattle.revalidator.specs.Puts.{TellsPut};
 ghost use Rattle.revalidator.specs.Sweeps.{HasCause};
 
 use crate::lent::{begin_lent, end_lent, listed_above, put_lent};
 use crate::swept::{Begun, Putting, Swept};
 use edge_io::{Gate, Point};
-use newest_xlate::{SpareLists, translate_newest};
 use ovs_fields::Key;
 use pmd_board::{Board, Xlated};
 use run_case::{Case, RunData};
 use std::alloc::{AllocError, Global};
 use std::sync::{Mutex, Wait};
-use table_publish::Seer;
+use table_publish::{Seer, SpareLists, translate_newest};
+use table_versions::RunTables;
 
 // The version that a seer sees now.
-fn version_seen<C: Case, R: Wait>(rt: &R, seer: Seer<C>) -> (Seer<C>, u32)
+fn version_seen<C: Case, T: RunTables<C>, R: Wait>(rt: &R, seer: Seer<C, T>) -> (Seer<C, T>, u32)
     ensures publication { result.0.publication ≡ seer.publication }
     ensures newer { seer.version ≤ result.0.version }
     ensures seen { result.1 ≡ result.0.version }
@@ -51,15 +51,15 @@ fn put_and_read<C: Case, R: Wait>(
 
 // Puts each entry that the sweep of a board lists, in rising order. It answers the newest version that the board's block
 // allows, where that stopped it.
-fn put_listed<C: Case, G: Gate, R: Wait>(
+fn put_listed<C: Case, T: RunTables<C>, G: Gate, R: Wait>(
     rt: &R,
     alloc: Global,
-    seer: Seer<C>,
+    seer: Seer<C, T>,
     run: &RunData<C>,
     port: u16,
     board: &Mutex<Board<C>>,
     gate: &G,
-) -> (Seer<C>, Result<Option<u32>, AllocError>)
+) -> (Seer<C, T>, Result<Option<u32>, AllocError>)
     ensures publication { result.0.publication ≡ seer.publication }
     ensures newer { seer.version ≤ result.0.version }
     ensures cause { IfOk result.1 (λ r. IfSome r (λ hi. (hi < result.0.version) × EndsBlock C.run hi)) }
@@ -89,16 +89,16 @@ fn put_listed<C: Case, G: Gate, R: Wait>(
 }
 
 // Puts each entry that a sweep lists, and ends it. It had begun at a version.
-fn put_and_end<C: Case, G: Gate, R: Wait>(
+fn put_and_end<C: Case, T: RunTables<C>, G: Gate, R: Wait>(
     rt: &R,
     alloc: Global,
-    seer: Seer<C>,
+    seer: Seer<C, T>,
     run: &RunData<C>,
     port: u16,
     board: &Mutex<Board<C>>,
     version: u32,
     gate: &G,
-) -> (Seer<C>, Result<Swept, AllocError>)
+) -> (Seer<C, T>, Result<Swept, AllocError>)
     requires { version ≤ seer.version }
     ensures publication { result.0.publication ≡ seer.publication }
     ensures newer { seer.version ≤ result.0.version }
@@ -121,15 +121,15 @@ fn put_and_end<C: Case, G: Gate, R: Wait>(
 ///
 /// The gate is told of this port, between the translation of an entry and its put. The seer is handed back. The only
 /// error is out of memory, and then a sweep may be running.
-pub fn sweep_board<C: Case, G: Gate, R: Wait>(
+pub fn sweep_board<C: Case, T: RunTables<C>, G: Gate, R: Wait>(
     rt: &R,
     alloc: Global,
-    seer: Seer<C>,
+    seer: Seer<C, T>,
     run: &RunData<C>,
     port: u16,
     board: &Mutex<Board<C>>,
     gate: &G,
-) -> (Seer<C>, Result<Swept, AllocError>)
+) -> (Seer<C, T>, Result<Swept, AllocError>)
     ensures publication { result.0.publication ≡ seer.publication }
     ensures newer { seer.version ≤ result.0.version }
     ensures cause { IfOk result.1 (λ r. HasCause C.run seer.version result.0.version r) }

@@ -1,7 +1,7 @@
-use newest_xlate::SpareLists;
+use table_publish::SpareLists;
 
 /// How a sweep ended.
-#[derive(Clone, Copy)]
+#[derive(Clone, Copy, PartialEq, Eq)]
 pub enum Swept {
     /// It was ended. It had begun at this version.
     Done { version: u32 },

@@ -1,6 +1,7 @@
 mod Adding
 mod Applying
 mod Counts
+pub mod Crossing
 mod EndingSteps
 mod Endings
 mod Ends

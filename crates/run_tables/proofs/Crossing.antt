@@ -4,7 +4,7 @@ use denote.Param.Send.{IsSend, IsSync, sendable}
 use Rattle.std.proofs.Crossing.{crosses}
 use Rattle.run_case.specs.declared.case.Case.{Ghosts}
 use Rattle.tuple_classifier.proofs.Crossing.{tables_send as rules_send, tables_sync as rules_sync}
-use Rattle.run_tables.specs.contracts.tables.Tables as tables
+use Rattle.run_tables.specs.contracts.tables.ClassifierTables as tables
 
 pub tables_send : (C : RattleType) (g : Ghosts C.Denot) → IsSend C → IsSend (tables.the_row C g)
 tables_send C g c = search (sendable, crosses, rules_send) depth 40

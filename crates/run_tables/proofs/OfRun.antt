@@ -9,7 +9,7 @@ use Rattle.pipe_model.specs.Runnable.{AreRunnable}
 use Rattle.pipe_model.proofs.Versions.{runnable-version}
 use Rattle.tuple_classifier.specs.Versions.{Version, no_rules, after, version_of}
 use Rattle.tuple_classifier.proofs.VersionLaws.{version_first, version_next}
-use Rattle.run_tables.specs.NextBundle.{IsBundleOf}
+use Rattle.table_versions.specs.NextBundle.{IsBundleOf}
 use Rattle.run_tables.specs.OfRun.{AreOfRun}
 
 pub of_run-first : (run : Run) → IsTrue (list_all has_sound_actions run.edits) → AreOfRun run no_rules

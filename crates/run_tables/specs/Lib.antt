@@ -1,2 +1,1 @@
-pub mod NextBundle
 pub mod OfRun

@@ -1,8 +1,8 @@
 //! That the tables of a run may be shared among threads and go from one to another.
-use crate::tables::Tables;
+use crate::tables::ClassifierTables;
 use run_case::Case;
 use thread_bounds::crosses_threads;
 
-fn tables_cross_threads<C: Case + Send + Sync>(tables: &Tables<C>) {
+fn tables_cross_threads<C: Case + Send + Sync>(tables: &ClassifierTables<C>) {
     crosses_threads(tables)
 }

@@ -2,7 +2,7 @@ ghost use Rattle.std.specs.Prelude.{◌≡◌, ◌<◌};
 ghost use Rattle.rx_worker.specs.Batches.{batch_size, is_missed};
 
 /// The looks of a batch: as many places as were looked up, from the first on.
-#[derive(Clone, Copy)]
+#[derive(Clone, Copy, PartialEq, Eq)]
 pub struct Batch {
     /// The place of the first one, from 1: the board's next place before the batch.
     pub first: u32,
@@ -23,7 +23,7 @@ impl Batch {
 }
 
 /// What a poll of a port did. Frames that are neither among the given nor the refused were decided by a cache.
-#[derive(Clone, Copy)]
+#[derive(Clone, Copy, PartialEq, Eq)]
 pub struct Polled {
     /// How many frames were looked up, `BATCH_SIZE` at most.
     pub looked: u32,

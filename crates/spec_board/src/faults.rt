@@ -1,5 +1,5 @@
 /// Why a block was not opened.
-#[derive(Clone, Copy)]
+#[derive(Clone, Copy, PartialEq, Eq)]
 pub enum OpenFault {
     /// It isn't the next block, or there is none after the last one.
     Order { block: u32, last: u32 },
@@ -12,7 +12,7 @@ pub enum OpenFault {
 }
 
 /// Why a frame was not looked up.
-#[derive(Clone, Copy)]
+#[derive(Clone, Copy, PartialEq, Eq)]
 pub enum LookFault {
     /// Another place is next.
     OutOfTurn { next: u32 },
@@ -21,7 +21,7 @@ pub enum LookFault {
 }
 
 /// Why a frame was not decided.
-#[derive(Clone, Copy)]
+#[derive(Clone, Copy, PartialEq, Eq)]
 pub enum SettleFault {
     /// It doesn't wait for an upcall.
     NotPending,
@@ -33,7 +33,7 @@ pub enum SettleFault {
 }
 
 /// Why a sweep was not begun.
-#[derive(Clone, Copy)]
+#[derive(Clone, Copy, PartialEq, Eq)]
 pub enum BeginFault {
     /// One runs.
     Sweeping { floor: u32 },
@@ -43,7 +43,7 @@ pub enum BeginFault {
 }
 
 /// Why an entry was not revalidated.
-#[derive(Clone, Copy)]
+#[derive(Clone, Copy, PartialEq, Eq)]
 pub enum PutFault {
     /// The sweep doesn't list it.
     NotListed,
@@ -54,7 +54,7 @@ pub enum PutFault {
 }
 
 /// Why a sweep was not ended.
-#[derive(Clone, Copy)]
+#[derive(Clone, Copy, PartialEq, Eq)]
 pub enum EndFault {
     /// None runs.
     NotSweeping,

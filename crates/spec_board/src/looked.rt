@@ -1,5 +1,5 @@
 /// What the look of a frame found.
-#[derive(Clone, Copy)]
+#[derive(Clone, Copy, PartialEq, Eq)]
 pub enum Looked {
     /// The exact-match cache names this entry.
     Exact(u32),

@@ -1,5 +1,5 @@
 /// What the revalidation of an entry did.
-#[derive(Clone, Copy)]
+#[derive(Clone, Copy, PartialEq, Eq)]
 pub enum PutDone {
     /// It wasn't used for long, and was dropped.
     Idle,

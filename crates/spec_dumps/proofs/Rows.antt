@@ -6,14 +6,15 @@ use Rattle.spec_keys.specs.Keys.{none, masked, same, joined, only_at}
 use Rattle.spec_keys.specs.Fields.{widths}
 use Rattle.spec_actions.specs.declared.action.OfAction.TheVariants.{Output}
 use Rattle.spec_numbers.specs.Printed.{hexadecimal, hexadecimal4, mac_text, ipv4_text, ipv6_text}
-use Rattle.spec_tables.specs.declared.edit_word.EditWord.TheVariants.{Delete}
+use Rattle.spec_tables.specs.declared.edit_word.EditWord.TheVariants.{Delete, DeleteStrict}
 use Rattle.spec_tables.specs.Edits.{after_edits}
 use Rattle.spec_tables.proofs.Packets.{is, key_of, mask_of, match_of}
 use Rattle.spec_flow_text.specs.Printed.{value_in_text, shorthand_of, shown as items_shown, match_printed, actions_printed}
 use Rattle.spec_dp_text.specs.Printed.{dp_actions_printed}
+use Rattle.spec_case.specs.declared.run_step.RunStep.TheVariants as given
 use Rattle.spec_case.specs.Run.{Run}
 use Rattle.spec_exec.specs.Sent.{sent}
-use Rattle.spec_board.proofs.Shown.{shown, run_of, flow_limit, edit, add, in_port_1, dl_dst, frame}
+use Rattle.spec_board.proofs.Shown.{shown, run_of, flow_limit, edit, add, in_port_1, dl_dst, sync, frame}
 use Rattle.spec_board.proofs.Runs.{replaced, two_blocks}
 use Rattle.spec_dumps.specs.Rules.{put_in_order, in_order, rules_text}
 use Rattle.spec_dumps.specs.Megaflows.{time_text, together, visits_text, megaflow_match_text, megaflows_text}
@@ -146,6 +147,43 @@ settles_are_counted_by_their_results :
     ≡ codes "ports=2 frames=3 edits=1 blocks=1\nexact=0 mega=0 miss=3\ninstalled=1 present=0 full=2\nsent=1 dropped=2 entries=1\n"
 unfolding summary_of
 settles_are_counted_by_their_results = refl
+
+-- both edits are of one bundle
+abbrev in_one_bundle : Run
+in_one_bundle =
+    record (run_of flow_limit (2 ∷ []) (add 32768 in_port_1 (Output 2 ∷ []) ∷ add 5 [] [] ∷ []) [] (frame 1 2 ∷ []) []) { bundles = 2 ∷ [] }
+
+edits_are_counted_and_not_bundles :
+    summary_of in_one_bundle
+    ≡ codes "ports=2 frames=1 edits=2 blocks=1\nexact=0 mega=0 miss=1\ninstalled=1 present=0 full=0\nsent=1 dropped=0 entries=1\n"
+unfolding summary_of
+edits_are_counted_and_not_bundles = refl
+
+-- The entry of the first frame looks at the address, for rule 2. That of the second, once rule 2 is gone, doesn't, and
+-- takes its place.
+abbrev widened : Run
+widened =
+    run_of flow_limit (2 ∷ 3 ∷ [])
+    (add 1 [] (Output 2 ∷ []) ∷ add 10 (dl_dst 9) (Output 3 ∷ []) ∷ edit DeleteStrict 10 (dl_dst 9) [] ∷ [])
+    (sync 2 2 ∷ []) (frame 1 2 ∷ frame 2 6 ∷ []) []
+
+an_entry_that_drops_others_is_installed :
+    summary_of widened
+    ≡ codes "ports=3 frames=2 edits=3 blocks=2\nexact=0 mega=0 miss=2\ninstalled=2 present=0 full=0\nsent=2 dropped=0 entries=1\n"
+unfolding summary_of
+an_entry_that_drops_others_is_installed = refl
+
+-- two frames of one key are looked up before the first of them is settled
+abbrev looked_up_before : Run
+looked_up_before =
+    run_of flow_limit (2 ∷ []) (add 32768 in_port_1 (Output 2 ∷ []) ∷ []) [] (frame 1 2 ∷ frame 2 2 ∷ [])
+    (given.Edit ∷ given.Rx 1 ∷ given.Rx 1 ∷ given.Snap 1 1 ∷ given.Settle 1 1 ∷ given.Snap 1 2 ∷ given.Settle 1 2 ∷ [])
+
+a_settle_under_an_entry_is_counted_apart :
+    summary_of looked_up_before
+    ≡ codes "ports=2 frames=2 edits=1 blocks=1\nexact=0 mega=0 miss=2\ninstalled=1 present=1 full=0\nsent=2 dropped=0 entries=1\n"
+unfolding summary_of
+a_settle_under_an_entry_is_counted_apart = refl
 
 -- with a line for the steps of the schedule that was given: all 11 are met
 unfoldable summary_with_steps : Run → Ran → List ℕ

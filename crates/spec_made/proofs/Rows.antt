@@ -2,7 +2,7 @@
 use Rattle.std.specs.Prelude.{◌≡◌, [], ◌∷◌, codes, refl}
 use Rattle.std.specs.Fmt.{digits}
 use Rattle.spec_checksum.specs.Checksum.{checksum}
-use Rattle.spec_made.specs.Made.{state, draw, subnet_line, register_line, made_frame}
+use Rattle.spec_made.specs.Made.{state, draw, subnet_line, register_line, made_frame, frames_made}
 
 the_first_draws : (draw 7 1 ≡ 1059165278) × ((draw 7 2 ≡ 2052263231) × (draw 7 3 ≡ 1946856753))
 unfolding state
@@ -34,3 +34,8 @@ the_first_frame_of_two_ports = (refl, refl)
 
 frames_come_every_millisecond_from_second_1 : ((made_frame 7 0).time ≡ 1000000000) × ((made_frame 7 19999).time ≡ 20999000000)
 frames_come_every_millisecond_from_second_1 = (refl, refl)
+
+ports_take_the_frames_in_turn :
+    (frames_made 7 1 2 ≡ made_frame 7 0 ∷ made_frame 7 4 ∷ []) × ((frames_made 7 2 2 ≡ made_frame 7 1 ∷ made_frame 7 5 ∷ [])
+    × (frames_made 7 4 2 ≡ made_frame 7 3 ∷ made_frame 7 7 ∷ []))
+ports_take_the_frames_in_turn = (refl, (refl, refl))

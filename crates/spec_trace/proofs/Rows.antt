@@ -1,13 +1,15 @@
 -- Worked rows: words, edits and flows, and what is printed for them.
-use Rattle.std.specs.Prelude.{◌≡◌, ℕ, nat_eq, if◌then◌else◌, List, [], ◌∷◌, ◌++◌, replicate, Option, Some, None, Result, Ok, Err, codes, refl}
+use Rattle.std.specs.Prelude.{◌≡◌, ℕ, ◌==◌, nat_eq, count_by, if◌then◌else◌, List, [], ◌∷◌, ◌++◌, replicate, Some, None, Result, Ok, Err, codes, refl}
 use Rattle.std.specs.Cmp.Lexicographic.{pointwise}
-use Rattle.std.specs.Fmt.{digits}
+use Rattle.std.specs.Fmt.{decimal, digits}
+use Rattle.std.specs.List.{flat_map, range_with_len, join_with_byte}
 use Rattle.spec_keys.specs.Fields.{widths, stages}
 use Rattle.spec_keys.specs.Keys.{none, masked, same, joined, only_at}
 use Rattle.spec_keys.specs.Stages.{through}
 use Rattle.spec_tables.specs.Rules.{winner}
 use Rattle.spec_tables.specs.Edits.{after_edits}
 use Rattle.spec_tables.specs.Changes.{changes_to}
+use Rattle.spec_numbers.specs.Characters.{comma, line_feed}
 use Rattle.spec_numbers.specs.Numbers.{digits_upto, decimal_upto, number_upto, octet, octet_before_colon, mac}
 use Rattle.spec_numbers.specs.Printed.{hexadecimal, hexadecimal4, mac_text}
 use Rattle.spec_words.specs.Words.{port_number}
@@ -105,6 +107,54 @@ rules_are_those_of_all_bundles :
     ++ codes "datapath: 2\n")))
 unfolding printed
 rules_are_those_of_all_bundles = refl
+
+-- ended by a limit, a lookup isn't made, and so no line tells of it
+lookups_end_at_depth_64 :
+    traced (codes "actions=resubmit(,0)\n") (codes "in_port=1")
+    ≡ codes "flow: in_port=1\n"
+    ++ (flat_map (λ depth. decimal depth ++ codes " table=0 rule=1 priority=32768 actions=resubmit(,0)\n") (range_with_len 0 65)
+    ++ (codes "last: in_port=1\n"
+    ++ (codes "megaflow: in_port=1,dl_type=0x0000\n"
+    ++ codes "datapath: drop\n")))
+unfolding printed
+lookups_end_at_depth_64 = refl
+
+-- Of lookups 1 is in table 0, 7 in table 1, 7 * 8 in table 2 and 7 * 8 * 8 in table 3; the next would be the 513th.
+abbrev eight_times : List ℕ → List ℕ
+eight_times action = join_with_byte comma (replicate 8 action)
+
+abbrev lookups_past_the_limit : List ℕ
+lookups_past_the_limit =
+    codes "actions=" ++ (eight_times (codes "resubmit(,1)")
+    ++ (codes "\ntable=1,actions=" ++ (eight_times (codes "resubmit(,2)")
+    ++ (codes "\ntable=2,actions=" ++ eight_times (codes "resubmit(,3)")))))
+
+-- a line for each of 512 lookups, and four others
+the_513th_lookup_is_not_made : count_by (λ c. c == line_feed) (traced lookups_past_the_limit (codes "in_port=1")) ≡ 516
+unfolding printed
+the_513th_lookup_is_not_made = refl
+
+-- the packet of a flow comes in without metadata and registers
+a_flow_has_no_registers :
+    traced (codes "reg0=7,actions=2\n") (codes "in_port=1,metadata=5,reg0=7")
+    ≡ codes "flow: in_port=1\n"
+    ++ (codes "0 table=0 no match\n"
+    ++ (codes "last: in_port=1\n"
+    ++ (codes "megaflow: in_port=1,dl_type=0x0000\n"
+    ++ codes "datapath: drop\n")))
+unfolding printed
+a_flow_has_no_registers = refl
+
+-- the last key has what was written after the last output, which no frame is sent with
+what_is_written_last_is_in_the_last_key :
+    traced (codes "actions=2,load:7->reg0[],mod_dl_src:00:00:00:00:00:05\n") (codes "in_port=1,dl_type=0x88b5")
+    ≡ codes "flow: in_port=1,dl_type=0x88b5\n"
+    ++ (codes "0 table=0 rule=1 priority=32768 actions=output:2,set_field:0x7->reg0,set_field:00:00:00:00:00:05->dl_src\n"
+    ++ (codes "last: in_port=1,reg0=0x7,dl_src=00:00:00:00:00:05,dl_type=0x88b5\n"
+    ++ (codes "megaflow: in_port=1,dl_src=00:00:00:00:00:00,dl_type=0x88b5\n"
+    ++ codes "datapath: 2\n")))
+unfolding printed
+what_is_written_last_is_in_the_last_key = refl
 
 -- ---- what is refused
 

@@ -20,10 +20,10 @@ use Rattle.board_laws.specs.Versions.{IsRecent}
 use Rattle.board_laws.proofs.Hits.{Hits, exact_hits, mega_hits}
 use Rattle.board_laws.proofs.Kept.{kept_after, key_clean}
 use Rattle.pmd_board.specs.BoardView.{BoardView, Appends, HasSettled, IsLawful, state_of}
-use Rattle.step_runner.specs.Progress.{planned, IsSwept, SettlesAsPlanned}
-use Rattle.step_runner.specs.Scheduled.{under_way}
+use Rattle.run_boards.specs.Progress.{planned, IsSwept, SettlesAsPlanned}
+use Rattle.run_boards.specs.Scheduled.{under_way}
 use Rattle.step_runner.proofs.Progress.{Decides, may_look, may_settle, exact_decides, mega_decides, pending_then, settles_at, settled_decides, as_planned}
-use Rattle.step_runner.proofs.Scheduled.{state_after, stepped, settled_step, decided_next}
+use Rattle.run_boards.proofs.Scheduled.{state_after, stepped, settled_step, decided_next}
 
 -- The frame of a place is next at a board, whose sweep of the block's last version was completed.
 pub record IsNext (run : Run) (b : BoardView) (block place : ℕ) : Type 0 where

@@ -1,9 +1,4 @@
-pub mod Places
 pub mod LookedUp
 pub mod Progress
-pub mod Scheduled
 pub mod Turns
-pub mod BoardLists
-pub mod Whole
 pub mod Frames
-pub mod Decided

@@ -20,7 +20,7 @@ use Rattle.board_laws.proofs.ListLaws.{find-some}
 use Rattle.board_laws.proofs.NumberLaws.{entry_of-some, entry_of-among}
 use Rattle.board_laws.proofs.PlaceLaws.{at, at_written, at_others, pending_from, pending_upto}
 use Rattle.board_laws.proofs.Refusals.{may_settle, may_look, may_open}
-use Rattle.step_runner.proofs.Places.{place_before-next}
+use Rattle.run_boards.proofs.Places.{place_before-next}
 
 -- The frames of the blocks before were looked up, and a frame that was looked up waits no more.
 pub record IsLookedUp (run : Run) (port : ℕ) (s : State) : Type 0 where

@@ -21,7 +21,7 @@ use Rattle.board_laws.proofs.NumberLaws.{Rising, among_number, Among-is_among}
 use Rattle.board_laws.proofs.PlaceLaws.{at, at_there, at_written, at_others, pending_from, pending_upto, waiting_written, pending_written, decided_written, none_pending}
 use Rattle.board_laws.proofs.Kept.{kept_after}
 use Rattle.pmd_board.specs.BoardView.{BoardView, state_of}
-use Rattle.step_runner.specs.Progress.{planned, OnlyPlans, OnlyPuts, SettlesAsPlanned, IsSwept}
+use Rattle.run_boards.specs.Progress.{planned, OnlyPlans, OnlyPuts, SettlesAsPlanned, IsSwept}
 use Rattle.step_runner.proofs.LookedUp.{IsLookedUp}
 
 -- ---- what a sweep lists

@@ -2,7 +2,6 @@
 use Rattle.std.proofs.Common.{◌≡◌, ◌⊎◌, inl, inr, ℕ, zero, suc, ◌+◌, ◌≤◌, ◌<◌, ◌==◌, max, List, [], length, map, slice_index_or, All, refl, sym, ap, ◌∙◌, subst, arith}
 use Rattle.std.specs.Fn.{iterate}
 use Rattle.std.proofs.lemmas.Bool.{cases_eq, cond-false, ne_eqb}
-use Rattle.std.proofs.lemmas.List.{get_or_default}
 use Rattle.std.proofs.lemmas.Simd.{map-map}
 use Rattle.spec_case.specs.Run.{Run, last_version}
 use Rattle.spec_case.specs.Blocks.{AreInOrder, hi, last_block}
@@ -12,11 +11,11 @@ use Rattle.spec_board.specs.Schedules.{Board, Schedule, finish_board, finish_blo
 use Rattle.spec_board.specs.GivenSteps.{with_given_steps}
 use Rattle.spec_board.specs.Scheduled.{scheduled}
 use Rattle.pmd_board.specs.BoardView.{BoardView, state_of}
-use Rattle.step_runner.specs.Progress.{OnlyPlans, IsPast}
-use Rattle.step_runner.specs.Scheduled.{under_way, schedule_of, block_to_finish, finished_in, HasDone, TookTurn, TookTurns, AreOnlyPlanned}
-use Rattle.step_runner.proofs.Places.{hi-le}
+use Rattle.run_boards.specs.Progress.{OnlyPlans, IsPast}
+use Rattle.run_boards.specs.Scheduled.{under_way, schedule_of, block_to_finish, finished_in, HasDone, TookTurn, TookTurns, AreOnlyPlanned}
+use Rattle.run_boards.proofs.Places.{hi-le}
 use Rattle.step_runner.proofs.Progress.{plans_then}
-use Rattle.step_runner.proofs.Scheduled.{mapped, least_le, least_above, least_there}
+use Rattle.run_boards.proofs.Scheduled.{mapped, least_le, least_above, least_there}
 
 -- ---- one board
 
@@ -105,15 +104,6 @@ module _ (run : Run) (block v : ℕ) (old new : List BoardView) (took : TookTurn
       let at : ℕ → ℕ → Schedule = λ k w. record { newest = w; boards = map (finished_in run k w) boards; unmet = 0 } in
       ap (λ bs. record { newest = v; boards = bs; unmet = 0 }) (made ∙ sym (map-map (finished_in run block v) (under_way run) old))
       ∙ ap (at block) is ∙ ap (λ k. at k (max newest (hi run k))) least
-
--- what is so of those before a place, and at it, is so of one more
-pub one_known : (P : BoardView → Type 0) (bs : List BoardView) (i : ℕ) (b : BoardView) → i < length bs → b ≡ slice_index_or bs i b → P b
-    → ((k : ℕ) (d : BoardView) → k < i → P (slice_index_or bs k d)) → (k : ℕ) (d : BoardView) → k < i + 1 → P (slice_index_or bs k d)
-one_known P bs i b within is here before k d upto = by_cases (cases_eq k i)
-  where
-    by_cases : (k ≡ i) ⊎ (k ≡ i → ⊥) → P (slice_index_or bs k d)
-    by_cases (inl e) = subst (λ j. P (slice_index_or bs j d)) (sym e) (subst P (is ∙ get_or_default bs i b d within) here)
-    by_cases (inr n) = before k d (omega (arith, upto, n))
 
 -- ---- all turns
 

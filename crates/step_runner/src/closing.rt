@@ -4,24 +4,24 @@ ghost use Rattle.std.specs.List.{list_all};
 ghost use Rattle.spec_case.specs.Blocks.{hi, last_block};
 ghost use Rattle.spec_board.specs.Schedules as schedules;
 ghost use Rattle.spec_tables.specs.Edits.{has_sound_actions};
-ghost use Rattle.step_runner.specs.Scheduled.{schedule_of};
-ghost use Rattle.step_runner.specs.Boards.{AreOfPhase};
-ghost use Rattle.step_runner.specs.Finished.{AreFinished};
+ghost use Rattle.run_boards.specs.Scheduled.{schedule_of};
+ghost use Rattle.run_boards.specs.Boards.{AreOfPhase};
+ghost use Rattle.run_boards.specs.Finished.{AreFinished};
 
-use crate::boards::Boards;
 use crate::finishing::{finish_block, finish_blocks};
 use pmd_board::Board;
+use run_boards::Boards;
 use run_case::{Case, RunData};
 use run_edits::RunEdits;
-use run_tables::Tables;
 use std::alloc::{AllocError, Global};
+use table_versions::{RunTables, Tables};
 
 // All blocks are finished from new boards and new tables.
-fn start_over<C: Case>(
+fn start_over<C: Case, T: RunTables<C>>(
     alloc: Global,
     run: &RunData<C>,
     edits: &RunEdits<C>,
-    tables: &mut Tables<C>,
+    tables: &mut Tables<C, T>,
     flow_limit: u32,
 ) -> Result<Boards<C>, AllocError>
     requires sound { IsTrue (list_all has_sound_actions C.run.edits) }
@@ -43,12 +43,12 @@ fn start_over<C: Case>(
 /// asks nothing of the boards but what their types say, so that what is left is right whoever had them.
 ///
 /// It takes memory; where there is none, the boards are given up, and the tables are left on the way.
-pub fn close_phase<C: Case>(
+pub fn close_phase<C: Case, T: RunTables<C>>(
     alloc: Global,
     run: &RunData<C>,
     edits: &RunEdits<C>,
     boards: Vec<Board<C>>,
-    tables: &mut Tables<C>,
+    tables: &mut Tables<C, T>,
     block: u32,
     flow_limit: u32,
 ) -> Result<(Boards<C>, bool), AllocError>

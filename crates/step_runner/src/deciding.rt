@@ -6,21 +6,21 @@ ghost use Rattle.spec_board.specs.Schedules as schedules;
 ghost use Rattle.spec_board.specs.State as states;
 ghost use Rattle.run_blocks.specs.Places.{HasPlace, IsInBlock};
 ghost use Rattle.pmd_board.specs.BoardView.{HasSettled, state_of};
-ghost use Rattle.step_runner.specs.Progress.{IsAtRest, IsSwept, IsSameBoard, LeavesNonePending, OnlyPlans, SettlesAsPlanned};
-ghost use Rattle.step_runner.specs.Scheduled.{under_way, settled_if_pending};
+ghost use Rattle.run_boards.specs.Progress.{IsAtRest, IsSwept, IsSameBoard, LeavesNonePending, OnlyPlans, SettlesAsPlanned};
+ghost use Rattle.run_boards.specs.Scheduled.{under_way, settled_if_pending};
 
 use crate::steps;
 use pipe_model::SpareLists;
 use pmd_board::{Board, Looked};
 use run_case::{Case, Keyed, RunData};
-use run_tables::Tables;
 use std::alloc::{AllocError, Global};
+use table_versions::{RunTables, Tables};
 
 // Decides a pending frame: its key is translated, and it is settled by that.
-fn upcall<C: Case>(
+fn upcall<C: Case, T: RunTables<C>>(
     alloc: Global,
     run: &RunData<C>,
-    tables: &Tables<C>,
+    tables: &Tables<C, T>,
     board: &mut Board<C>,
     at: &Keyed<C>,
 ) -> Result<(), AllocError>
@@ -35,10 +35,10 @@ fn upcall<C: Case>(
 // ---- frames that are pending
 
 // Settles a pending frame under the last version of its block.
-fn settle<C: Case>(
+fn settle<C: Case, T: RunTables<C>>(
     alloc: Global,
     run: &RunData<C>,
-    tables: &Tables<C>,
+    tables: &Tables<C, T>,
     board: &mut Board<C>,
     place: u32,
 ) -> Result<(), AllocError>
@@ -58,10 +58,10 @@ fn settle<C: Case>(
 }
 
 // Settles a frame if it is pending.
-fn settle_if_pending<C: Case>(
+fn settle_if_pending<C: Case, T: RunTables<C>>(
     alloc: Global,
     run: &RunData<C>,
-    tables: &Tables<C>,
+    tables: &Tables<C, T>,
     board: &mut Board<C>,
     place: u32,
 ) -> Result<(), AllocError>
@@ -82,10 +82,10 @@ fn settle_if_pending<C: Case>(
 
 /// Settles the pending frames of a board at which no sweep runs, in rising order. The tables are those of the last version
 /// of its block.
-pub fn settle_pending<C: Case>(
+pub fn settle_pending<C: Case, T: RunTables<C>>(
     alloc: Global,
     run: &RunData<C>,
-    tables: &Tables<C>,
+    tables: &Tables<C, T>,
     board: &mut Board<C>,
     block: u32,
 ) -> Result<(), AllocError>
@@ -112,10 +112,10 @@ pub fn settle_pending<C: Case>(
 
 // Looks up the next frame of a board. A megaflow decides it, or it is settled at once, under the last version of its
 // block either way.
-fn decide_next<C: Case>(
+fn decide_next<C: Case, T: RunTables<C>>(
     alloc: Global,
     run: &RunData<C>,
-    tables: &Tables<C>,
+    tables: &Tables<C, T>,
     board: &mut Board<C>,
     block: u32,
     place: u32,
@@ -144,10 +144,10 @@ fn decide_next<C: Case>(
 }
 
 /// Decides the frames that are left of the block that a board is in.
-pub fn decide_all<C: Case>(
+pub fn decide_all<C: Case, T: RunTables<C>>(
     alloc: Global,
     run: &RunData<C>,
-    tables: &Tables<C>,
+    tables: &Tables<C, T>,
     board: &mut Board<C>,
     block: u32,
 ) -> Result<(), AllocError>

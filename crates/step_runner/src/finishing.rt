@@ -5,20 +5,19 @@ ghost use Rattle.spec_case.specs.Blocks.{AreInOrder, hi, last_block, last_place}
 ghost use Rattle.spec_board.specs.Schedules as schedules;
 ghost use Rattle.pmd_board.specs.BoardView.{state_of};
 ghost use Rattle.spec_run.specs.Journals.{IsByLastVersion};
-ghost use Rattle.step_runner.specs.Progress.{IsPast, IsSameBoard, IsSwept, OnlyPlans};
-ghost use Rattle.step_runner.specs.Scheduled.{under_way, schedule_of, block_to_finish, HasDone, AreOnlyPlanned, IsNew, TookTurn, TookTurns};
-ghost use Rattle.step_runner.specs.Finished.{AreFinished, journals_in};
+ghost use Rattle.run_boards.specs.Progress.{IsPast, IsSameBoard, IsSwept, OnlyPlans};
+ghost use Rattle.run_boards.specs.Scheduled.{under_way, schedule_of, block_to_finish, HasDone, AreOnlyPlanned, IsNew, TookTurn, TookTurns};
+ghost use Rattle.run_boards.specs.Finished.{AreFinished, journals_in};
 
-use crate::boards::Boards;
 use crate::deciding::{decide_all, settle_pending};
-use crate::finished::{Finished, recall_laws};
 use crate::steps;
 use crate::sweeping::{end_sweep, sweep};
 use pmd_board::Board;
+use run_boards::{Boards, Finished, recall_laws};
 use run_case::{Case, RunData};
 use run_edits::RunEdits;
-use run_tables::Tables;
 use std::alloc::{AllocError, Global};
+use table_versions::{RunTables, Tables};
 
 // ---- one board
 
@@ -41,10 +40,10 @@ fn open_next<C: Case>(run: &RunData<C>, board: &mut Board<C>, block: u32)
 }
 
 // Finishes the block that a board is in, whatever was done of it, and opens the next.
-fn finish_board<C: Case>(
+fn finish_board<C: Case, T: RunTables<C>>(
     alloc: Global,
     run: &RunData<C>,
-    tables: &Tables<C>,
+    tables: &Tables<C, T>,
     board: &mut Board<C>,
     block: u32,
 ) -> Result<(), AllocError>
@@ -68,10 +67,10 @@ fn finish_board<C: Case>(
 }
 
 // A board finishes a block if it is in that block.
-fn take_turn<C: Case>(
+fn take_turn<C: Case, T: RunTables<C>>(
     alloc: Global,
     run: &RunData<C>,
-    tables: &Tables<C>,
+    tables: &Tables<C, T>,
     board: &mut Board<C>,
     block: u32,
 ) -> Result<(), AllocError>
@@ -88,10 +87,10 @@ fn take_turn<C: Case>(
 // ---- all boards
 
 // Each board that is in a block finishes it.
-fn finish_boards<C: Case>(
+fn finish_boards<C: Case, T: RunTables<C>>(
     alloc: Global,
     run: &RunData<C>,
-    tables: &Tables<C>,
+    tables: &Tables<C, T>,
     boards: &mut Vec<Board<C>>,
     block: u32,
 ) -> Result<(), AllocError>
@@ -124,12 +123,12 @@ fn least_block<C: Case>(run: &RunData<C>, boards: &[Board<C>]) -> u32
 /// opened.
 ///
 /// It takes memory; where there is none, the boards are given up, and the tables are left on the way.
-pub fn finish_block<C: Case>(
+pub fn finish_block<C: Case, T: RunTables<C>>(
     alloc: Global,
     run: &RunData<C>,
     edits: &RunEdits<C>,
     boards: Boards<C>,
-    tables: &mut Tables<C>,
+    tables: &mut Tables<C, T>,
 ) -> Result<Boards<C>, AllocError>
     requires { tables.old ≤ hi C.run (block_to_finish C.run boards) }
     ensures published { OnOk result (tables.new ≡ hi C.run (block_to_finish C.run boards)) }
@@ -144,16 +143,16 @@ pub fn finish_block<C: Case>(
     let block = least_block(run, &left);
     tables.follow(edits, run.hi(block))?;
     finish_boards(alloc, run, tables, &mut left, block)?;
-    Ok(Boards { boards: left })
+    Ok(Boards::from_vec(left))
 }
 
 // Finishes all blocks, one after the other, whatever was done of them before.
-pub(crate) fn finish_blocks<C: Case>(
+pub(crate) fn finish_blocks<C: Case, T: RunTables<C>>(
     alloc: Global,
     run: &RunData<C>,
     edits: &RunEdits<C>,
     boards: Boards<C>,
-    tables: &mut Tables<C>,
+    tables: &mut Tables<C, T>,
 ) -> Result<Boards<C>, AllocError>
     requires { tables.old ≤ hi C.run (block_to_finish C.run boards) }
     ensures finished { IfOk result (AreFinished C.run) }
@@ -176,12 +175,12 @@ pub(crate) fn finish_blocks<C: Case>(
 ///
 /// It takes memory, also for the arrivals of all frames; where there is none, the boards are given up, and the tables are
 /// left on the way.
-pub fn finish<C: Case>(
+pub fn finish<C: Case, T: RunTables<C>>(
     alloc: Global,
     run: &RunData<C>,
     edits: &RunEdits<C>,
     boards: Boards<C>,
-    tables: &mut Tables<C>,
+    tables: &mut Tables<C, T>,
 ) -> Result<Finished<C>, AllocError>
     requires { tables.old ≤ hi C.run (block_to_finish C.run boards) }
     ensures scheduled { IfOk result (λ done. done

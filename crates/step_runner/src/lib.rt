@@ -2,21 +2,15 @@
 //!
 //! # What?
 //!
-//! A board refuses what isn't legal and chooses nothing. Here is chosen. The *boards of a run* (`Boards`) are carried
-//! through its blocks, whatever was done of them before, until every frame is decided; then they are *finished*
-//! (`Finished`).
+//! A board refuses what isn't legal and chooses nothing. Here is chosen. The boards of a run (`Boards` of `run_boards`)
+//! are carried through its blocks, whatever was done of them before, until every frame is decided; then they are
+//! *finished* (`Finished`).
 //!
 //! # What is promised
 //!
-//! - `Boards` is a list with one board for each port of the run, in the order of the words, each with the run's flow
-//!   limit. It is made anew, or of a list that is tested.
 //! - `finish_block` and `finish` take the steps of the schedule that `spec_board` defines, from the boards and the
 //!   version at which they find them. Where they find new boards, each frame is decided under the last version of its
 //!   block.
-//! - `Finished` is seen as its journals, and they are whole (`spec_run`): there is one for each port, each is legal and
-//!   complete, each frame is decided once and within its window, and each rule is credited with or owed what it is due.
-//!   It lends the boards, the arrivals in their order, and each arrived frame with the actions that were decided for
-//!   it.
 //! - `close_phase` ends what workers did of a block. It asks nothing of the boards that they leave: those that fit
 //!   finish the block, and in the place of others new ones are carried through the whole run. It says which of these it
 //!   was.
@@ -24,7 +18,7 @@
 //! # How
 //!
 //! All boards go through a block before one goes through the next: the least block of all boards is finished in turn.
-//! The tables follow the bundles of the run up to the last version of the block, once for all boards (`run_tables`). In
+//! The tables follow the bundles of the run up to the last version of the block, once for all boards (`table_versions`). In
 //! each block a board ends the sweep that runs, settles the frames that are pending, and makes a sweep of that version,
 //! where none was completed: it puts each megaflow that is listed, in rising order, by the translation of its key
 //! (`sweeping`). Each translation is made in the memory of lists that the put before it gave back. Then the board looks
@@ -42,17 +36,11 @@
 //! `egress_capture` and `flow_dump` write; what datapath actions make of a frame is `action_exec`'s.
 #![tactic(auto)]
 
-mod boards;
 mod closing;
-mod decided_frame;
 mod deciding;
-mod finished;
 mod finishing;
 mod steps;
 mod sweeping;
 
-pub use boards::Boards;
 pub use closing::close_phase;
-pub use decided_frame::DecidedFrame;
-pub use finished::Finished;
 pub use finishing::{finish, finish_block};

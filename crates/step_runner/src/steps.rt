@@ -6,7 +6,7 @@ ghost use Rattle.spec_board.specs.Results.{entry_of};
 ghost use Rattle.spec_board.specs.Refusals.{open_fault, look_fault, settle_fault, begin_fault, put_fault, end_fault};
 ghost use Rattle.spec_board.specs.Effects.{key_of_entry};
 ghost use Rattle.pmd_board.specs.BoardView.{Appends, HasSettled, state_of};
-ghost use Rattle.step_runner.specs.Progress.{HasPut};
+ghost use Rattle.run_boards.specs.Progress.{HasPut};
 
 use pipe_model::SpareLists;
 use pmd_board::{BeginFault, Board, Looked, SettleFault, Xlated};

@@ -3,23 +3,23 @@ ghost use Rattle.std.specs.Prelude.{◌≡◌, [], false, OnOk};
 ghost use Rattle.spec_case.specs.Blocks.{hi};
 ghost use Rattle.spec_board.specs.Schedules as schedules;
 ghost use Rattle.pmd_board.specs.BoardView.{state_of};
-ghost use Rattle.step_runner.specs.Progress.{IsAsFar, IsAtRest, IsSwept, IsSameBoard, OnlyPuts};
-ghost use Rattle.step_runner.specs.Scheduled.{under_way, with_listed_put};
+ghost use Rattle.run_boards.specs.Progress.{IsAsFar, IsAtRest, IsSwept, IsSameBoard, OnlyPuts};
+ghost use Rattle.run_boards.specs.Scheduled.{under_way, with_listed_put};
 
 use crate::steps;
 use pipe_model::SpareLists;
 use pmd_board::Board;
 use run_case::{Case, RunData};
-use run_tables::Tables;
 use std::alloc::{AllocError, Global};
+use table_versions::{RunTables, Tables};
 
 // Puts each entry that the sweep of a board lists, in rising order, by the translation of its key under the last version
 // of its block. Each translation is made in the lists that the put before it gave back, so that a sweep that keeps its
 // entries takes no memory for each.
-fn put_listed<C: Case>(
+fn put_listed<C: Case, T: RunTables<C>>(
     alloc: Global,
     run: &RunData<C>,
-    tables: &Tables<C>,
+    tables: &Tables<C, T>,
     board: &mut Board<C>,
 ) -> Result<(), AllocError>
     requires { tables.now ≡ hi C.run (state_of C.run board.old).block }
@@ -42,10 +42,10 @@ fn put_listed<C: Case>(
 }
 
 /// Ends the sweep that runs at a board, if one does. The tables are those of the last version of its block.
-pub fn end_sweep<C: Case>(
+pub fn end_sweep<C: Case, T: RunTables<C>>(
     alloc: Global,
     run: &RunData<C>,
-    tables: &Tables<C>,
+    tables: &Tables<C, T>,
     board: &mut Board<C>,
 ) -> Result<(), AllocError>
     requires { tables.now ≡ hi C.run (state_of C.run board.old).block }
@@ -63,10 +63,10 @@ pub fn end_sweep<C: Case>(
 }
 
 /// Makes a sweep of the last version of a board's block, where none was completed. The tables are those of that version.
-pub fn sweep<C: Case>(
+pub fn sweep<C: Case, T: RunTables<C>>(
     alloc: Global,
     run: &RunData<C>,
-    tables: &Tables<C>,
+    tables: &Tables<C, T>,
     board: &mut Board<C>,
     block: u32,
 ) -> Result<(), AllocError>

@@ -24,7 +24,7 @@
 //!
 //! # What is left to others
 //!
-//! That all frames are decided (`step_runner`, whose `Finished` has it as its type), what stands in each file and in the
+//! That all frames are decided (`run_boards`, whose `Finished` has it as its type), what stands in each file and in the
 //! summary, and what a refusal is told as.
 #![tactic(auto)]
 

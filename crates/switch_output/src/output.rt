@@ -14,10 +14,10 @@ use crate::writing::write_out;
 use edge_io::{Shelf, Sink};
 use flow_dump::say_summary;
 use rule_tables::VersionedRules;
+use run_boards::Finished;
 use run_case::{Case, RunData};
 use spec_dumps::Ran;
 use std::alloc::Global;
-use step_runner::Finished;
 
 /// Tells what became of a run: its files are written, where it has outlets, and then its summary is printed, with what is
 /// told of given steps.

@@ -21,10 +21,10 @@ use flow_dump::{write_journals, write_megaflows, write_rules};
 use netflow_v5::write_netflow;
 use port_mirror::write_mirror;
 use rule_tables::VersionedRules;
+use run_boards::Finished;
 use run_case::{Case, RunData};
 use spec_mirrors::Mirror;
 use std::alloc::Global;
-use step_runner::Finished;
 
 // What the files of a run are made of.
 #[derive(Drop)]

@@ -14,11 +14,11 @@ use left_right::reader::Factory;
 use left_right::writer::Writer;
 use run_case::Case;
 use run_edits::RunEdits;
-use run_tables::Tables;
 use std::alloc::{AllocError, Global};
 use std::marker::Model;
 use std::sync::Wait;
 use std::thread::yield_now;
+use table_versions::{RunTables, Tables};
 
 /// Why no version was published.
 #[derive(Clone, Copy, PartialEq, Eq)]
@@ -30,20 +30,20 @@ pub enum PublishFault {
 }
 
 /// Publishes the bundles of a run. Contracts see the version that it published last. End it by `end`.
-pub struct Editor<C: Case>
+pub struct Editor<C: Case, T: RunTables<C>>
 where
-    Tables<C>: Absorb<NextBundle<C>, State = u64>,
+    Tables<C, T>: Absorb<NextBundle<C>, State = u64>,
 {
-    writer: Writer<Tables<C>, NextBundle<C>, u64, Grows<C>>,
+    writer: Writer<Tables<C, T>, NextBundle<C>, u64, Grows<C>>,
     /// Tells of which publication it is.
-    home: Factory<Tables<C>, u64, Grows<C>>,
+    home: Factory<Tables<C, T>, u64, Grows<C>>,
     alloc: Global,
     version: u32,
 }
 
-impl<C: Case> Model for Editor<C>
+impl<C: Case, T: RunTables<C>> Model for Editor<C, T>
 where
-    Tables<C>: Absorb<NextBundle<C>, State = u64>,
+    Tables<C, T>: Absorb<NextBundle<C>, State = u64>,
 {
     ghost use Rattle.std.specs.Prelude.{◌≡◌, ◌≤◌, drop};
     ghost use Rattle.std.specs.Arc.{arc_value};
@@ -64,8 +64,8 @@ where
 }
 
 // Sees to it that exactly the bundle after a version is pending. The only error is out of memory.
-fn prepare<C: Case>(
-    writer: &mut Writer<Tables<C>, NextBundle<C>, u64, Grows<C>>,
+fn prepare<C: Case, T: RunTables<C>>(
+    writer: &mut Writer<Tables<C, T>, NextBundle<C>, u64, Grows<C>>,
     alloc: Global,
     edits: &RunEdits<C>,
     version: u32,
@@ -87,7 +87,7 @@ fn prepare<C: Case>(
     }
 }
 
-impl<C: Case> Editor<C> {
+impl<C: Case, T: RunTables<C>> Editor<C, T> {
     /// The version that it published last.
     pub fn version(&self) -> u32
         ensures number { result ≡ self.now.version }
@@ -97,7 +97,7 @@ impl<C: Case> Editor<C> {
     }
 
     /// The tables that it published last.
-    pub fn tables(&self) -> &Tables<C>
+    pub fn tables(&self) -> &Tables<C, T>
         ensures { result.now ≡ self.now.version }
     {
         self.writer.published()
@@ -110,7 +110,7 @@ impl<C: Case> Editor<C> {
         self,
         rt: &R,
         edits: &RunEdits<C>,
-    ) -> (Editor<C>, Result<u32, PublishFault>)
+    ) -> (Editor<C, T>, Result<u32, PublishFault>)
         ensures publication { result.0.publication ≡ self.publication }
         ensures next { OnOk result.1 (result.0.version ≡ self.version + 1) }
         ensures version { IfOk result.1 (λ v. v ≡ result.0.version) }
@@ -160,7 +160,7 @@ impl<C: Case> Editor<C> {
     /// Tells which version was published last. Each news is for one seer.
     ///
     /// It takes no memory. It waits while more news than there are seers are neither learnt nor dropped.
-    pub fn tell<R: Wait>(&mut self, rt: &R) -> News<C>
+    pub fn tell<R: Wait>(&mut self, rt: &R) -> News<C, T>
         ensures news { result ≡ self.old }
         ensures same { self.new ≡ self.old }
     {
@@ -174,7 +174,7 @@ impl<C: Case> Editor<C> {
     }
 
     // Tells, if there is a place for the news.
-    fn try_tell(&mut self) -> Option<News<C>>
+    fn try_tell(&mut self) -> Option<News<C, T>>
         ensures news { IfSome result (λ n. n ≡ self.old) }
         ensures same { self.new ≡ self.old }
     {
@@ -200,7 +200,7 @@ impl<C: Case> Editor<C> {
         rt: &R,
         alloc: Global,
         places: usize,
-    ) -> Result<Editor<C>, AllocError>
+    ) -> Result<Editor<C, T>, AllocError>
         requires sound { IsTrue (list_all has_sound_actions C.run.edits) }
         requires places { (0 < places) × (places < 2 ^ 32) }
         ensures { IfOk result (λ e. e.version ≡ 0) }
@@ -221,7 +221,7 @@ impl<C: Case> Editor<C> {
     }
 
     /// A seer that has seen nothing yet.
-    pub(crate) fn seer(&self) -> Result<Seer<C>, AllocError>
+    pub(crate) fn seer(&self) -> Result<Seer<C, T>, AllocError>
         ensures publication { IfOk result (λ s. s.publication ≡ self.now.publication) }
         ensures version { IfOk result (λ s. s.version ≡ 0) }
     {

@@ -19,12 +19,16 @@
 //!   one before; `NoneLeft` exactly where all bundles are published, with their version; or out of memory, and then nothing
 //!   changed and the call may be made again.
 //! - `enter` gives a guard of the version that is published at one moment of the call, which is at least every version
-//!   that this seer saw or learnt. `Guard::tables` lends the tables of this version (`run_tables`), and `leave` hands the
+//!   that this seer saw or learnt. `Guard::tables` lends the tables of this version (`table_versions`), and `leave` hands the
 //!   seer back, which has seen it.
 //! - `tell` gives the editor's version as a `News`, and `learn` takes it in: from then on this seer enters no older one.
 //!   So after `publish_next`, `tell` and `learn` the next `enter` gives that version or a later one.
 //!
-//! Only `publish` and `publish_next` take memory. Without news a seer knows only what it saw itself: that a version is
+//! - `translate_newest` translates a key under the version that a seer enters, and leaves it before it ends: the editor waits
+//!   for no more than a translation, and no lock is held in it. Whether a board still takes the translation is known only
+//!   under the board's lock; the words of `specs/Versions` say where a version that a board names in its refusal stands.
+//!
+//! Only `publish`, `publish_next` and `translate_newest` take memory. Without news a seer knows only what it saw itself: that a version is
 //! published in one thread is nothing that another thread could know, unless it is told.
 //!
 //! # How
@@ -58,8 +62,10 @@ mod publication;
 mod rule;
 mod seer;
 mod threads;
+mod translating;
 
 pub use editor::{Editor, PublishFault};
 pub use publication::{MOST_SEERS, publish};
-pub use run_tables::Tables;
 pub use seer::{Guard, News, Seer};
+pub use table_versions::{RunTables, SpareLists, Tables};
+pub use translating::translate_newest;

@@ -5,9 +5,9 @@ use left_right::Absorb;
 use rule_tables::Edit;
 use run_case::Case;
 use run_edits::RunEdits;
-use run_tables::Tables;
 use std::alloc::{AllocError, Global};
 use std::marker::{Model, PhantomData};
+use table_versions::{RunTables, Tables};
 
 /// A bundle of the run, which makes the next version of the tables. Contracts see the version that it makes.
 #[derive(Drop)]
@@ -19,7 +19,7 @@ pub struct NextBundle<C: Case> {
 
 impl<C: Case> Model for NextBundle<C> {
     ghost use Rattle.std.specs.Prelude.{◌<◌, ℕ};
-    ghost use Rattle.run_tables.specs.NextBundle.{IsBundleOf};
+    ghost use Rattle.table_versions.specs.NextBundle.{IsBundleOf};
 
     ghost Value = { ℕ };
 
@@ -58,7 +58,7 @@ fn copy_all(alloc: Global, edits: &[Edit]) -> Result<Vec<Edit>, AllocError>
     Ok(copies)
 }
 
-impl<C: Case> Absorb<NextBundle<C>> for Tables<C> {
+impl<C: Case, T: RunTables<C>> Absorb<NextBundle<C>> for Tables<C, T> {
     type State = u64;
 
     ghost use Rattle.table_publish.specs.Views.{version_after};
@@ -71,7 +71,7 @@ impl<C: Case> Absorb<NextBundle<C>> for Tables<C> {
     fn absorb_first(
         &mut self,
         operation: &NextBundle<C>,
-        _other: &Tables<C>,
+        _other: &Tables<C, T>,
     ) -> Result<(), AllocError> {
         if self.version() == operation.version - 1 {
             self.apply(&operation.edits)?;

@@ -7,6 +7,7 @@ use crate::seer::Seer;
 use run_case::Case;
 use std::alloc::{AllocError, Global};
 use std::sync::Wait;
+use table_versions::RunTables;
 
 /// The most seers of a publication.
 pub const MOST_SEERS: usize = 64;
@@ -15,11 +16,11 @@ pub const MOST_SEERS: usize = 64;
 ///
 /// The only error is out of memory, which is also answered where a seer finds no place among the readers. The handle is
 /// for ending an editor that was made, where there is no memory for its seers.
-pub fn publish<C: Case, R: Wait>(
+pub fn publish<C: Case, T: RunTables<C>, R: Wait>(
     rt: &R,
     alloc: Global,
     seers: usize,
-) -> Result<(Editor<C>, Vec<Seer<C>>), AllocError>
+) -> Result<(Editor<C, T>, Vec<Seer<C, T>>), AllocError>
     requires sound { IsTrue (list_all has_sound_actions C.run.edits) }
     requires seers { (1 ≤ seers) × (seers ≤ MOST_SEERS) }
     ensures editor { IfOk result (λ p. p.0.version ≡ 0) }
@@ -37,11 +38,11 @@ pub fn publish<C: Case, R: Wait>(
 }
 
 // So many seers of an editor, which have seen nothing yet.
-fn seers_of<C: Case>(
+fn seers_of<C: Case, T: RunTables<C>>(
     alloc: Global,
-    editor: &Editor<C>,
+    editor: &Editor<C, T>,
     count: usize,
-) -> Result<Vec<Seer<C>>, AllocError>
+) -> Result<Vec<Seer<C, T>>, AllocError>
     requires { editor.now.version ≡ 0 }
     ensures seers { IfOk result (λ seers. All (λ s. s ≡ editor.now) seers.items) }
     ensures count { IfOk result (λ seers. vec_len seers ≡ count) }

@@ -5,21 +5,21 @@ ghost use Rattle.left_right.specs.Sides.{view};
 use crate::rule::{Grows, Sees};
 use left_right::reader::{Factory, Reader, Reading};
 use run_case::Case;
-use run_tables::Tables;
 use std::marker::Model;
 use std::sync::Wait;
 use std::thread::yield_now;
+use table_versions::{RunTables, Tables};
 
 /// Reads the tables that are published. Contracts see the greatest version that it saw or learnt.
 #[derive(Drop)]
-pub struct Seer<C: Case> {
-    reader: Reader<Tables<C>, u64, Grows<C>>,
+pub struct Seer<C: Case, T: RunTables<C>> {
+    reader: Reader<Tables<C, T>, u64, Grows<C>>,
     /// Tells of which publication it is.
-    home: Factory<Tables<C>, u64, Grows<C>>,
+    home: Factory<Tables<C, T>, u64, Grows<C>>,
     version: u32,
 }
 
-impl<C: Case> Model for Seer<C> {
+impl<C: Case, T: RunTables<C>> Model for Seer<C, T> {
     ghost use Rattle.std.specs.Prelude.{◌≡◌};
     ghost use Rattle.std.specs.Arc.{arc_value};
     ghost use Rattle.left_right.specs.Sides as sides;
@@ -32,13 +32,13 @@ impl<C: Case> Model for Seer<C> {
     ghost invariant = { λ s. s.version ≡ sides.view s.reader.place };
 }
 
-impl<C: Case> Seer<C> {
+impl<C: Case, T: RunTables<C>> Seer<C, T> {
     /// A seer of a reader, whose view is this version.
     pub(crate) fn of(
-        reader: Reader<Tables<C>, u64, Grows<C>>,
-        home: Factory<Tables<C>, u64, Grows<C>>,
+        reader: Reader<Tables<C, T>, u64, Grows<C>>,
+        home: Factory<Tables<C, T>, u64, Grows<C>>,
         version: u32,
-    ) -> Seer<C>
+    ) -> Seer<C, T>
         requires { view reader.place ≡ version }
         ensures publication { result.publication ≡ (arc_value home.board).shared.table_id }
         ensures version { result.version ≡ version }
@@ -60,7 +60,7 @@ impl<C: Case> Seer<C> {
     /// Takes the tables that are published now. What is published meanwhile doesn't change them.
     ///
     /// It takes no memory.
-    pub fn enter<R: Wait>(self, rt: &R) -> Guard<C>
+    pub fn enter<R: Wait>(self, rt: &R) -> Guard<C, T>
         ensures publication { result.publication ≡ self.publication }
         ensures version { self.version ≤ result.version }
     {
@@ -82,7 +82,7 @@ impl<C: Case> Seer<C> {
     /// Learns which version was published: from now on it enters none that is older.
     ///
     /// It takes no memory.
-    pub fn learn(self, news: News<C>) -> Seer<C>
+    pub fn learn(self, news: News<C, T>) -> Seer<C, T>
         requires { news.publication ≡ self.publication }
         ensures publication { result.publication ≡ self.publication }
         ensures version { result.version ≡ max self.version news.version }
@@ -97,12 +97,12 @@ impl<C: Case> Seer<C> {
 }
 
 /// Tables that are read. Contracts see their version. End it by `leave`.
-pub struct Guard<C: Case> {
-    reading: Reading<Tables<C>, u64, Grows<C>>,
-    home: Factory<Tables<C>, u64, Grows<C>>,
+pub struct Guard<C: Case, T: RunTables<C>> {
+    reading: Reading<Tables<C, T>, u64, Grows<C>>,
+    home: Factory<Tables<C, T>, u64, Grows<C>>,
 }
 
-impl<C: Case> Model for Guard<C> {
+impl<C: Case, T: RunTables<C>> Model for Guard<C, T> {
     ghost use Rattle.std.specs.Prelude.{◌≡◌};
     ghost use Rattle.std.specs.Arc.{arc_value};
     ghost use Rattle.left_right.specs.Sides as sides;
@@ -115,16 +115,16 @@ impl<C: Case> Model for Guard<C> {
     ghost invariant = { λ g. g.reading.part.value ≡ sides.view g.reading.place };
 }
 
-impl<C: Case> Guard<C> {
+impl<C: Case, T: RunTables<C>> Guard<C, T> {
     /// The tables of the version that was entered.
-    pub fn tables(&self) -> &Tables<C>
+    pub fn tables(&self) -> &Tables<C, T>
         ensures { result.now ≡ self.now.version }
     {
         self.reading.get()
     }
 
     /// Ends the reading, and gives the seer back, which has seen this version.
-    pub fn leave(self) -> Seer<C>
+    pub fn leave(self) -> Seer<C, T>
         ensures { result ≡ self }
     {
         let Guard { reading, home } = self;
@@ -135,11 +135,11 @@ impl<C: Case> Guard<C> {
 
 /// That a version was published, for one seer to learn. Contracts see the version that is told.
 #[derive(Drop)]
-pub struct News<C: Case> {
-    told: Seer<C>,
+pub struct News<C: Case, T: RunTables<C>> {
+    told: Seer<C, T>,
 }
 
-impl<C: Case> Model for News<C> {
+impl<C: Case, T: RunTables<C>> Model for News<C, T> {
     ghost use Rattle.table_publish.specs.Seen.{Seen};
 
     ghost Value = { Seen };
@@ -147,9 +147,9 @@ impl<C: Case> Model for News<C> {
     ghost view = { λ n. n.told };
 }
 
-impl<C: Case> News<C> {
+impl<C: Case, T: RunTables<C>> News<C, T> {
     /// News of a seer that has learnt what is told.
-    pub(crate) fn of(told: Seer<C>) -> News<C>
+    pub(crate) fn of(told: Seer<C, T>) -> News<C, T>
         ensures { result ≡ told }
     {
         News { told }

@@ -7,6 +7,7 @@ use crate::words::Command;
 use given_steps::run_schedule;
 use run_case::{Case, RunData};
 use run_edits::RunEdits;
+use run_tables::ClassifierTables;
 use std::alloc::{AllocError, Global};
 use std::marker::Brand;
 use switch_input::Inputs;
@@ -39,7 +40,9 @@ fn counts_in_rounds<C: Case>(
     )?;
     let mut counts = Counts::new();
     'rounds: for _ in 0..rounds {
-        let (finished, _) = run_schedule(alloc, &run, &edits, flow_limit, &steps)?;
+        let (finished, _) = run_schedule::<C, ClassifierTables<C>>(
+            alloc, &run, &edits, flow_limit, &steps,
+        )?;
         for board in finished.boards() {
             counts.add_board(&run, board);
         }

@@ -4,12 +4,7 @@ use denote.Param.Send.{IsSend, IsSync, sendable}
 use Rattle.std.proofs.Crossing.{crosses}
 use Rattle.prefix_tracker.proofs.Crossing.{prefix_trie_send, prefix_trie_sync}
 use Rattle.staged_lookup.proofs.Crossing.{key_send, key_sync, mask_send, mask_sync, subtable_send as staged_send, subtable_sync as staged_sync}
-use Rattle.spec_keys.specs.contracts.field_id.FieldId as field_id
-use Rattle.spec_actions.specs.contracts.named_field.NamedField as name
-use Rattle.spec_actions.specs.contracts.action.Slice as slice
-use Rattle.spec_actions.specs.contracts.action.OfAction as action
-use Rattle.rule_tables.specs.contracts.actions.Actions as actions
-use Rattle.rule_tables.specs.contracts.matching.Match as matching
+use Rattle.rule_tables.proofs.Crossing.{actions_send, actions_sync, field_id_send, field_id_sync, matching_send, matching_sync}
 use Rattle.rule_tables.specs.contracts.rule.Rule as rule
 use Rattle.address_prefixes.specs.contracts.address_prefixes.MaskPrefixes as mask_prefixes
 use Rattle.address_prefixes.specs.contracts.address_prefixes.AddressPrefixes as prefixes
@@ -21,42 +16,6 @@ use Rattle.tuple_classifier.specs.contracts.subtable.Subtable as subtable
 use Rattle.tuple_classifier.specs.contracts.subtables.Subtables as subtables
 use Rattle.tuple_classifier.specs.contracts.table.Table as table
 use Rattle.tuple_classifier.specs.contracts.tables.Tables as tables
-
-field_id_send : IsSend (field_id.the_field).row
-field_id_send = search (sendable, crosses) depth 100 fits 20000
-
-field_id_sync : IsSync (field_id.the_field).row
-field_id_sync = search (sendable, crosses) depth 100 fits 20000
-
-name_send : IsSend (name.the_field).row
-name_send = search (sendable, crosses) depth 100 fits 20000
-
-name_sync : IsSync (name.the_field).row
-name_sync = search (sendable, crosses) depth 100 fits 20000
-
-slice_send : IsSend (slice.the_field).row
-slice_send = search (sendable, crosses, name_send) depth 100 fits 20000
-
-slice_sync : IsSync (slice.the_field).row
-slice_sync = search (sendable, crosses, name_sync) depth 100 fits 20000
-
-action_send : IsSend (action.the_field).row
-action_send = search (sendable, crosses, slice_send, name_send) depth 100 fits 20000
-
-action_sync : IsSync (action.the_field).row
-action_sync = search (sendable, crosses, slice_sync, name_sync) depth 100 fits 20000
-
-pub actions_send : IsSend (actions.the_field).row
-actions_send = search (sendable, crosses, action_send) depth 100 fits 20000
-
-pub actions_sync : IsSync (actions.the_field).row
-actions_sync = search (sendable, crosses, action_sync) depth 100 fits 20000
-
-pub matching_send : IsSend (matching.the_field).row
-matching_send = search (sendable, crosses, key_send, mask_send) depth 100 fits 20000
-
-pub matching_sync : IsSync (matching.the_field).row
-matching_sync = search (sendable, crosses, key_sync, mask_sync) depth 100 fits 20000
 
 rule_send : IsSend (rule.the_field).row
 rule_send = search (sendable, crosses, matching_send) depth 100 fits 20000

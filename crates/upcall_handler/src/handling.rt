@@ -8,12 +8,12 @@ use crate::settling::settle_lent;
 use crate::translated::Translated;
 use crate::upshot::{Settling, Upshot};
 use edge_io::{Gate, Point};
-use newest_xlate::{SpareLists, translate_newest};
 use pmd_board::Board;
 use run_case::{Case, Keyed, RunData};
 use std::alloc::{AllocError, Global};
 use std::sync::{Mutex, Wait};
-use table_publish::Seer;
+use table_publish::{Seer, SpareLists, translate_newest};
+use table_versions::RunTables;
 use upcalls::Upcall;
 
 /// How often a frame is translated, where each time a newer sweep had begun.
@@ -34,15 +34,15 @@ fn frame_of<C: Case>(run: &RunData<C>, upcall: Upcall) -> Option<Keyed<C>>
 
 // Translates the key of a frame under the newest version, and settles the frame by that. The gate, if there is one, is
 // told between the two.
-fn settle_newest<C: Case, G: Gate, R: Wait>(
+fn settle_newest<C: Case, T: RunTables<C>, G: Gate, R: Wait>(
     rt: &R,
     alloc: Global,
-    seer: Seer<C>,
+    seer: Seer<C, T>,
     run: &RunData<C>,
     board: &Mutex<Board<C>>,
     at: &Keyed<C>,
     gate: Option<&G>,
-) -> (Seer<C>, Result<Settling, AllocError>)
+) -> (Seer<C, T>, Result<Settling, AllocError>)
     ensures publication { result.0.publication ≡ seer.publication }
     ensures newer { seer.version ≤ result.0.version }
     ensures tells { IfOk result.1 (λ r. Tells C.run result.0.version r) }
@@ -63,16 +63,16 @@ fn settle_newest<C: Case, G: Gate, R: Wait>(
 }
 
 // Handles the upcall of a frame by its tries from this one on, counted from 0. The gate is told in try 0.
-fn handle_frame<C: Case, G: Gate, R: Wait>(
+fn handle_frame<C: Case, T: RunTables<C>, G: Gate, R: Wait>(
     rt: &R,
     alloc: Global,
-    seer: Seer<C>,
+    seer: Seer<C, T>,
     run: &RunData<C>,
     board: &Mutex<Board<C>>,
     at: &Keyed<C>,
     from: u32,
     gate: &G,
-) -> (Seer<C>, Result<Upshot, AllocError>)
+) -> (Seer<C, T>, Result<Upshot, AllocError>)
     requires { from < TRIES }
     ensures publication { result.0.publication ≡ seer.publication }
     ensures newer { seer.version ≤ result.0.version }
@@ -101,15 +101,15 @@ fn handle_frame<C: Case, G: Gate, R: Wait>(
 ///
 /// The gate is told once, between the first translation and the first settle. The seer is handed back. The only error
 /// is out of memory, and then this call has taken no step of the board.
-pub fn handle_one<C: Case, G: Gate, R: Wait>(
+pub fn handle_one<C: Case, T: RunTables<C>, G: Gate, R: Wait>(
     rt: &R,
     alloc: Global,
-    seer: Seer<C>,
+    seer: Seer<C, T>,
     run: &RunData<C>,
     board: &Mutex<Board<C>>,
     upcall: Upcall,
     gate: &G,
-) -> (Seer<C>, Result<Upshot, AllocError>)
+) -> (Seer<C, T>, Result<Upshot, AllocError>)
     ensures publication { result.0.publication ≡ seer.publication }
     ensures newer { seer.version ≤ result.0.version }
     ensures cause { IfOk result.1 (λ r. HasCause C.run result.0.version r) }
@@ -122,14 +122,14 @@ pub fn handle_one<C: Case, G: Gate, R: Wait>(
 
 // Translates the frames of upcalls in order, each under the newest version that is published then, and passes those over
 // that the run doesn't have. The gate is told of each one that is translated.
-fn translate_each<C: Case, G: Gate, R: Wait>(
+fn translate_each<C: Case, T: RunTables<C>, G: Gate, R: Wait>(
     rt: &R,
     alloc: Global,
-    seer: Seer<C>,
+    seer: Seer<C, T>,
     run: &RunData<C>,
     upcalls: &[Upcall],
     gate: &G,
-) -> (Seer<C>, Result<Vec<Translated<C>>, AllocError>)
+) -> (Seer<C, T>, Result<Vec<Translated<C>>, AllocError>)
     ensures publication { result.0.publication ≡ seer.publication }
     ensures newer { seer.version ≤ result.0.version }
 {
@@ -178,15 +178,15 @@ fn settle_each<C: Case, R: Wait>(
 }
 
 // Handles the upcalls of frames whose first translations were stale.
-fn handle_stale<C: Case, G: Gate, R: Wait>(
+fn handle_stale<C: Case, T: RunTables<C>, G: Gate, R: Wait>(
     rt: &R,
     alloc: Global,
-    seer: Seer<C>,
+    seer: Seer<C, T>,
     run: &RunData<C>,
     board: &Mutex<Board<C>>,
     stale: Vec<Keyed<C>>,
     gate: &G,
-) -> (Seer<C>, Result<(), AllocError>)
+) -> (Seer<C, T>, Result<(), AllocError>)
     ensures publication { result.0.publication ≡ seer.publication }
     ensures newer { seer.version ≤ result.0.version }
 {
@@ -207,15 +207,15 @@ fn handle_stale<C: Case, G: Gate, R: Wait>(
 ///
 /// The gate is told once of each frame, between its first translation and the settles. The seer is handed back. The only
 /// error is out of memory, and then frames may be left.
-pub fn handle_all<C: Case, G: Gate, R: Wait>(
+pub fn handle_all<C: Case, T: RunTables<C>, G: Gate, R: Wait>(
     rt: &R,
     alloc: Global,
-    seer: Seer<C>,
+    seer: Seer<C, T>,
     run: &RunData<C>,
     board: &Mutex<Board<C>>,
     upcalls: &[Upcall],
     gate: &G,
-) -> (Seer<C>, Result<(), AllocError>)
+) -> (Seer<C, T>, Result<(), AllocError>)
     ensures publication { result.0.publication ≡ seer.publication }
     ensures newer { seer.version ≤ result.0.version }
 {

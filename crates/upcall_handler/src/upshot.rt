@@ -1,5 +1,5 @@
 /// How the handling of an upcall ended.
-#[derive(Clone, Copy)]
+#[derive(Clone, Copy, PartialEq, Eq)]
 pub enum Upshot {
     /// The frame is decided.
     Done,

@@ -14,14 +14,13 @@ use Rattle.megaflow_table.proofs.Crossing.{megaflows_send}
 use Rattle.pmd_board.specs.contracts.board.Board as board
 use Rattle.port_caches.specs.contracts.caches.PortCaches as caches
 use Rattle.port_caches.specs.contracts.lists.HeldList as held
-use Rattle.rule_tables.specs.contracts.edit.Edit as edit
+use Rattle.rule_tables.proofs.Crossing.{edit_sync}
 use Rattle.run_case.specs.contracts.run_data.RunData as run_data
 use Rattle.run_case.specs.declared.case.Case.{Ghosts}
 use Rattle.run_edits.specs.contracts.edits.RunEdits as run_edits
 use Rattle.spec_actions.specs.contracts.action.DpAction as dp_action
 use Rattle.spec_keys.specs.contracts.field_id.FieldId as field_id
-use Rattle.staged_lookup.proofs.Crossing.{key_send}
-use Rattle.tuple_classifier.proofs.Crossing.{actions_sync, matching_sync}
+use Rattle.ovs_fields.proofs.Crossing.{key_send}
 use Rattle.upcall_queue.specs.contracts.pass.Pass as pass
 use Rattle.upcall_queue.specs.contracts.queue.UpcallQueue as queue
 use Rattle.worker_phase.specs.contracts.editing.PhaseEditor as phase_editor
@@ -31,6 +30,7 @@ use Rattle.worker_phase.specs.contracts.receiving.Receiver as receiver
 use Rattle.worker_phase.specs.contracts.revalidating.Revalidator as revalidator
 use Rattle.worker_phase.specs.contracts.shared.Shared as shared_state
 use Rattle.worker_phase.specs.declared.phase.Phase as phase
+use Rattle.table_versions.specs.declared.tables.RunTables as run_tables
 use Rattle.table_publish.proofs.Crossing.{editor_send, news_send, seer_send}
 use denote.Ref.{NamedLft}
 use denote.Struct.Tuple.{TupleAt}
@@ -39,9 +39,6 @@ use Rattle.std.specs.Prelude.{[], ◌∷◌}
 use Rattle.std.specs.contracts.alloc.AllocError as alloc_error
 use Rattle.std.specs.contracts.option.Option as option
 use Rattle.std.specs.contracts.result.Result as result
-
-edit_sync : IsSync edit.the_row
-edit_sync = search (sendable, crosses, actions_sync, matching_sync) depth 100 fits 20000
 
 pub run_data_sync : (C : RattleType) (g : Ghosts C.Denot) → IsSync C → IsSync (run_data.the_row C g)
 run_data_sync C g c = search (sendable, crosses) depth 100 fits 20000
@@ -79,23 +76,27 @@ caches_send = search (sendable, crosses, megaflows_send, exact_send, totals_send
 pub board_send : (C : RattleType) (g : Ghosts C.Denot) → IsSend C → IsSync C → IsSend (board.the_row C g)
 board_send C g c shared_c = search (sendable, crosses, caches_send, step_send) depth 100 fits 20000
 
-pub mailbox_send : (C P : RattleType) (g : Ghosts C.Denot) (p : phase.Ghosts P.Denot) → IsSend C → IsSync C → IsSend P → IsSync P → IsSend (mailbox.the_row C P p g)
-mailbox_send C P g p c shared_c of shared_of = search (sendable, crosses, news_send) depth 100 fits 20000
-
 pub receiver_send : (C P : RattleType) (g : Ghosts C.Denot) (p : phase.Ghosts P.Denot) → IsSend C → IsSync C → IsSend P → IsSync P → IsSend (receiver.the_row C P g p)
 receiver_send C P g p c shared_c of shared_of = search (sendable, crosses, pass_send) depth 100 fits 20000
 
-pub handler_send : (C P : RattleType) (g : Ghosts C.Denot) (p : phase.Ghosts P.Denot) → IsSend C → IsSync C → IsSend P → IsSync P → IsSend (handler.the_row C P p g)
-handler_send C P g p c shared_c of shared_of = search (sendable, crosses, seer_send, pass_send) depth 100 fits 20000
+-- what has the tables, or a seer of them
+module _
+    (C T P : RattleType) (g : Ghosts C.Denot) (t : run_tables.Ghosts T.Denot C.Denot) (p : phase.Ghosts P.Denot) (c : IsSend C) (shared_c : IsSync C)
+    (kept : IsSend T) (shared_kept : IsSync T) (of : IsSend P) (shared_of : IsSync P) where
+  pub mailbox_send : IsSend (mailbox.the_row C T P p g t)
+  mailbox_send = search (sendable, crosses, news_send) depth 100 fits 20000
 
-pub revalidator_send : (C P : RattleType) (g : Ghosts C.Denot) (p : phase.Ghosts P.Denot) → IsSend C → IsSync C → IsSend P → IsSync P → IsSend (revalidator.the_row C P p g)
-revalidator_send C P g p c shared_c of shared_of = search (sendable, crosses, seer_send) depth 100 fits 20000
+  pub handler_send : IsSend (handler.the_row C T P p g t)
+  handler_send = search (sendable, crosses, seer_send, pass_send) depth 100 fits 20000
 
-pub shared_sync : (ℓ : NamedLft) (C P : RattleType) (g : Ghosts C.Denot) (p : phase.Ghosts P.Denot) → IsSend C → IsSync C → IsSend P → IsSync P → IsSync (shared_state.the_row ℓ C P g p)
-shared_sync ℓ C P g p c shared_c of shared_of = search (sendable, crosses, run_data_sync, run_edits_sync, board_send, queue_sync, mailbox_send) depth 100 fits 20000
+  pub revalidator_send : IsSend (revalidator.the_row C T P p g t)
+  revalidator_send = search (sendable, crosses, seer_send) depth 100 fits 20000
 
-pub phase_editor_send : (C P : RattleType) (g : Ghosts C.Denot) (p : phase.Ghosts P.Denot) → IsSend C → IsSync C → IsSend P → IsSync P → IsSend (phase_editor.the_row C P p g)
-phase_editor_send C P g p c shared_c of shared_of = search (sendable, crosses, editor_send) depth 100 fits 20000
+  pub shared_sync : (ℓ : NamedLft) → IsSync (shared_state.the_row ℓ C T P g p t)
+  shared_sync ℓ = search (sendable, crosses, run_data_sync, run_edits_sync, board_send, queue_sync, mailbox_send) depth 100 fits 20000
+
+  pub phase_editor_send : IsSend (phase_editor.the_row C T P p g t)
+  phase_editor_send = search (sendable, crosses, editor_send) depth 100 fits 20000
 
 pub tuple2_send : (n : Sym) (A B : RattleType) → IsSend A → IsSend B → IsSend (TupleAt n (A ∷ B ∷ []))
 tuple2_send n A B a b = search sendable depth 20

@@ -13,6 +13,7 @@ use std::alloc::{AllocError, Global};
 use std::marker::PhantomData;
 use std::sync::{Mutex, Wait};
 use table_publish::Seer;
+use table_versions::RunTables;
 use upcall_queue::{Pass, UpcallQueue};
 
 /// A lock for each board.
@@ -40,10 +41,10 @@ pub fn unlocked<C: Case>(
 }
 
 /// So many mailboxes without news.
-pub fn mailboxes<C: Case, P: Phase>(
+pub fn mailboxes<C: Case, T: RunTables<C>, P: Phase>(
     alloc: Global,
     count: usize,
-) -> Result<Vec<Mutex<Mailbox<C, P>>>, AllocError> {
+) -> Result<Vec<Mutex<Mailbox<C, T, P>>>, AllocError> {
     let mut boxes = Vec::new(alloc);
     'boxes: for _ in 0..count {
         boxes.push(Mutex::new(Mailbox::new()))?;
@@ -63,7 +64,9 @@ pub fn next_pass<C: Case, P: Phase>(passes: &mut Vec<Pass<C>>) -> Result<Pass<C>
 
 // The last of the seers.
 #[tactic(auto, using(crate::proofs::Lists::before_last))]
-fn next_seer<C: Case, P: Phase>(seers: &mut Vec<Seer<C>>) -> Result<Seer<C>, AllocError>
+fn next_seer<C: Case, T: RunTables<C>, P: Phase>(
+    seers: &mut Vec<Seer<C, T>>,
+) -> Result<Seer<C, T>, AllocError>
     requires { All (λ s. s.publication ≡ P.publication) seers.old.items }
     ensures publication { All (λ s. s.publication ≡ P.publication) seers.new.items }
     ensures seer { IfOk result (λ s. s.publication ≡ P.publication) }
@@ -93,12 +96,12 @@ fn receivers_of<C: Case, P: Phase>(
 }
 
 // So many handlers, each with a seer, a mailbox and a pass.
-fn handlers_of<C: Case, P: Phase>(
+fn handlers_of<C: Case, T: RunTables<C>, P: Phase>(
     alloc: Global,
-    seers: &mut Vec<Seer<C>>,
+    seers: &mut Vec<Seer<C, T>>,
     passes: &mut Vec<Pass<C>>,
     count: usize,
-) -> Result<Vec<Handler<C, P>>, AllocError>
+) -> Result<Vec<Handler<C, T, P>>, AllocError>
     requires queue { All (λ p. p.queue ≡ P.queue) passes.old.items }
     requires publication { All (λ s. s.publication ≡ P.publication) seers.old.items }
     ensures queue { All (λ p. p.queue ≡ P.queue) passes.new.items }
@@ -107,7 +110,7 @@ fn handlers_of<C: Case, P: Phase>(
     let mut handlers = Vec::new(alloc);
     'workers: for mailbox in 0..count {
         let pass = next_pass::<C, P>(passes)?;
-        let seer = next_seer::<C, P>(seers)?;
+        let seer = next_seer::<C, T, P>(seers)?;
         handlers.push(Handler {
             mailbox,
             seer,
@@ -120,12 +123,12 @@ fn handlers_of<C: Case, P: Phase>(
 
 /// The workers of a phase, so many of each kind. Seers and passes are handed out from the end of their lists; the mailbox
 /// of the revalidator is the last one.
-pub fn workers_of<C: Case, P: Phase>(
+pub fn workers_of<C: Case, T: RunTables<C>, P: Phase>(
     alloc: Global,
-    seers: Vec<Seer<C>>,
+    seers: Vec<Seer<C, T>>,
     passes: &mut Vec<Pass<C>>,
     count: usize,
-) -> Result<Workers<C, P>, AllocError>
+) -> Result<Workers<C, T, P>, AllocError>
     requires queue { All (λ p. p.queue ≡ P.queue) passes.old.items }
     requires publication { All (λ s. s.publication ≡ P.publication) seers.items }
     ensures { All (λ p. p.queue ≡ P.queue) passes.new.items }
@@ -133,7 +136,7 @@ pub fn workers_of<C: Case, P: Phase>(
     let mut seers = seers;
     let receivers = receivers_of(alloc, passes, count)?;
     let handlers = handlers_of(alloc, &mut seers, passes, count)?;
-    let seer = next_seer::<C, P>(&mut seers)?;
+    let seer = next_seer::<C, T, P>(&mut seers)?;
     let revalidator = Revalidator {
         mailbox: count,
         seer,
@@ -162,12 +165,12 @@ fn take_in_receivers<C: Case, P: Phase>(
 }
 
 // Takes in the passes of handlers that have ended, and gives their seers back.
-fn take_in_handlers<C: Case, P: Phase>(
+fn take_in_handlers<C: Case, T: RunTables<C>, P: Phase>(
     alloc: Global,
     queue: &UpcallQueue<C>,
     first: &mut Pass<C>,
-    handlers: Vec<Handler<C, P>>,
-) -> Result<Vec<Seer<C>>, AllocError>
+    handlers: Vec<Handler<C, T, P>>,
+) -> Result<Vec<Seer<C, T>>, AllocError>
     requires queue { queue.now.name ≡ P.queue }
     requires first { first.old.queue ≡ P.queue }
     ensures first { first.new.queue ≡ P.queue }
@@ -194,13 +197,13 @@ fn pop_all<C: Case, R: Wait>(rt: &R, queue: &UpcallQueue<C>, first: Pass<C>)
 }
 
 /// Takes in the passes of workers that have ended, pops until the queue answers none, and gives the seers back.
-pub fn take_in_workers<C: Case, P: Phase, R: Wait>(
+pub fn take_in_workers<C: Case, T: RunTables<C>, P: Phase, R: Wait>(
     rt: &R,
     alloc: Global,
     queue: &UpcallQueue<C>,
     first: Pass<C>,
-    workers: Workers<C, P>,
-) -> Result<Vec<Seer<C>>, AllocError>
+    workers: Workers<C, T, P>,
+) -> Result<Vec<Seer<C, T>>, AllocError>
     requires queue { queue.now.name ≡ P.queue }
     requires first { first.queue ≡ P.queue }
     ensures { IfOk result (λ seers. All (λ s. s.publication ≡ P.publication) seers.items) }

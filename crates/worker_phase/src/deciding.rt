@@ -4,27 +4,28 @@ ghost use Rattle.std.specs.List.{list_all};
 ghost use Rattle.spec_case.specs.Blocks.{hi, last_block};
 ghost use Rattle.spec_tables.specs.Edits.{has_sound_actions};
 ghost use Rattle.spec_words.specs.Words.{most_workers};
-ghost use Rattle.step_runner.specs.Finished.{AreFinished};
+ghost use Rattle.run_boards.specs.Finished.{AreFinished};
 
 use crate::pool::WorkerPool;
 use edge_io::Gate;
 use pmd_board::Board;
+use run_boards::{Boards, Finished};
 use run_case::{Case, RunData};
 use run_edits::RunEdits;
-use run_tables::Tables;
 use std::alloc::{AllocError, Global};
 use std::sync::Wait;
 use std::thread::Threads;
-use step_runner::{Boards, Finished, close_phase};
+use step_runner::close_phase;
+use table_versions::{RunTables, Tables};
 
 // Ends a phase: the tables, which aren't the published ones, are carried to the last version of its block, and the boards
 // finish it. It says whether they fitted; where they didn't, the whole run is finished.
-fn close_block<C: Case>(
+fn close_block<C: Case, T: RunTables<C>>(
     alloc: Global,
     run: &RunData<C>,
     edits: &RunEdits<C>,
     boards: Vec<Board<C>>,
-    tables: &mut Tables<C>,
+    tables: &mut Tables<C, T>,
     block: u32,
     flow_limit: u32,
 ) -> Result<(Boards<C>, bool), AllocError>
@@ -41,18 +42,23 @@ fn close_block<C: Case>(
 }
 
 // A phase, and its end.
-fn decide_block<C: Case + Send + Sync, R: Threads + Wait + Sync, G: Gate + Sync>(
+fn decide_block<
+    C: Case + Send + Sync,
+    T: RunTables<C> + Send + Sync,
+    R: Threads + Wait + Sync,
+    G: Gate + Sync,
+>(
     rt: &R,
     alloc: Global,
     run: &RunData<C>,
     edits: &RunEdits<C>,
-    pool: WorkerPool<C>,
+    pool: WorkerPool<C, T>,
     boards: Boards<C>,
-    tables: &mut Tables<C>,
+    tables: &mut Tables<C, T>,
     block: u32,
     flow_limit: u32,
     gate: &G,
-) -> Result<(WorkerPool<C>, Boards<C>, bool), AllocError>
+) -> Result<(WorkerPool<C, T>, Boards<C>, bool), AllocError>
     requires sound { IsTrue (list_all has_sound_actions C.run.edits) }
     requires limit { flow_limit ≡ C.run.flow_limit }
     requires there { block ≤ last_block C.run }
@@ -72,12 +78,17 @@ fn decide_block<C: Case + Send + Sync, R: Threads + Wait + Sync, G: Gate + Sync>
 }
 
 // All phases, until each block is finished.
-fn decide_blocks<C: Case + Send + Sync, R: Threads + Wait + Sync, G: Gate + Sync>(
+fn decide_blocks<
+    C: Case + Send + Sync,
+    T: RunTables<C> + Send + Sync,
+    R: Threads + Wait + Sync,
+    G: Gate + Sync,
+>(
     rt: &R,
     alloc: Global,
     run: &RunData<C>,
     edits: &RunEdits<C>,
-    pool: WorkerPool<C>,
+    pool: WorkerPool<C, T>,
     boards: Boards<C>,
     flow_limit: u32,
     gate: &G,
@@ -89,7 +100,7 @@ fn decide_blocks<C: Case + Send + Sync, R: Threads + Wait + Sync, G: Gate + Sync
     let last = run.last_block();
     let mut pool = pool;
     let mut boards = boards;
-    let mut tables = Tables::new(alloc);
+    let mut tables = Tables::<C, T>::new(alloc);
     'blocks: for block in 0..last + 1 {
         let (next, left, fit) = decide_block(
             rt,
@@ -121,7 +132,12 @@ fn decide_blocks<C: Case + Send + Sync, R: Threads + Wait + Sync, G: Gate + Sync
 /// wait, so that it returns is no part of what is proved.
 ///
 /// The only error is out of memory.
-pub fn decide_by_workers<C: Case + Send + Sync, R: Threads + Wait + Sync, G: Gate + Sync>(
+pub fn decide_by_workers<
+    C: Case + Send + Sync,
+    T: RunTables<C> + Send + Sync,
+    R: Threads + Wait + Sync,
+    G: Gate + Sync,
+>(
     rt: &R,
     alloc: Global,
     run: &RunData<C>,
@@ -135,7 +151,7 @@ pub fn decide_by_workers<C: Case + Send + Sync, R: Threads + Wait + Sync, G: Gat
     requires workers { (1 ≤ workers) × (workers ≤ most_workers) }
 {
     let boards = Boards::new(alloc, run, flow_limit)?;
-    let pool = WorkerPool::new(rt, alloc, workers)?;
+    let pool = WorkerPool::<C, T>::new(rt, alloc, workers)?;
     let boards = decide_blocks(rt, alloc, run, edits, pool, boards, flow_limit, gate)?;
     Finished::new(alloc, run, boards)
 }

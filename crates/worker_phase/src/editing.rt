@@ -8,20 +8,21 @@ use run_case::Case;
 use std::marker::PhantomData;
 use std::sync::Wait;
 use table_publish::Editor;
+use table_versions::RunTables;
 
 /// The editor of the phase's publication.
-pub struct PhaseEditor<C: Case, P: Phase> {
-    pub editor: Editor<C>,
+pub struct PhaseEditor<C: Case, T: RunTables<C>, P: Phase> {
+    pub editor: Editor<C, T>,
     pub of: PhantomData<P>,
     pub ghost publication_is: { editor.publication ≡ P.publication },
 }
 
 // Publishes the bundles of the block, in order, and tells each version. It stops where memory is wanting.
-fn publish_block<C: Case, P: Phase, R: Wait>(
+fn publish_block<C: Case, T: RunTables<C>, P: Phase, R: Wait>(
     rt: &R,
-    shared: &Shared<'_, C, P>,
-    editor: Editor<C>,
-) -> Editor<C>
+    shared: &Shared<'_, C, T, P>,
+    editor: Editor<C, T>,
+) -> Editor<C, T>
     requires { editor.publication ≡ P.publication }
     ensures { result.publication ≡ P.publication }
 {
@@ -41,10 +42,10 @@ fn publish_block<C: Case, P: Phase, R: Wait>(
 }
 
 // Puts the editor back into its slot, which is empty.
-fn put_back<C: Case, P: Phase, R: Wait>(
+fn put_back<C: Case, T: RunTables<C>, P: Phase, R: Wait>(
     rt: &R,
-    slot: &mut Option<PhaseEditor<C, P>>,
-    editor: PhaseEditor<C, P>,
+    slot: &mut Option<PhaseEditor<C, T, P>>,
+    editor: PhaseEditor<C, T, P>,
 ) {
     match slot.replace(editor) {
         None => {}
@@ -53,10 +54,10 @@ fn put_back<C: Case, P: Phase, R: Wait>(
 }
 
 /// Publishes the bundles of the block with the editor that lies in a slot, puts it back, and says that it has ended.
-pub fn edit<C: Case, P: Phase, R: Wait>(
+pub fn edit<C: Case, T: RunTables<C>, P: Phase, R: Wait>(
     rt: &R,
-    shared: &Shared<'_, C, P>,
-    slot: &mut Option<PhaseEditor<C, P>>,
+    shared: &Shared<'_, C, T, P>,
+    slot: &mut Option<PhaseEditor<C, T, P>>,
 ) {
     if let Some(PhaseEditor { editor, of }) = slot.take() {
         let editor = publish_block(rt, shared, editor);

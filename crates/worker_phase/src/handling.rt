@@ -9,6 +9,7 @@ use std::alloc::{AllocError, Global};
 use std::marker::PhantomData;
 use std::sync::Wait;
 use table_publish::Seer;
+use table_versions::RunTables;
 use upcall_handler::handle_all;
 use upcall_queue::Pass;
 use upcalls::Upcall;
@@ -18,9 +19,9 @@ const MOST_UPCALLS: usize = 32;
 
 /// A handler: its seer, whose mailbox has this number, and the pass by which it takes upcalls.
 #[derive(Drop)]
-pub struct Handler<C: Case, P: Phase> {
+pub struct Handler<C: Case, T: RunTables<C>, P: Phase> {
     pub mailbox: usize,
-    pub seer: Seer<C>,
+    pub seer: Seer<C, T>,
     pub pass: Pass<C>,
     pub of: PhantomData<P>,
     pub ghost publication_is: { seer.publication ≡ P.publication },
@@ -29,9 +30,9 @@ pub struct Handler<C: Case, P: Phase> {
 
 // Takes upcalls, if there are any: one, and its share of those that are left where it was busy. Another handler is told
 // of the others.
-fn take_share<C: Case, P: Phase, R: Wait>(
+fn take_share<C: Case, T: RunTables<C>, P: Phase, R: Wait>(
     rt: &R,
-    shared: &Shared<'_, C, P>,
+    shared: &Shared<'_, C, T, P>,
     pass: &mut Pass<C>,
     was_idle: bool,
     taken: &mut Vec<Upcall>,
@@ -62,14 +63,14 @@ fn take_share<C: Case, P: Phase, R: Wait>(
 }
 
 // Handles upcalls of one port at its board.
-fn handle_at<C: Case, P: Phase, R: Wait, G: Gate>(
+fn handle_at<C: Case, T: RunTables<C>, P: Phase, R: Wait, G: Gate>(
     rt: &R,
     alloc: Global,
-    shared: &Shared<'_, C, P>,
-    seer: Seer<C>,
+    shared: &Shared<'_, C, T, P>,
+    seer: Seer<C, T>,
     upcalls: &[Upcall],
     gate: &G,
-) -> (Seer<C>, Result<(), AllocError>)
+) -> (Seer<C, T>, Result<(), AllocError>)
     requires { seer.publication ≡ P.publication }
     ensures { result.0.publication ≡ P.publication }
 {
@@ -101,14 +102,14 @@ fn row_length(upcalls: &[Upcall]) -> usize
 }
 
 // Handles upcalls that were taken, those of one port that stand in a row together.
-fn handle_taken<C: Case, P: Phase, R: Wait, G: Gate>(
+fn handle_taken<C: Case, T: RunTables<C>, P: Phase, R: Wait, G: Gate>(
     rt: &R,
     alloc: Global,
-    shared: &Shared<'_, C, P>,
-    seer: Seer<C>,
+    shared: &Shared<'_, C, T, P>,
+    seer: Seer<C, T>,
     taken: &[Upcall],
     gate: &G,
-) -> (Seer<C>, Result<(), AllocError>)
+) -> (Seer<C, T>, Result<(), AllocError>)
     requires { seer.publication ≡ P.publication }
     ensures { result.0.publication ≡ P.publication }
 {
@@ -128,13 +129,13 @@ fn handle_taken<C: Case, P: Phase, R: Wait, G: Gate>(
 }
 
 /// Handles upcalls until none is left and all receive workers have ended, or memory is wanting.
-pub fn handle<C: Case, P: Phase, R: Wait, G: Gate>(
+pub fn handle<C: Case, T: RunTables<C>, P: Phase, R: Wait, G: Gate>(
     rt: &R,
     alloc: Global,
-    shared: &Shared<'_, C, P>,
-    handler: Handler<C, P>,
+    shared: &Shared<'_, C, T, P>,
+    handler: Handler<C, T, P>,
     gate: &G,
-) -> (Handler<C, P>, Result<(), AllocError>) {
+) -> (Handler<C, T, P>, Result<(), AllocError>) {
     let Handler {
         mailbox,
         mut seer,

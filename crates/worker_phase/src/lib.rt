@@ -10,7 +10,7 @@
 //!
 //! # What is promised
 //!
-//! `decide_by_workers` answers finished boards (`step_runner`), whatever the threads did and in whichever order: there is
+//! `decide_by_workers` answers finished boards (`run_boards`), whatever the threads did and in whichever order: there is
 //! a journal for each port, it is legal and complete, each frame is decided once and within its window, and each rule has
 //! what it is due. Which of the many journals that a run may have these are, nobody promises. The only error is out of
 //! memory.
@@ -52,7 +52,7 @@
 //!
 //! # What is left to others
 //!
-//! What a batch, an upcall and a sweep do to a board (`rx_worker`, `upcall_handler`, `revalidator`), the queue and the
+//! Who keeps the tables (`RunTables` of `table_versions`), what a batch, an upcall and a sweep do to a board (`rx_worker`, `upcall_handler`, `revalidator`), the queue and the
 //! tables that threads share (`upcall_queue`, `table_publish`), and the end of a block (`step_runner`).
 #![tactic(auto)]
 

@@ -7,18 +7,19 @@ use run_case::Case;
 use std::marker::PhantomData;
 use std::sync::{Mutex, Wait};
 use table_publish::{Editor, News, Seer};
+use table_versions::RunTables;
 
 /// Where the newest news for one seer lie until it learns them.
 #[derive(Drop)]
-pub struct Mailbox<C: Case, P: Phase> {
-    news: Option<News<C>>,
+pub struct Mailbox<C: Case, T: RunTables<C>, P: Phase> {
+    news: Option<News<C, T>>,
     of: PhantomData<P>,
     ghost published: { IfSome news (λ n. n.publication ≡ P.publication) } by { Prim.hlevel props },
 }
 
-impl<C: Case, P: Phase> Mailbox<C, P> {
+impl<C: Case, T: RunTables<C>, P: Phase> Mailbox<C, T, P> {
     /// A mailbox without news.
-    pub fn new() -> Mailbox<C, P> {
+    pub fn new() -> Mailbox<C, T, P> {
         Mailbox {
             news: None,
             of: PhantomData,
@@ -26,14 +27,14 @@ impl<C: Case, P: Phase> Mailbox<C, P> {
     }
 
     // Puts news in, in place of older ones.
-    fn put(&mut self, news: News<C>)
+    fn put(&mut self, news: News<C, T>)
         requires { news.publication ≡ P.publication }
     {
         self.news = Some(news);
     }
 
     // Takes the news out, if there are any.
-    fn take(&mut self) -> Option<News<C>>
+    fn take(&mut self) -> Option<News<C, T>>
         ensures { IfSome result (λ n. n.publication ≡ P.publication) }
     {
         self.news.take()
@@ -41,11 +42,11 @@ impl<C: Case, P: Phase> Mailbox<C, P> {
 }
 
 /// A seer that has learnt the news in its mailbox, if there are any.
-pub fn learn<C: Case, P: Phase, R: Wait>(
+pub fn learn<C: Case, T: RunTables<C>, P: Phase, R: Wait>(
     rt: &R,
-    mailbox: &Mutex<Mailbox<C, P>>,
-    seer: Seer<C>,
-) -> Seer<C>
+    mailbox: &Mutex<Mailbox<C, T, P>>,
+    seer: Seer<C, T>,
+) -> Seer<C, T>
     requires { seer.publication ≡ P.publication }
     ensures { result.publication ≡ P.publication }
 {
@@ -57,10 +58,10 @@ pub fn learn<C: Case, P: Phase, R: Wait>(
 }
 
 /// Puts news of the version that was published last into each mailbox.
-pub fn tell_all<C: Case, P: Phase, R: Wait>(
+pub fn tell_all<C: Case, T: RunTables<C>, P: Phase, R: Wait>(
     rt: &R,
-    editor: &mut Editor<C>,
-    mailboxes: &[Mutex<Mailbox<C, P>>],
+    editor: &mut Editor<C, T>,
+    mailboxes: &[Mutex<Mailbox<C, T, P>>],
 )
     requires { editor.old.publication ≡ P.publication }
     ensures { editor.new ≡ editor.old }

@@ -16,21 +16,22 @@ use std::marker::Brand;
 use std::sync::Wait;
 use std::thread::Threads;
 use table_publish::{Editor, Seer, publish};
+use table_versions::RunTables;
 use upcall_queue::UpcallQueue;
 
 /// How many workers of each kind a run has, the editor of its tables, and a seer of them for each handler and for the
 /// revalidator. End it by `end`.
-pub struct WorkerPool<C: Case> {
-    editor: Editor<C>,
-    seers: Vec<Seer<C>>,
+pub struct WorkerPool<C: Case, T: RunTables<C>> {
+    editor: Editor<C, T>,
+    seers: Vec<Seer<C, T>>,
     workers: u8,
     ghost of_editor: { All (λ s. s.publication ≡ editor.publication) seers.items },
     ghost few: { (1 ≤ workers) × (workers ≤ most_workers) },
 }
 
-impl<C: Case + Send + Sync> WorkerPool<C> {
+impl<C: Case + Send + Sync, T: RunTables<C> + Send + Sync> WorkerPool<C, T> {
     /// So many workers, and tables without a rule. The only error is out of memory.
-    pub fn new<R: Wait>(rt: &R, alloc: Global, workers: u8) -> Result<WorkerPool<C>, AllocError>
+    pub fn new<R: Wait>(rt: &R, alloc: Global, workers: u8) -> Result<WorkerPool<C, T>, AllocError>
         requires sound { IsTrue (list_all has_sound_actions C.run.edits) }
         requires workers { (1 ≤ workers) × (workers ≤ most_workers) }
     {
@@ -54,7 +55,7 @@ impl<C: Case + Send + Sync> WorkerPool<C> {
         boards: Vec<Board<C>>,
         block: u32,
         gate: &G,
-    ) -> Result<(WorkerPool<C>, Vec<Board<C>>), AllocError>
+    ) -> Result<(WorkerPool<C, T>, Vec<Board<C>>), AllocError>
         requires { block ≤ last_block C.run }
     {
         let WorkerPool {
@@ -73,7 +74,7 @@ impl<C: Case + Send + Sync> WorkerPool<C> {
                 return Err(e);
             }
         };
-        let (editor, worked) = work_at_block::<C, Brand, R, G>(
+        let (editor, worked) = work_at_block::<C, T, Brand, R, G>(
             rt, alloc, run, edits, editor, seers, &queue, passes, boards, block, workers, gate,
         );
         // The editor is always back; no contract can say so of what a thread leaves.

@@ -9,6 +9,7 @@ use run_case::Case;
 use rx_worker::{BATCH_SIZE, poll_batch};
 use std::marker::PhantomData;
 use std::sync::{Mutex, Wait};
+use table_versions::RunTables;
 use upcall_queue::{Feeder, Pass};
 use upcalls::Upcalls;
 
@@ -27,9 +28,9 @@ pub struct Receiver<C: Case, P: Phase> {
 // Waits until the queue has room for a batch of each receive worker, at most so many turns. It answers how many turns are
 // to be waited next time: none where there was no room to the end, so that where nobody takes upcalls that is waited for
 // once.
-fn wait_for_room<C: Case, P: Phase, R: Wait>(
+fn wait_for_room<C: Case, T: RunTables<C>, P: Phase, R: Wait>(
     rt: &R,
-    shared: &Shared<'_, C, P>,
+    shared: &Shared<'_, C, T, P>,
     feeder: &mut Feeder<'_, C, R>,
     turns: u32,
 ) -> u32
@@ -46,9 +47,9 @@ fn wait_for_room<C: Case, P: Phase, R: Wait>(
 }
 
 // Polls a port until its block is looked up. It may wait so many turns for room, and answers how many it may next time.
-fn poll_port<C: Case, P: Phase, R: Wait, G: Gate>(
+fn poll_port<C: Case, T: RunTables<C>, P: Phase, R: Wait, G: Gate>(
     rt: &R,
-    shared: &Shared<'_, C, P>,
+    shared: &Shared<'_, C, T, P>,
     port: u16,
     lock: &Mutex<Board<C>>,
     feeder: &mut Feeder<'_, C, R>,
@@ -72,9 +73,9 @@ fn poll_port<C: Case, P: Phase, R: Wait, G: Gate>(
 }
 
 // Polls the ports of a receive worker, one after the other.
-fn poll_ports<C: Case, P: Phase, R: Wait, G: Gate>(
+fn poll_ports<C: Case, T: RunTables<C>, P: Phase, R: Wait, G: Gate>(
     rt: &R,
-    shared: &Shared<'_, C, P>,
+    shared: &Shared<'_, C, T, P>,
     number: usize,
     feeder: &mut Feeder<'_, C, R>,
     gate: &G,
@@ -95,9 +96,9 @@ fn poll_ports<C: Case, P: Phase, R: Wait, G: Gate>(
 }
 
 /// Polls the ports of a receive worker until their block is looked up.
-pub fn receive<C: Case, P: Phase, R: Wait, G: Gate>(
+pub fn receive<C: Case, T: RunTables<C>, P: Phase, R: Wait, G: Gate>(
     rt: &R,
-    shared: &Shared<'_, C, P>,
+    shared: &Shared<'_, C, T, P>,
     receiver: Receiver<C, P>,
     gate: &G,
 ) -> Receiver<C, P> {

@@ -10,23 +10,24 @@ use std::alloc::{AllocError, Global};
 use std::marker::PhantomData;
 use std::sync::Wait;
 use table_publish::Seer;
+use table_versions::RunTables;
 
 /// The revalidator: its seer, whose mailbox has this number.
 #[derive(Drop)]
-pub struct Revalidator<C: Case, P: Phase> {
+pub struct Revalidator<C: Case, T: RunTables<C>, P: Phase> {
     pub mailbox: usize,
-    pub seer: Seer<C>,
+    pub seer: Seer<C, T>,
     pub of: PhantomData<P>,
     pub ghost publication_is: { seer.publication ≡ P.publication },
 }
 
 // The seer once it knows the last version of the block, or the editor has ended: then what it told is all that comes.
-fn told_last<C: Case, P: Phase, R: Wait>(
+fn told_last<C: Case, T: RunTables<C>, P: Phase, R: Wait>(
     rt: &R,
-    shared: &Shared<'_, C, P>,
+    shared: &Shared<'_, C, T, P>,
     mailbox: usize,
-    seer: Seer<C>,
-) -> Seer<C>
+    seer: Seer<C, T>,
+) -> Seer<C, T>
     requires { seer.publication ≡ P.publication }
     ensures { result.publication ≡ P.publication }
 {
@@ -44,13 +45,13 @@ fn told_last<C: Case, P: Phase, R: Wait>(
 }
 
 // Makes a sweep of each board.
-fn sweep_all<C: Case, P: Phase, R: Wait, G: Gate>(
+fn sweep_all<C: Case, T: RunTables<C>, P: Phase, R: Wait, G: Gate>(
     rt: &R,
     alloc: Global,
-    shared: &Shared<'_, C, P>,
-    seer: Seer<C>,
+    shared: &Shared<'_, C, T, P>,
+    seer: Seer<C, T>,
     gate: &G,
-) -> (Seer<C>, Result<(), AllocError>)
+) -> (Seer<C, T>, Result<(), AllocError>)
     requires { seer.publication ≡ P.publication }
     ensures { result.0.publication ≡ P.publication }
 {
@@ -73,13 +74,13 @@ fn sweep_all<C: Case, P: Phase, R: Wait, G: Gate>(
 /// meanwhile.
 ///
 /// The only error is out of memory.
-pub fn revalidate<C: Case, P: Phase, R: Wait, G: Gate>(
+pub fn revalidate<C: Case, T: RunTables<C>, P: Phase, R: Wait, G: Gate>(
     rt: &R,
     alloc: Global,
-    shared: &Shared<'_, C, P>,
-    revalidator: Revalidator<C, P>,
+    shared: &Shared<'_, C, T, P>,
+    revalidator: Revalidator<C, T, P>,
     gate: &G,
-) -> (Revalidator<C, P>, Result<(), AllocError>) {
+) -> (Revalidator<C, T, P>, Result<(), AllocError>) {
     let Revalidator { mailbox, seer, of } = revalidator;
     let seer = told_last(rt, shared, mailbox, seer);
     let (seer, swept) = sweep_all(rt, alloc, shared, seer, gate);

@@ -13,13 +13,14 @@ use std::alloc::{AllocError, Global};
 use std::sync::Wait;
 use std::thread;
 use std::thread::{JoinHandle, SpawnError, Threads};
+use table_versions::RunTables;
 
 /// The workers of a phase beside its editor.
 #[derive(Drop)]
-pub struct Workers<C: Case, P: Phase> {
+pub struct Workers<C: Case, T: RunTables<C>, P: Phase> {
     pub receivers: Vec<Receiver<C, P>>,
-    pub handlers: Vec<Handler<C, P>>,
-    pub revalidator: Revalidator<C, P>,
+    pub handlers: Vec<Handler<C, T, P>>,
+    pub revalidator: Revalidator<C, T, P>,
 }
 
 // Work that was begun: in a thread, or at once, where none could be made.
@@ -63,11 +64,11 @@ fn join_receivers<C: Case, P: Phase, R: Threads>(
 }
 
 // The handlers, once all have ended.
-fn join_handlers<C: Case, P: Phase, R: Threads>(
+fn join_handlers<C: Case, T: RunTables<C>, P: Phase, R: Threads>(
     rt: &R,
     alloc: Global,
-    begun: Vec<Begun<(Handler<C, P>, Result<(), AllocError>)>>,
-) -> Result<Vec<Handler<C, P>>, AllocError> {
+    begun: Vec<Begun<(Handler<C, T, P>, Result<(), AllocError>)>>,
+) -> Result<Vec<Handler<C, T, P>>, AllocError> {
     let mut handlers = Vec::with_capacity(alloc, begun.len())?;
     'begun: for one in begun {
         let (handler, done) = one.join(rt);
@@ -84,21 +85,22 @@ fn join_handlers<C: Case, P: Phase, R: Threads>(
 /// The only error is out of memory; the threads that were started have ended then too.
 pub fn work<
     C: Case + Send + Sync,
+    T: RunTables<C> + Send + Sync,
     P: Phase + Send + Sync,
     R: Threads + Wait + Sync,
     G: Gate + Sync,
 >(
     rt: &R,
     alloc: Global,
-    shared: &Shared<'_, C, P>,
-    slot: &mut Option<PhaseEditor<C, P>>,
-    workers: Workers<C, P>,
+    shared: &Shared<'_, C, T, P>,
+    slot: &mut Option<PhaseEditor<C, T, P>>,
+    workers: Workers<C, T, P>,
     gate: &G,
-) -> Result<Workers<C, P>, AllocError> {
+) -> Result<Workers<C, T, P>, AllocError> {
     thread::scope(
         thread::scope_env(),
         rt,
-        |scope| -> Result<Workers<C, P>, AllocError> {
+        |scope| -> Result<Workers<C, T, P>, AllocError> {
             let Workers {
                 receivers,
                 handlers,

@@ -12,6 +12,7 @@ use std::sync::{Condvar, Mutex, Wait};
 use std::thread;
 use std::time::Duration;
 use table_publish::Seer;
+use table_versions::RunTables;
 use upcall_queue::UpcallQueue;
 
 /// In how many turns of waiting a worker yields. In later ones it sleeps.
@@ -37,12 +38,12 @@ pub fn most_queued(workers: usize) -> usize
 /// What the workers of a phase share: the run, a lock for each port's board, the queue of upcalls, a mailbox for each seer,
 /// and who hasn't ended yet.
 #[derive(Drop)]
-pub struct Shared<'a, C: Case, P: Phase> {
+pub struct Shared<'a, C: Case, T: RunTables<C>, P: Phase> {
     pub run: &'a RunData<C>,
     pub edits: &'a RunEdits<C>,
     pub locks: &'a [Mutex<Board<C>>],
     pub queue: &'a UpcallQueue<C>,
-    pub mailboxes: &'a [Mutex<Mailbox<C, P>>],
+    pub mailboxes: &'a [Mutex<Mailbox<C, T, P>>],
     /// How many receive workers haven't ended.
     pub receiving: &'a AtomicU64,
     /// 1 until the editor has ended, then 0.
@@ -72,7 +73,7 @@ fn nap<R: Wait>(rt: &R, word: &AtomicU64, turn: u32) {
     }
 }
 
-impl<C: Case, P: Phase> Shared<'_, C, P> {
+impl<C: Case, T: RunTables<C>, P: Phase> Shared<'_, C, T, P> {
     /// Whether all receive workers have ended. From then on nothing is put into the queue.
     pub fn all_received(&self) -> bool {
         self.receiving.load(Ordering::SeqCst) == 0
@@ -116,7 +117,7 @@ impl<C: Case, P: Phase> Shared<'_, C, P> {
     }
 
     /// The seer with what was told to it, in the mailbox of this number.
-    pub fn told<R: Wait>(&self, rt: &R, mailbox: usize, seer: Seer<C>) -> Seer<C>
+    pub fn told<R: Wait>(&self, rt: &R, mailbox: usize, seer: Seer<C, T>) -> Seer<C, T>
         requires { seer.publication ≡ P.publication }
         ensures { result.publication ≡ P.publication }
     {

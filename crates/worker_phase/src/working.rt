@@ -17,11 +17,13 @@ use std::sync::atomic::AtomicU64;
 use std::sync::{Condvar, Wait};
 use std::thread::Threads;
 use table_publish::{Editor, Seer};
+use table_versions::RunTables;
 use upcall_queue::{Pass, UpcallQueue};
 
 // Works at a block in threads. It gives the seers back, and the boards as they come out of their locks.
 fn work_in_threads<
     C: Case + Send + Sync,
+    T: RunTables<C> + Send + Sync,
     P: Phase + Send + Sync,
     R: Threads + Wait + Sync,
     G: Gate + Sync,
@@ -30,15 +32,15 @@ fn work_in_threads<
     alloc: Global,
     run: &RunData<C>,
     edits: &RunEdits<C>,
-    slot: &mut Option<PhaseEditor<C, P>>,
-    seers: Vec<Seer<C>>,
+    slot: &mut Option<PhaseEditor<C, T, P>>,
+    seers: Vec<Seer<C, T>>,
     queue: &UpcallQueue<C>,
     passes: Vec<Pass<C>>,
     boards: Vec<Board<C>>,
     block: u32,
     workers: u8,
     gate: &G,
-) -> Result<(Vec<Seer<C>>, Vec<Board<C>>), AllocError>
+) -> Result<(Vec<Seer<C, T>>, Vec<Board<C>>), AllocError>
     requires publication { All (λ s. s.publication ≡ P.publication) seers.items }
     requires queue { queue.now.name ≡ P.queue }
     requires passes { All (λ p. p.queue ≡ P.queue) passes.items }
@@ -48,10 +50,10 @@ fn work_in_threads<
 {
     let count = workers as usize;
     let mut passes = passes;
-    let team = workers_of::<C, P>(alloc, seers, &mut passes, count)?;
+    let team = workers_of::<C, T, P>(alloc, seers, &mut passes, count)?;
     let first = next_pass::<C, P>(&mut passes)?;
     let locks = locked(alloc, boards)?;
-    let boxes = mailboxes::<C, P>(alloc, count + 1)?;
+    let boxes = mailboxes::<C, T, P>(alloc, count + 1)?;
     let receiving = AtomicU64::new(workers as u64);
     let editing = AtomicU64::new(1);
     let given = Condvar::new();
@@ -69,7 +71,7 @@ fn work_in_threads<
         of: PhantomData,
     };
     let team = work(rt, alloc, &shared, slot, team, gate)?;
-    let seers = take_in_workers::<C, P, R>(rt, alloc, queue, first, team)?;
+    let seers = take_in_workers::<C, T, P, R>(rt, alloc, queue, first, team)?;
     let boards = unlocked(alloc, locks)?;
     Ok((seers, boards))
 }
@@ -80,6 +82,7 @@ fn work_in_threads<
 /// The only error is out of memory.
 pub fn work_at_block<
     C: Case + Send + Sync,
+    T: RunTables<C> + Send + Sync,
     P: Phase + Send + Sync,
     R: Threads + Wait + Sync,
     G: Gate + Sync,
@@ -88,8 +91,8 @@ pub fn work_at_block<
     alloc: Global,
     run: &RunData<C>,
     edits: &RunEdits<C>,
-    editor: Editor<C>,
-    seers: Vec<Seer<C>>,
+    editor: Editor<C, T>,
+    seers: Vec<Seer<C, T>>,
     queue: &UpcallQueue<C>,
     passes: Vec<Pass<C>>,
     boards: Vec<Board<C>>,
@@ -97,8 +100,8 @@ pub fn work_at_block<
     workers: u8,
     gate: &G,
 ) -> (
-    Option<Editor<C>>,
-    Result<(Vec<Seer<C>>, Vec<Board<C>>), AllocError>,
+    Option<Editor<C, T>>,
+    Result<(Vec<Seer<C, T>>, Vec<Board<C>>), AllocError>,
 )
     requires editor { editor.publication ≡ P.publication }
     requires publication { All (λ s. s.publication ≡ P.publication) seers.items }
@@ -113,7 +116,7 @@ pub fn work_at_block<
         editor,
         of: PhantomData,
     });
-    let worked = work_in_threads::<C, P, R, G>(
+    let worked = work_in_threads::<C, T, P, R, G>(
         rt, alloc, run, edits, &mut slot, seers, queue, passes, boards, block, workers, gate,
     );
     match slot {

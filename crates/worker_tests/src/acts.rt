@@ -9,6 +9,7 @@ use rx_worker::{Polled, poll_batch};
 use std::alloc::{AllocError, Global};
 use std::sync::{Mutex, Wait};
 use table_publish::Seer;
+use table_versions::RunTables;
 use upcall_handler::{Upshot, handle_one};
 use upcalls::Upcall;
 
@@ -77,14 +78,14 @@ fn has_queued(queue: &SmallQueue, last: u32) -> bool {
 }
 
 /// Whether an act answers as it says. The seer is handed back.
-fn answers<C: Case, R: Wait>(
+fn answers<C: Case, T: RunTables<C>, R: Wait>(
     rt: &R,
     alloc: Global,
-    seer: Seer<C>,
+    seer: Seer<C, T>,
     run: &RunData<C>,
     stage: &mut Stage<C>,
     act: Act,
-) -> (Seer<C>, Result<bool, AllocError>) {
+) -> (Seer<C, T>, Result<bool, AllocError>) {
     match act {
         Act::Poll(expected) => {
             let polled = poll_batch(rt, run, PORT, &stage.board, &mut stage.queue, &stage.points);
@@ -125,10 +126,10 @@ fn answers<C: Case, R: Wait>(
 }
 
 /// The place of the first act, from 0, that doesn't answer as it says.
-pub fn first_wrong<C: Case, R: Wait>(
+pub fn first_wrong<C: Case, T: RunTables<C>, R: Wait>(
     rt: &R,
     alloc: Global,
-    seer: Seer<C>,
+    seer: Seer<C, T>,
     run: &RunData<C>,
     board: Board<C>,
     room: usize,

@@ -4,14 +4,14 @@
 //! could: it puts the entry and ends the sweep, and may begin one more.
 use crate::runs::PORT;
 use edge_io::{Gate, Point};
-use newest_xlate::{SpareLists, translate_newest};
 use ovs_fields::Key;
 use pmd_board::{Board, Xlated};
 use revalidator::{Swept, begin_lent, end_lent, put_lent, sweep_board};
 use run_case::{Case, RunData};
 use std::alloc::{AllocError, Global};
 use std::sync::{Mutex, Wait};
-use table_publish::Seer;
+use table_publish::{Seer, SpareLists, translate_newest};
+use table_versions::RunTables;
 
 /// Puts an entry and ends the sweep, once it is told of the entry.
 #[derive(Drop)]
@@ -53,14 +53,14 @@ fn first_key<C: Case>(board: &Board<C>) -> Key {
 }
 
 /// Sweeps a board of one entry, which another puts meanwhile.
-pub fn swept_beside<C: Case, R: Wait>(
+pub fn swept_beside<C: Case, T: RunTables<C>, R: Wait>(
     rt: &R,
     alloc: Global,
-    seer: Seer<C>,
+    seer: Seer<C, T>,
     run: &RunData<C>,
     board: &Mutex<Board<C>>,
     again: Option<u32>,
-) -> (Seer<C>, Result<Swept, AllocError>) {
+) -> (Seer<C, T>, Result<Swept, AllocError>) {
     let key = first_key(&*board.lock(rt));
     let (seer, made) = translate_newest(rt, seer, run, &key, SpareLists::new(alloc));
     let made = match made {

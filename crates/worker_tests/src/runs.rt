@@ -14,12 +14,14 @@ use pcap_reader::{Trace, read_trace};
 use pmd_board::Board;
 use run_case::{Case, Ports, RunData};
 use run_edits::RunEdits;
+use run_tables::ClassifierTables;
 use std::alloc::{AllocError, Global};
 use std::marker::Brand;
 use std::process::Abort;
 use std::sync::Wait;
 use std::test::Fail;
 use table_publish::{Editor, publish};
+use table_versions::RunTables;
 
 /// The one port of each run.
 pub const PORT: u16 = 1;
@@ -99,12 +101,12 @@ fn first_wrong_of<R: Wait>(rt: &R, alloc: Global, row: &Row) -> Result<Option<us
 }
 
 /// Publishes so many bundles, or fewer where there are fewer.
-fn published<C: Case, R: Wait>(
+fn published<C: Case, T: RunTables<C>, R: Wait>(
     rt: &R,
-    editor: Editor<C>,
+    editor: Editor<C, T>,
     edits: &RunEdits<C>,
     count: u32,
-) -> Editor<C> {
+) -> Editor<C, T> {
     let mut editor = editor;
     for _ in 0..count {
         editor = editor.publish_next(rt, edits).0;
@@ -144,7 +146,7 @@ fn in_run<C: Case, R: Wait>(
         traces,
     )?;
     let board = Board::new(alloc, &run, PORT, AMPLE)?;
-    let (editor, mut seers) = publish(rt, alloc, 1)?;
+    let (editor, mut seers) = publish::<C, ClassifierTables<C>, R>(rt, alloc, 1)?;
     let editor = published(rt, editor, &edits, row.published);
     let wrong = match seers.pop() {
         Some(seer) => first_wrong(rt, alloc, seer, &run, board, row.room, row.acts),

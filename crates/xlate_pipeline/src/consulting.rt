@@ -105,7 +105,7 @@ fn consult_ttl(mask: &mut Mask, key: &Key)
 
 /// Consults what an action does on a packet of a key. One that leads to a lookup consults nothing here.
 #[tactic(auto, unfolding(spec_xlate::specs::Consulted::act_bits))]
-pub(crate) fn consult(mask: &mut Mask, key: &Key, action: OfAction)
+pub fn consult(mask: &mut Mask, key: &Key, action: OfAction)
     requires { IsTrue (is_sound action) }
     ensures { bits mask.new ≡ added (bits mask.old) (step_bits action (numbers key.now)) }
 {

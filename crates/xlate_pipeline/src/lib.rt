@@ -56,4 +56,6 @@ mod registers;
 mod switch;
 mod translation;
 
+pub use consulting::consult;
+pub use registers::without_registers;
 pub use translation::translate;

@@ -32,7 +32,7 @@ const PACKET_FIELDS: [FieldId; 20] = [
 ];
 
 /// A mask without metadata and the registers.
-pub(crate) fn without_registers(mask: &Mask) -> Mask
+pub fn without_registers(mask: &Mask) -> Mask
     ensures { bits result ≡ without register_fields (bits mask.now) }
 {
     part_of(mask, &PACKET_FIELDS)

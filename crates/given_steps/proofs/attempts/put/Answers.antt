@@ -5,7 +5,7 @@ use Rattle.spec_board.specs.Steps as steps
 use Rattle.spec_board.specs.Refusals.{put_fault}
 use Rattle.spec_board.specs.Schedules as schedules
 use Rattle.pmd_board.specs.BoardView.{BoardView, state_of}
-use Rattle.step_runner.specs.Scheduled.{under_way}
+use Rattle.run_boards.specs.Scheduled.{under_way}
 use Rattle.given_steps.specs.Taken.{TookIf}
 use Rattle.given_steps.proofs.Boards.{goes_on_by, answered, if_ok_then, put_legal}
 use Rattle.given_steps.proofs.attempts.put.Goals as goal

@@ -5,7 +5,7 @@ use Rattle.spec_case.specs.Run.{Run}
 use Rattle.spec_case.specs.Blocks.{hi, last_block}
 use Rattle.spec_board.specs.Schedules as schedules
 use Rattle.spec_board.specs.GivenSteps.{counted, with_given_steps}
-use Rattle.step_runner.specs.Scheduled.{schedule_of}
+use Rattle.run_boards.specs.Scheduled.{schedule_of}
 use Rattle.given_steps.specs.ScheduledViews.{scheduled}
 use Rattle.given_steps.specs.ByNumber.{NumberedSchedule, all_by_number}
 use Rattle.given_steps.specs.Running.{without_kept}

@@ -1,7 +1,7 @@
 use Rattle.std.proofs.Common.{◌≡◌, ◌≤◌, take}
 use Rattle.spec_case.specs.Blocks.{hi}
 use Rattle.spec_board.specs.GivenSteps.{with_given_steps}
-use Rattle.step_runner.specs.Scheduled.{schedule_of}
+use Rattle.run_boards.specs.Scheduled.{schedule_of}
 use Rattle.given_steps.specs.ByNumber.{all_by_number}
 use Rattle.given_steps.specs.Running.{AreOfPorts, block_of_all, schedule_in}
 use Rattle.given_steps.proofs.running.run_steps.Given as goal

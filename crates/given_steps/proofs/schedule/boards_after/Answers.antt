@@ -1,8 +1,8 @@
 use Rattle.std.proofs.Common.{◌≡◌, ◌<◌, List, map, length, All, sym, ap, ◌∙◌, subst, arith}
 use Rattle.spec_case.specs.Run.{Run}
 use Rattle.pmd_board.specs.BoardView.{BoardView}
-use Rattle.step_runner.specs.Boards.{AreBoards}
-use Rattle.step_runner.specs.Scheduled.{under_way}
+use Rattle.run_boards.specs.Boards.{AreBoards}
+use Rattle.run_boards.specs.Scheduled.{under_way}
 use Rattle.given_steps.specs.ScheduledViews.{ScheduledView}
 use Rattle.given_steps.proofs.WholeRuns.{are_boards, left_of}
 use Rattle.given_steps.proofs.schedule.boards_after.Goals as goal

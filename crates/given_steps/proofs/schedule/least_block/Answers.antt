@@ -3,7 +3,7 @@ use Rattle.std.proofs.lemmas.List.{map_push, take_more}
 use Rattle.spec_case.specs.Run.{Run}
 use Rattle.spec_case.specs.Blocks.{last_block}
 use Rattle.spec_board.specs.Schedules as schedules
-use Rattle.step_runner.proofs.Scheduled.{least_most, least_none, least_more}
+use Rattle.run_boards.proofs.Scheduled.{least_most, least_none, least_more}
 use Rattle.given_steps.specs.ScheduledViews.{ScheduledView, scheduled}
 use Rattle.given_steps.proofs.schedule.least_block.Goals as goal
 

@@ -2,7 +2,7 @@ use Rattle.std.proofs.Common.{◌≤◌, List, map, arith}
 use Rattle.spec_case.specs.Run.{Run}
 use Rattle.spec_case.specs.Blocks.{last_block}
 use Rattle.spec_board.specs.Schedules.{Board}
-use Rattle.step_runner.proofs.Places.{hi-le}
+use Rattle.run_boards.proofs.Places.{hi-le}
 use Rattle.given_steps.specs.ScheduledViews.{ScheduledView, scheduled}
 use Rattle.given_steps.specs.Running.{block_of_all, stepped_at}
 use Rattle.given_steps.proofs.ByNumber.{least_alike}

@@ -5,7 +5,7 @@ use Rattle.spec_case.specs.declared.run_step.RunStep.TheVariants as given
 use Rattle.spec_board.specs.Refusals.{look_fault}
 use Rattle.spec_board.specs.Schedules as schedules
 use Rattle.pmd_board.specs.BoardView.{BoardView, state_of}
-use Rattle.step_runner.specs.Scheduled.{under_way}
+use Rattle.run_boards.specs.Scheduled.{under_way}
 use Rattle.given_steps.specs.ScheduledViews.{ScheduledView}
 use Rattle.given_steps.specs.Translations.{kept_views}
 use Rattle.given_steps.specs.Taken.{TookIf, Takes}

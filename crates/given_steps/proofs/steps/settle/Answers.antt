@@ -10,7 +10,7 @@ use Rattle.spec_board.specs.GivenSteps.{kept_version}
 use Rattle.run_blocks.specs.Places.{HasPlace}
 use Rattle.run_xlate.specs.Views.{XlateView}
 use Rattle.pmd_board.specs.BoardView.{BoardView, state_of}
-use Rattle.step_runner.specs.Scheduled.{under_way}
+use Rattle.run_boards.specs.Scheduled.{under_way}
 use Rattle.given_steps.specs.ScheduledViews.{ScheduledView}
 use Rattle.given_steps.specs.Translations.{kept_views}
 use Rattle.given_steps.specs.Fields.{IsOfPlace}

@@ -1,10 +1,9 @@
 use Rattle.std.proofs.Common.{◌+◌, [], length, ap, ◌∙◌, arith}
 use Rattle.spec_case.specs.Run.{Run}
 use Rattle.spec_case.specs.Blocks.{hi}
-use Rattle.pmd_board.specs.BoardView.{BoardView}
-use Rattle.step_runner.specs.Boards.{AreOfPhase}
+use Rattle.run_boards.specs.Boards.{AreOfPhase}
 use Rattle.step_runner.proofs.Turns.{all_done}
-use Rattle.step_runner.proofs.BoardLists.{fit_version, fit_block, fit_done}
+use Rattle.run_boards.proofs.BoardLists.{fit_version, fit_block, fit_done}
 use Rattle.step_runner.proofs.closing.close_phase.Goals as goal
 
 pub finish_block-requires : goal.finish_block-requires

@@ -6,11 +6,11 @@ use Rattle.spec_case.specs.Blocks.{last_place}
 use Rattle.run_blocks.specs.Places.{place_before}
 use Rattle.spec_board.specs.Schedules as schedules
 use Rattle.pmd_board.specs.BoardView.{BoardView, state_of}
-use Rattle.step_runner.specs.Progress.{OnlyPlans}
-use Rattle.step_runner.specs.Scheduled.{under_way}
+use Rattle.run_boards.specs.Progress.{OnlyPlans}
+use Rattle.run_boards.specs.Scheduled.{under_way}
 use Rattle.step_runner.proofs.LookedUp.{looked_up}
 use Rattle.step_runner.proofs.Progress.{plans_then}
-use Rattle.step_runner.proofs.Scheduled.{fold_more}
+use Rattle.run_boards.proofs.Scheduled.{fold_more}
 use Rattle.step_runner.proofs.deciding.decide_all.Goals as goal
 
 -- how many places a loop went over

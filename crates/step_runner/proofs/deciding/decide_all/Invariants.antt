@@ -2,8 +2,8 @@ use Rattle.std.proofs.Common.{◌≡◌, ◌+◌, ◌-◌, ◌<◌, ◌≤◌}
 use Rattle.std.specs.List.{fold, range_with_len}
 use Rattle.spec_board.specs.Schedules as schedules
 use Rattle.pmd_board.specs.BoardView.{state_of}
-use Rattle.step_runner.specs.Progress.{IsSwept, IsSameBoard, OnlyPlans}
-use Rattle.step_runner.specs.Scheduled.{under_way}
+use Rattle.run_boards.specs.Progress.{IsSwept, IsSameBoard, OnlyPlans}
+use Rattle.run_boards.specs.Scheduled.{under_way}
 use Rattle.step_runner.proofs.deciding.decide_all.Given as goal
 
 abbrev pub invariant-places : goal.invariant-places

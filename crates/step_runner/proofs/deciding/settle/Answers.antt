@@ -5,7 +5,7 @@ use Rattle.spec_board.specs.Refusals.{settle_fault}
 use Rattle.board_laws.proofs.PlaceLaws.{pending_from, pending_upto}
 use Rattle.pmd_board.specs.BoardView.{BoardView, HasSettled, state_of}
 use Rattle.step_runner.proofs.Frames.{settled_as_planned, pending_allowed}
-use Rattle.step_runner.proofs.Scheduled.{settled_step}
+use Rattle.run_boards.proofs.Scheduled.{settled_step}
 use Rattle.step_runner.proofs.deciding.settle.Goals as goal
 
 pub keyed-at-requires-clause-place : goal.keyed-at-requires-clause-place

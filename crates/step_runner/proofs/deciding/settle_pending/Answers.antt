@@ -4,10 +4,10 @@ use Rattle.spec_case.specs.Run.{Run}
 use Rattle.spec_board.specs.State.{State, place_at, is_pending}
 use Rattle.spec_board.specs.Schedules as schedules
 use Rattle.pmd_board.specs.BoardView.{BoardView, state_of}
-use Rattle.step_runner.specs.Progress.{OnlyPlans}
-use Rattle.step_runner.specs.Scheduled.{under_way}
+use Rattle.run_boards.specs.Progress.{OnlyPlans}
+use Rattle.run_boards.specs.Scheduled.{under_way}
 use Rattle.step_runner.proofs.Progress.{plans_then, none_left, none_pending_from}
-use Rattle.step_runner.proofs.Scheduled.{settled_more, sifted_upto}
+use Rattle.run_boards.proofs.Scheduled.{settled_more, sifted_upto}
 use Rattle.step_runner.proofs.deciding.settle_pending.Goals as goal
 
 pub places-preserved : goal.places-preserved

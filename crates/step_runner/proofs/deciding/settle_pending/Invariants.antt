@@ -3,8 +3,8 @@ use Rattle.std.specs.List.{fold, range_with_len}
 use Rattle.spec_board.specs.State.{place_at, is_pending}
 use Rattle.spec_board.specs.Schedules as schedules
 use Rattle.pmd_board.specs.BoardView.{state_of}
-use Rattle.step_runner.specs.Progress.{IsSameBoard, OnlyPlans}
-use Rattle.step_runner.specs.Scheduled.{under_way}
+use Rattle.run_boards.specs.Progress.{IsSameBoard, OnlyPlans}
+use Rattle.run_boards.specs.Scheduled.{under_way}
 use Rattle.step_runner.proofs.deciding.settle_pending.Given as goal
 
 abbrev pub invariant-places : goal.invariant-places

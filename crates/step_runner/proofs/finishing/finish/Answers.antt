@@ -3,9 +3,9 @@ use Rattle.spec_case.specs.Run.{Run}
 use Rattle.spec_board.specs.Schedules as schedules
 use Rattle.spec_run.specs.Journals.{IsByLastVersion}
 use Rattle.pmd_board.specs.BoardView.{BoardView, journals_view}
-use Rattle.step_runner.specs.Scheduled.{schedule_of, IsKnown}
-use Rattle.step_runner.proofs.Decided.{decided_from_new}
-use Rattle.step_runner.proofs.Whole.{as_scheduled, all_by_last_version}
+use Rattle.run_boards.specs.Scheduled.{schedule_of, IsKnown}
+use Rattle.run_boards.proofs.Decided.{decided_from_new}
+use Rattle.run_boards.proofs.Whole.{as_scheduled, all_by_last_version}
 use Rattle.step_runner.proofs.finishing.finish.Goals as goal
 
 pub returns-clause-scheduled : goal.returns-clause-scheduled

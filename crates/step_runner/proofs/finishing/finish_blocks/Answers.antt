@@ -2,7 +2,7 @@ use Rattle.std.proofs.Common.{arith, ◌≤◌, refl, sym, ap, ◌∙◌}
 use Rattle.spec_case.specs.Run.{Run}
 use Rattle.spec_case.specs.Blocks.{last_block}
 use Rattle.spec_board.specs.Schedules as schedules
-use Rattle.step_runner.specs.Scheduled.{schedule_of}
+use Rattle.run_boards.specs.Scheduled.{schedule_of}
 use Rattle.step_runner.proofs.Turns.{none_done, all_done, planned_none, planned_then, iterate_more, all_rounds}
 use Rattle.step_runner.proofs.finishing.finish_blocks.Goals as goal
 

@@ -2,7 +2,7 @@ use Rattle.std.proofs.Common.{◌≡◌, ◌≤◌, All}
 use Rattle.std.specs.Fn.{iterate}
 use Rattle.spec_case.specs.Blocks.{hi}
 use Rattle.spec_board.specs.Schedules as schedules
-use Rattle.step_runner.specs.Scheduled.{schedule_of, block_to_finish, HasDone, AreOnlyPlanned}
+use Rattle.run_boards.specs.Scheduled.{schedule_of, block_to_finish, HasDone, AreOnlyPlanned}
 use Rattle.step_runner.proofs.finishing.finish_blocks.Given as goal
 
 abbrev pub invariant-rounds : goal.invariant-rounds

@@ -2,10 +2,10 @@ use Rattle.std.proofs.Common.{sym, ap, ◌∙◌, subst}
 use Rattle.spec_case.specs.Run.{Run}
 use Rattle.spec_board.specs.Schedules as schedules
 use Rattle.pmd_board.specs.BoardView.{state_of}
-use Rattle.step_runner.specs.Progress.{OnlyPlans}
-use Rattle.step_runner.specs.Scheduled.{under_way}
+use Rattle.run_boards.specs.Progress.{OnlyPlans}
+use Rattle.run_boards.specs.Scheduled.{under_way}
 use Rattle.step_runner.proofs.Progress.{plans_same, plans_then}
-use Rattle.step_runner.proofs.Scheduled.{finish_board_is}
+use Rattle.run_boards.proofs.Scheduled.{finish_board_is}
 use Rattle.step_runner.proofs.finishing.finish_board.Goals as goal
 
 pub returns-clause-scheduled : goal.returns-clause-scheduled

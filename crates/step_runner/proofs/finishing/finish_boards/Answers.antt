@@ -2,8 +2,8 @@ use Rattle.std.proofs.Common.{arith, ◌≡◌, ◌<◌, List, slice_index_or, l
 use Rattle.std.proofs.lemmas.List.{get_or-set_other, get_or_default}
 use Rattle.spec_case.specs.Run.{Run}
 use Rattle.pmd_board.specs.BoardView.{BoardView}
-use Rattle.step_runner.specs.Scheduled.{TookTurn, TookTurns}
-use Rattle.step_runner.proofs.Scheduled.{written, one_more}
+use Rattle.run_boards.specs.Scheduled.{TookTurn, TookTurns}
+use Rattle.run_boards.proofs.Scheduled.{written, one_more}
 use Rattle.step_runner.proofs.finishing.finish_boards.Goals as goal
 
 -- the board whose turn is next is one of those that were given

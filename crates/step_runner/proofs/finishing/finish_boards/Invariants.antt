@@ -1,6 +1,6 @@
 use Rattle.std.proofs.Common.{◌≡◌, ℕ, ◌<◌, ◌≤◌, length, slice_index_or}
 use Rattle.pmd_board.specs.BoardView.{BoardView}
-use Rattle.step_runner.specs.Scheduled.{TookTurn}
+use Rattle.run_boards.specs.Scheduled.{TookTurn}
 use Rattle.step_runner.proofs.finishing.finish_boards.Given as goal
 
 abbrev pub invariant-boards : goal.invariant-boards

@@ -4,8 +4,8 @@ use Rattle.spec_case.specs.Run.{Run}
 use Rattle.spec_case.specs.Blocks.{last_block}
 use Rattle.spec_board.specs.Schedules as schedules
 use Rattle.pmd_board.specs.BoardView.{BoardView}
-use Rattle.step_runner.specs.Scheduled.{under_way}
-use Rattle.step_runner.proofs.Scheduled.{least_most, least_none, least_more}
+use Rattle.run_boards.specs.Scheduled.{under_way}
+use Rattle.run_boards.proofs.Scheduled.{least_most, least_none, least_more}
 use Rattle.step_runner.proofs.finishing.least_block.Goals as goal
 
 pub boards-init : goal.boards-init

@@ -1,7 +1,7 @@
 use Rattle.std.proofs.Common.{◌≡◌, map, take}
 use Rattle.spec_case.specs.Blocks.{last_block}
 use Rattle.spec_board.specs.Schedules as schedules
-use Rattle.step_runner.specs.Scheduled.{under_way}
+use Rattle.run_boards.specs.Scheduled.{under_way}
 use Rattle.step_runner.proofs.finishing.least_block.Given as goal
 
 abbrev pub invariant-boards : goal.invariant-boards

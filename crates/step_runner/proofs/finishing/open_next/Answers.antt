@@ -6,9 +6,9 @@ use Rattle.spec_board.specs.Steps as steps
 use Rattle.spec_board.specs.State.{State}
 use Rattle.spec_board.specs.Journals.{IsFinished}
 use Rattle.pmd_board.specs.BoardView.{BoardView, state_of}
-use Rattle.step_runner.specs.Progress.{IsSwept}
+use Rattle.run_boards.specs.Progress.{IsSwept}
 use Rattle.step_runner.proofs.LookedUp.{looked_up}
-use Rattle.step_runner.proofs.Scheduled.{state_after}
+use Rattle.run_boards.proofs.Scheduled.{state_after}
 use Rattle.step_runner.proofs.Progress.{may_open, plans_same, finished_from}
 use Rattle.step_runner.proofs.finishing.open_next.Goals as goal
 

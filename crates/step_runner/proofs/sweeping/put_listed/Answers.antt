@@ -8,10 +8,10 @@ use Rattle.spec_board.specs.Effects.{effect}
 use Rattle.translation_laws.proofs.MemberLaws.{Among}
 use Rattle.board_laws.proofs.NumberLaws.{Rising}
 use Rattle.pmd_board.specs.BoardView.{BoardView, state_of}
-use Rattle.step_runner.specs.Progress.{OnlyPuts}
-use Rattle.step_runner.specs.Scheduled.{under_way}
+use Rattle.run_boards.specs.Progress.{OnlyPuts}
+use Rattle.run_boards.specs.Scheduled.{under_way}
 use Rattle.step_runner.proofs.Progress.{listed_rising, first_above, none_above, may_put, puts_none, put_keeps, put_leaves}
-use Rattle.step_runner.proofs.Scheduled.{state_after, put_step, first_put, all_put}
+use Rattle.run_boards.proofs.Scheduled.{state_after, put_step, first_put, all_put}
 use Rattle.step_runner.proofs.sweeping.put_listed.Goals as goal
 
 pub entries-init : goal.entries-init

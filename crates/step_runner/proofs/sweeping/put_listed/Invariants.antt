@@ -1,8 +1,8 @@
 use Rattle.std.proofs.Common.{◌≡◌, ◌∷◌, length}
 use Rattle.board_laws.proofs.NumberLaws.{Rising}
 use Rattle.pmd_board.specs.BoardView.{state_of}
-use Rattle.step_runner.specs.Progress.{OnlyPuts, IsSameBoard}
-use Rattle.step_runner.specs.Scheduled.{under_way, with_listed_put}
+use Rattle.run_boards.specs.Progress.{OnlyPuts, IsSameBoard}
+use Rattle.run_boards.specs.Scheduled.{under_way, with_listed_put}
 use Rattle.step_runner.proofs.sweeping.put_listed.Given as goal
 
 abbrev pub invariant-entries : goal.invariant-entries

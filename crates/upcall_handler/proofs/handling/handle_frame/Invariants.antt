@@ -1,5 +1,5 @@
 use Rattle.std.proofs.Common.{◌≡◌, ◌<◌, ◌≤◌}
-use Rattle.newest_xlate.specs.Versions.{IsWithinBlock}
+use Rattle.table_publish.specs.Versions.{IsWithinBlock}
 use Rattle.upcall_handler.proofs.handling.handle_frame.Given as goal
 
 abbrev pub invariant-tries : goal.invariant-tries

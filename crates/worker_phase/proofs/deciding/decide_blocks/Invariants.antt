@@ -1,6 +1,6 @@
 use Rattle.std.proofs.Common.{◌≤◌, ◌<◌}
 use Rattle.spec_case.specs.Blocks.{hi, last_block}
-use Rattle.step_runner.specs.Finished.{AreFinished}
+use Rattle.run_boards.specs.Finished.{AreFinished}
 use Rattle.worker_phase.proofs.deciding.decide_blocks.Given as goal
 
 abbrev pub invariant-blocks-2 : goal.invariant-blocks-2

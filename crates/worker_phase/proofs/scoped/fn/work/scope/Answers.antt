@@ -13,75 +13,92 @@ use Rattle.worker_phase.specs.contracts.shared.Shared as shared_state
 
 pub spawn-requires-send-F : goal.spawn-requires-send-F
 spawn-requires-send-F g c κs within =
-    let bounds = c.requires.1.1.1.1 in
+    let bounds = c.requires.1.1.1.1.1 in
     let c_send : IsSend (param 0 g.row.C) = param_send 0 _ bounds.0 in
-    let c_sync : IsSync (param 0 g.row.C) = param_sync 0 _ bounds.2 in
-    let of_send : IsSend (param 1 g.row.P) = param_send 1 _ bounds.1 in
-    let of_sync : IsSync (param 1 g.row.P) = param_sync 1 _ bounds.3 in
-    let rt : IsSend (ShrRef (named 5) κs.1.1.1.1.1.0 (param 2 g.row.R)) = shr_send _ _ _ (param_sync 2 _ bounds.4) in
-    let gate : IsSend (ShrRef (named 8) κs.1.1.1.1.1.1.1.1.0 (param 3 g.row.G)) = shr_send _ _ _ (param_sync 3 _ bounds.5) in
+    let kept_send : IsSend (param 1 g.row.T) = param_send 1 _ bounds.1 in
+    let of_send : IsSend (param 2 g.row.P) = param_send 2 _ bounds.2 in
+    let c_sync : IsSync (param 0 g.row.C) = param_sync 0 _ bounds.3 in
+    let kept_sync : IsSync (param 1 g.row.T) = param_sync 1 _ bounds.4 in
+    let of_sync : IsSync (param 2 g.row.P) = param_sync 2 _ bounds.5 in
+    let rt : IsSend (ShrRef (named 5) κs.1.1.1.1.1.0 (param 3 g.row.R)) = shr_send _ _ _ (param_sync 3 _ bounds.6) in
+    let gate : IsSend (ShrRef (named 8) κs.1.1.1.1.1.1.1.1.0 (param 4 g.row.G)) = shr_send _ _ _ (param_sync 4 _ bounds.7) in
     let ℓ : NamedLft = record { mir = named 7; lft = κs.1.1.1.1.1.1.1.0 } in
-    let shared : IsSend (ShrRef (named 6) κs.1.1.1.1.1.1.0 (shared_state.the_row ℓ (param 0 g.row.C) (param 1 g.row.P) g.C.Case g.P.Phase)) = shr_send _ _ _ (shared_sync ℓ (param 0 g.row.C) (param 1 g.row.P) g.C.Case g.P.Phase c_send c_sync of_send of_sync) in
-    let receiver = receiver_send (param 0 g.row.C) (param 1 g.row.P) g.C.Case g.P.Phase c_send c_sync of_send of_sync in
+    let shared : IsSend (ShrRef (named 6) κs.1.1.1.1.1.1.0 (shared_state.the_row ℓ (param 0 g.row.C) (param 1 g.row.T) (param 2 g.row.P) g.C.Case g.P.Phase g.T.RunTables)) =
+    shr_send _ _ _ (shared_sync (param 0 g.row.C) (param 1 g.row.T) (param 2 g.row.P) g.C.Case g.T.RunTables g.P.Phase c_send c_sync kept_send kept_sync of_send of_sync ℓ) in
+    let receiver = receiver_send (param 0 g.row.C) (param 2 g.row.P) g.C.Case g.P.Phase c_send c_sync of_send of_sync in
     param_send 1 _ (arg_send _ exit.no _ (tuple4_send _ _ _ _ _ rt shared receiver gate))
 
 pub spawn-requires-2-send-F : goal.spawn-requires-2-send-F
 spawn-requires-2-send-F g c κs within =
-    let bounds = c.requires.1.1.1.1 in
+    let bounds = c.requires.1.1.1.1.1 in
     let c_send : IsSend (param 0 g.row.C) = param_send 0 _ bounds.0 in
-    let c_sync : IsSync (param 0 g.row.C) = param_sync 0 _ bounds.2 in
-    let of_send : IsSend (param 1 g.row.P) = param_send 1 _ bounds.1 in
-    let of_sync : IsSync (param 1 g.row.P) = param_sync 1 _ bounds.3 in
-    let rt : IsSend (ShrRef (named 5) κs.1.1.1.1.1.0 (param 2 g.row.R)) = shr_send _ _ _ (param_sync 2 _ bounds.4) in
+    let kept_send : IsSend (param 1 g.row.T) = param_send 1 _ bounds.1 in
+    let of_send : IsSend (param 2 g.row.P) = param_send 2 _ bounds.2 in
+    let c_sync : IsSync (param 0 g.row.C) = param_sync 0 _ bounds.3 in
+    let kept_sync : IsSync (param 1 g.row.T) = param_sync 1 _ bounds.4 in
+    let of_sync : IsSync (param 2 g.row.P) = param_sync 2 _ bounds.5 in
+    let rt : IsSend (ShrRef (named 5) κs.1.1.1.1.1.0 (param 3 g.row.R)) = shr_send _ _ _ (param_sync 3 _ bounds.6) in
     let ℓ : NamedLft = record { mir = named 7; lft = κs.1.1.1.1.1.1.1.0 } in
-    let shared : IsSend (ShrRef (named 6) κs.1.1.1.1.1.1.0 (shared_state.the_row ℓ (param 0 g.row.C) (param 1 g.row.P) g.C.Case g.P.Phase)) = shr_send _ _ _ (shared_sync ℓ (param 0 g.row.C) (param 1 g.row.P) g.C.Case g.P.Phase c_send c_sync of_send of_sync) in
-    let slot : IsSend (MutRef (named 8) κs.1.1.1.1.1.1.1.1.0 (option.the_row (phase_editor.the_row (param 0 g.row.C) (param 1 g.row.P) g.P.Phase g.C.Case))) = mut_send _ _ _ (some_send _ (phase_editor_send (param 0 g.row.C) (param 1 g.row.P) g.C.Case g.P.Phase c_send c_sync of_send of_sync)) in
+    let shared : IsSend (ShrRef (named 6) κs.1.1.1.1.1.1.0 (shared_state.the_row ℓ (param 0 g.row.C) (param 1 g.row.T) (param 2 g.row.P) g.C.Case g.P.Phase g.T.RunTables)) =
+    shr_send _ _ _ (shared_sync (param 0 g.row.C) (param 1 g.row.T) (param 2 g.row.P) g.C.Case g.T.RunTables g.P.Phase c_send c_sync kept_send kept_sync of_send of_sync ℓ) in
+    let slot : IsSend (MutRef (named 8) κs.1.1.1.1.1.1.1.1.0 (option.the_row (phase_editor.the_row (param 0 g.row.C) (param 1 g.row.T) (param 2 g.row.P) g.P.Phase g.C.Case g.T.RunTables))) =
+    mut_send _ _ _ (some_send _ (phase_editor_send (param 0 g.row.C) (param 1 g.row.T) (param 2 g.row.P) g.C.Case g.T.RunTables g.P.Phase c_send c_sync kept_send kept_sync of_send of_sync)) in
     param_send 1 _ (arg_send _ exit.no _ (tuple3_send _ _ _ _ rt shared slot))
 
 pub spawn-requires-in-handlers-send-F : goal.spawn-requires-in-handlers-send-F
 spawn-requires-in-handlers-send-F g c κs within =
-    let bounds = c.requires.1.1.1.1 in
+    let bounds = c.requires.1.1.1.1.1 in
     let c_send : IsSend (param 0 g.row.C) = param_send 0 _ bounds.0 in
-    let c_sync : IsSync (param 0 g.row.C) = param_sync 0 _ bounds.2 in
-    let of_send : IsSend (param 1 g.row.P) = param_send 1 _ bounds.1 in
-    let of_sync : IsSync (param 1 g.row.P) = param_sync 1 _ bounds.3 in
-    let rt : IsSend (ShrRef (named 5) κs.1.1.1.1.1.0 (param 2 g.row.R)) = shr_send _ _ _ (param_sync 2 _ bounds.4) in
-    let gate : IsSend (ShrRef (named 8) κs.1.1.1.1.1.1.1.1.0 (param 3 g.row.G)) = shr_send _ _ _ (param_sync 3 _ bounds.5) in
+    let kept_send : IsSend (param 1 g.row.T) = param_send 1 _ bounds.1 in
+    let of_send : IsSend (param 2 g.row.P) = param_send 2 _ bounds.2 in
+    let c_sync : IsSync (param 0 g.row.C) = param_sync 0 _ bounds.3 in
+    let kept_sync : IsSync (param 1 g.row.T) = param_sync 1 _ bounds.4 in
+    let of_sync : IsSync (param 2 g.row.P) = param_sync 2 _ bounds.5 in
+    let rt : IsSend (ShrRef (named 5) κs.1.1.1.1.1.0 (param 3 g.row.R)) = shr_send _ _ _ (param_sync 3 _ bounds.6) in
+    let gate : IsSend (ShrRef (named 8) κs.1.1.1.1.1.1.1.1.0 (param 4 g.row.G)) = shr_send _ _ _ (param_sync 4 _ bounds.7) in
     let ℓ : NamedLft = record { mir = named 7; lft = κs.1.1.1.1.1.1.1.0 } in
-    let shared : IsSend (ShrRef (named 6) κs.1.1.1.1.1.1.0 (shared_state.the_row ℓ (param 0 g.row.C) (param 1 g.row.P) g.C.Case g.P.Phase)) = shr_send _ _ _ (shared_sync ℓ (param 0 g.row.C) (param 1 g.row.P) g.C.Case g.P.Phase c_send c_sync of_send of_sync) in
-    let handler = handler_send (param 0 g.row.C) (param 1 g.row.P) g.C.Case g.P.Phase c_send c_sync of_send of_sync in
+    let shared : IsSend (ShrRef (named 6) κs.1.1.1.1.1.1.0 (shared_state.the_row ℓ (param 0 g.row.C) (param 1 g.row.T) (param 2 g.row.P) g.C.Case g.P.Phase g.T.RunTables)) =
+    shr_send _ _ _ (shared_sync (param 0 g.row.C) (param 1 g.row.T) (param 2 g.row.P) g.C.Case g.T.RunTables g.P.Phase c_send c_sync kept_send kept_sync of_send of_sync ℓ) in
+    let handler = handler_send (param 0 g.row.C) (param 1 g.row.T) (param 2 g.row.P) g.C.Case g.T.RunTables g.P.Phase c_send c_sync kept_send kept_sync of_send of_sync in
     param_send 1 _ (arg_send _ exit.no _ (tuple5_send _ _ _ _ _ _ rt std.send shared handler gate))
 
 pub spawn-requires-in-handlers-send-T : goal.spawn-requires-in-handlers-send-T
 spawn-requires-in-handlers-send-T g c κs within =
-    let bounds = c.requires.1.1.1.1 in
+    let bounds = c.requires.1.1.1.1.1 in
     let c_send : IsSend (param 0 g.row.C) = param_send 0 _ bounds.0 in
-    let c_sync : IsSync (param 0 g.row.C) = param_sync 0 _ bounds.2 in
-    let of_send : IsSend (param 1 g.row.P) = param_send 1 _ bounds.1 in
-    let of_sync : IsSync (param 1 g.row.P) = param_sync 1 _ bounds.3 in
-    let handler = handler_send (param 0 g.row.C) (param 1 g.row.P) g.C.Case g.P.Phase c_send c_sync of_send of_sync in
+    let kept_send : IsSend (param 1 g.row.T) = param_send 1 _ bounds.1 in
+    let of_send : IsSend (param 2 g.row.P) = param_send 2 _ bounds.2 in
+    let c_sync : IsSync (param 0 g.row.C) = param_sync 0 _ bounds.3 in
+    let kept_sync : IsSync (param 1 g.row.T) = param_sync 1 _ bounds.4 in
+    let of_sync : IsSync (param 2 g.row.P) = param_sync 2 _ bounds.5 in
+    let handler = handler_send (param 0 g.row.C) (param 1 g.row.T) (param 2 g.row.P) g.C.Case g.T.RunTables g.P.Phase c_send c_sync kept_send kept_sync of_send of_sync in
     param_send 2 _ (arg_send _ exit.no _ (tuple2_send _ _ _ handler done_send))
 
 pub spawn-requires-3-send-F : goal.spawn-requires-3-send-F
 spawn-requires-3-send-F g c κs within =
-    let bounds = c.requires.1.1.1.1 in
+    let bounds = c.requires.1.1.1.1.1 in
     let c_send : IsSend (param 0 g.row.C) = param_send 0 _ bounds.0 in
-    let c_sync : IsSync (param 0 g.row.C) = param_sync 0 _ bounds.2 in
-    let of_send : IsSend (param 1 g.row.P) = param_send 1 _ bounds.1 in
-    let of_sync : IsSync (param 1 g.row.P) = param_sync 1 _ bounds.3 in
-    let rt : IsSend (ShrRef (named 5) κs.1.1.1.1.1.0 (param 2 g.row.R)) = shr_send _ _ _ (param_sync 2 _ bounds.4) in
-    let gate : IsSend (ShrRef (named 8) κs.1.1.1.1.1.1.1.1.0 (param 3 g.row.G)) = shr_send _ _ _ (param_sync 3 _ bounds.5) in
+    let kept_send : IsSend (param 1 g.row.T) = param_send 1 _ bounds.1 in
+    let of_send : IsSend (param 2 g.row.P) = param_send 2 _ bounds.2 in
+    let c_sync : IsSync (param 0 g.row.C) = param_sync 0 _ bounds.3 in
+    let kept_sync : IsSync (param 1 g.row.T) = param_sync 1 _ bounds.4 in
+    let of_sync : IsSync (param 2 g.row.P) = param_sync 2 _ bounds.5 in
+    let rt : IsSend (ShrRef (named 5) κs.1.1.1.1.1.0 (param 3 g.row.R)) = shr_send _ _ _ (param_sync 3 _ bounds.6) in
+    let gate : IsSend (ShrRef (named 8) κs.1.1.1.1.1.1.1.1.0 (param 4 g.row.G)) = shr_send _ _ _ (param_sync 4 _ bounds.7) in
     let ℓ : NamedLft = record { mir = named 7; lft = κs.1.1.1.1.1.1.1.0 } in
-    let shared : IsSend (ShrRef (named 6) κs.1.1.1.1.1.1.0 (shared_state.the_row ℓ (param 0 g.row.C) (param 1 g.row.P) g.C.Case g.P.Phase)) = shr_send _ _ _ (shared_sync ℓ (param 0 g.row.C) (param 1 g.row.P) g.C.Case g.P.Phase c_send c_sync of_send of_sync) in
-    let revalidator = revalidator_send (param 0 g.row.C) (param 1 g.row.P) g.C.Case g.P.Phase c_send c_sync of_send of_sync in
+    let shared : IsSend (ShrRef (named 6) κs.1.1.1.1.1.1.0 (shared_state.the_row ℓ (param 0 g.row.C) (param 1 g.row.T) (param 2 g.row.P) g.C.Case g.P.Phase g.T.RunTables)) =
+    shr_send _ _ _ (shared_sync (param 0 g.row.C) (param 1 g.row.T) (param 2 g.row.P) g.C.Case g.T.RunTables g.P.Phase c_send c_sync kept_send kept_sync of_send of_sync ℓ) in
+    let revalidator = revalidator_send (param 0 g.row.C) (param 1 g.row.T) (param 2 g.row.P) g.C.Case g.T.RunTables g.P.Phase c_send c_sync kept_send kept_sync of_send of_sync in
     param_send 1 _ (arg_send _ exit.no _ (tuple5_send _ _ _ _ _ _ rt std.send shared revalidator gate))
 
 pub spawn-requires-3-send-T : goal.spawn-requires-3-send-T
 spawn-requires-3-send-T g c κs within =
-    let bounds = c.requires.1.1.1.1 in
+    let bounds = c.requires.1.1.1.1.1 in
     let c_send : IsSend (param 0 g.row.C) = param_send 0 _ bounds.0 in
-    let c_sync : IsSync (param 0 g.row.C) = param_sync 0 _ bounds.2 in
-    let of_send : IsSend (param 1 g.row.P) = param_send 1 _ bounds.1 in
-    let of_sync : IsSync (param 1 g.row.P) = param_sync 1 _ bounds.3 in
-    let revalidator = revalidator_send (param 0 g.row.C) (param 1 g.row.P) g.C.Case g.P.Phase c_send c_sync of_send of_sync in
+    let kept_send : IsSend (param 1 g.row.T) = param_send 1 _ bounds.1 in
+    let of_send : IsSend (param 2 g.row.P) = param_send 2 _ bounds.2 in
+    let c_sync : IsSync (param 0 g.row.C) = param_sync 0 _ bounds.3 in
+    let kept_sync : IsSync (param 1 g.row.T) = param_sync 1 _ bounds.4 in
+    let of_sync : IsSync (param 2 g.row.P) = param_sync 2 _ bounds.5 in
+    let revalidator = revalidator_send (param 0 g.row.C) (param 1 g.row.T) (param 2 g.row.P) g.C.Case g.T.RunTables g.P.Phase c_send c_sync kept_send kept_sync of_send of_sync in
     param_send 2 _ (arg_send _ exit.no _ (tuple2_send _ _ _ revalidator done_send))
