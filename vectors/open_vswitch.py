@@ -21,6 +21,7 @@ DAEMONS = ["ovs-vswitchd", "ovsdb-server"]
 # OpenFlow 1.0 has no masks of set_field, no tags to push and no goto_table.
 OLD, NEWER, NEW = "OpenFlow10", "OpenFlow13", "OpenFlow15"
 NEEDS_NEWER = re.compile("set_field|push_vlan|goto_table")
+TABLE, COOKIE = re.compile(r"\btable=(\w+)"), re.compile(r"\bcookie=\w+,?\s*")
 # In seconds.
 PATIENCE, NAP = 5.0, 0.05
 # The longest packets that a port lets out.
@@ -41,6 +42,17 @@ def version():
 def openflow_of(flow):
     """The version of OpenFlow by which a line of flow text is told."""
     return NEW if NEEDS_NEWER.search(flow) else OLD
+
+
+def is_modifying(flow):
+    return flow.split(maxsplit=1)[0] in ("modify", "modify_strict")
+
+
+def with_table(flow):
+    """The same flow, with the table that a strict word without one means here: by some versions that is any."""
+    word, _, rest = flow.strip().partition(" ")
+    is_open = word in ("modify_strict", "delete_strict") and not TABLE.search(flow)
+    return f"{word} table=0,{rest}" if is_open else flow
 
 
 def end_daemon(pid_file):
@@ -114,9 +126,40 @@ class Switch:
 
     def add_flows(self, flows):
         """Hands lines of flow text over in their order, and waits until no cache is older than they are."""
-        for version, lines in itertools.groupby(flows, openflow_of):
-            self.run("ovs-ofctl", "-O", version, "add-flows", "br0", "-", input="\n".join(lines))
+        for (version, is_modify), lines in itertools.groupby(flows, lambda it: (openflow_of(it), is_modifying(it))):
+            if is_modify:
+                for line in lines:
+                    self.modify(version, line)
+            else:
+                self.hand_over(version, map(with_table, lines))
         self.run("ovs-appctl", "revalidator/wait")
+
+    def hand_over(self, version, lines):
+        self.run("ovs-ofctl", "-O", version, "add-flows", "br0", "-", input="\n".join(lines))
+
+    def modify(self, version, line):
+        """A `modify` of all tables where it names none, which adds nothing; by some versions it is of one, or adds."""
+        line = with_table(line)
+        if TABLE.search(line):
+            tables = [line]
+        else:
+            word, rest = line.split(maxsplit=1)
+            tables = [f"{word} table={table},{rest}" for table in self.tables()]
+        for line in tables:
+            count = len(self.flows())
+            self.hand_over(version, [line])
+            if len(self.flows()) > count:
+                added = line.partition("actions=")[0].split(maxsplit=1)[1].rstrip(", ")
+                self.hand_over(version, [f"delete_strict {COOKIE.sub('', added)}"])
+
+    def flows(self):
+        """The lines of a dump."""
+        dump = self.run("ovs-ofctl", "-O", NEW, "--no-names", "dump-flows", "br0")
+        return [line for line in dump.splitlines() if line.startswith(" ")]
+
+    def tables(self):
+        """The numbers of the tables that have flows."""
+        return sorted({int(TABLE.search(line)[1]) for line in self.flows()})
 
     def replace_flows(self, flows):
         """Takes all flows away, and hands these over."""
