@@ -1,0 +1,108 @@
+"""A whole run: traces are cut, parts are done side by side, and what they made is put together in their order."""
+from collections import namedtuple
+
+from .cluster import Cluster
+from .crew import Crew
+from .cutting import Cutter
+from .edits import Edits
+from .joining import Joined
+from .parts import Folder, Plan, Work
+from .program import checked, contents, found_program
+from .refusals import FAILED, Refused
+
+# What is known before a frame is looked at: the dump of the rules, and how many edits and blocks there are.
+Known = namedtuple("Known", "rules edits blocks")
+# How many parts may be done and not be added yet, for each that may be under way, since one before them isn't done.
+PARTS_AHEAD = 4
+
+
+def run(command, progress):
+    """Runs a command, and gives the summary."""
+    edits = contents(command.edits)
+    mirrors = None if command.mirrors is None else contents(command.mirrors)
+    with Folder(command.out, progress.tell) as folder:
+        program = found_program(command.program, folder)
+        about = checked(program, command, edits, mirrors, folder)
+        by_block = Edits(edits)
+        known = Known(about.rules, about.edits, by_block.syncs + 1)
+        plan = Plan(program.path, program.checksum, command.options, by_block, mirrors, list(command.traces))
+        cutter = Cutter(command, by_block, folder, progress.tell)
+        try:
+            return Session(command, plan, known, folder, cutter, progress).run()
+        finally:
+            cutter.close()
+
+
+class Session:
+    """The parts of a run: those under way, and those that are done and wait for one before them."""
+
+    def __init__(self, command, plan, known, folder, cutter, progress):
+        self.plan, self.folder, self.cutter, self.progress = plan, folder, cutter, progress
+        headers = {trace.port: trace.header for trace in cutter.traces}
+        self.joined = Joined(command, known, folder, headers)
+        if command.scheduler:
+            self.side = Cluster(command.scheduler, plan, headers, command.program, progress.tell)
+        else:
+            self.side = Crew(command.jobs, plan, folder, headers)
+        self.exports = command.netflow
+        # By their numbers: parts that aren't added yet, those that have failed once, and records of those that are
+        # done.
+        self.works, self.failed, self.records, self.frames = {}, set(), {}, 0
+
+    def run(self):
+        try:
+            origin = None
+            for part in self.cutter.parts():
+                origin = origin or (part if self.exports else None)
+                self.begin(Work(self.plan, self.folder, part, origin))
+            while self.works:
+                self.settle(patiently=True)
+            summary = self.joined.finish()
+            self.folder.leave_parts(self.joined.parts)
+            return summary
+        finally:
+            self.side.close()
+            self.joined.close()
+            self.progress.clear()
+
+    def begin(self, work):
+        """Starts a part, when there is a place for it."""
+        while self.side.is_full or len(self.works) > PARTS_AHEAD * self.side.most:
+            self.settle(patiently=True)
+        self.frames += work.part.frames
+        self.works[work.part.number] = work
+        self.side.start(work)
+        self.settle(patiently=False)
+
+    def settle(self, patiently):
+        """Takes the outcomes of parts that have ended, and adds those whose turn it is."""
+        for outcome in self.side.ended(patiently):
+            work = self.works[outcome.part.number]
+            if outcome.record is None:
+                self.try_again(work, outcome)
+            else:
+                self.records[outcome.part.number] = outcome.record
+                self.progress.done(outcome.part.frames, outcome.is_run)
+        while (number := self.joined.parts + 1) in self.records:
+            self.joined.add(self.works[number], self.records.pop(number))
+            self.folder.forget_unpacked(self.works.pop(number).part)
+        self.progress.show(self.frames, *self.cutter.progress())
+
+    def try_again(self, work, outcome):
+        """Starts a part again that has failed, elsewhere if it can be, or names it where it failed before."""
+        number, ended = work.part.number, outcome.ended
+        said = f"part {number}, {told_times(work.part)}: " + (
+            ended.text.strip() if ended.status is None else f"status {ended.status}: {ended.text.strip()}"
+        )
+        if number in self.failed:
+            status = ended.status if ended.status and ended.status > 0 else FAILED
+            raise Refused(status, ended.text if status == ended.status else "", said)
+        self.failed.add(number)
+        self.progress.tell(f"{said}; it is tried once more")
+        self.side.start(work, outcome.where)
+
+
+def told_times(part):
+    if part.first is None:
+        return "without a frame"
+    return "frames from %d.%09d to %d.%09d" % (*divmod(part.first, 10**9), *divmod(part.last, 10**9))
