@@ -32,7 +32,7 @@ COMMAND = os.path.join(TOP, "tools", "long-run")
 FAILED, OUT_OF_MEMORY = 1, 8
 # How long a run may take, how long a slow program takes longer than a quick one, and how often it is looked how far a
 # run is, in seconds.
-PATIENCE, SLOW, TURN = 60, 0.3, 0.02
+PATIENCE, SLOW, TURN = 240, 0.3, 0.02
 
 FRAMES = [(SECOND + number * 1000 * ODD, [WEB, DATAGRAM][number % 2]) for number in range(40)]
 EDITS = b"in_port=1,actions=2\nin_port=2,actions=1\n"

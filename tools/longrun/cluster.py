@@ -82,7 +82,7 @@ class Cluster:
 
     def close(self):
         self.client.close()
-        self.threads.shutdown(wait=False, cancel_futures=True)
+        self.threads.shutdown(cancel_futures=True)
 
     # ---- in a thread of a part
 
@@ -93,17 +93,17 @@ class Cluster:
             outcome = Outcome(work.part, Ended(None, f"it was lost: {type(why).__name__} {why}"), None, None)
         self.outcomes.put(outcome)
 
-    def run_at(self, avoided, attempt, words, inputs):
+    def run_at(self, avoided, attempt, words, inputs, meanwhile):
         """Has a worker run the program: another one than what is to be avoided, where there is one."""
         others = [it for it in self.client.scheduler_info()["workers"] if it != avoided] or None
         with self.transfers:
             data = [{name: b"".join(pieces) for name, pieces in inputs.items()}]
-            inputs.clear()
             [there] = self.client.scatter(data, workers=others, hash=False)
             data.clear()
         task = self.client.submit(
             remote.run_remotely, self.programs, self.plan.checksum, words, there, workers=others, pure=False
         )
+        meanwhile()
         self.wait(task)
         with self.transfers:
             ended, files, where = task.result()

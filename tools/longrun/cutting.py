@@ -38,9 +38,15 @@ class Cutter:
         self.soft = Most(min(command.part_frames, self.hard.frames), PART_BYTES, MOST_CHANGES)
 
     def parts(self):
-        """The parts, one after the other. There is one at least."""
-        while (end := self.next_end()) is not None:
-            yield self.part(end)
+        """The parts, one after the other, of which there is one at least; and None wherever a piece was read, so that
+        there is time for something else."""
+        while not self.has_ended():
+            end = self.next_end()
+            if end is None:
+                self.read_on()
+                yield None
+            else:
+                yield self.part(end)
         if not self.number:
             yield self.part(END)
 
@@ -53,6 +59,10 @@ class Cutter:
     def known(self):
         """The time before which all frames were read."""
         return min((END if it.has_ended else it.time_at(it.known) for it in self.traces), default=END)
+
+    def has_ended(self):
+        """Whether all frames are in parts."""
+        return all(trace.has_ended and not trace.runs for trace in self.traces)
 
     def read_on(self):
         """Reads on in the trace that is known the least far."""
@@ -71,19 +81,11 @@ class Cutter:
     # ---- where the next part ends
 
     def next_end(self):
-        """The time at which the next part ends, or None where no frame is left."""
-        while True:
-            known = self.known()
-            if known < END and (self.low() is None or self.fits(known, self.soft)):
-                self.read_on()
-            elif self.low() is None:
-                return None
-            elif known == END and self.fits(END, self.soft):
-                return END
-            elif (end := self.end_within(known)) is not None:
-                return end
-            else:
-                self.read_on()
+        """The time at which the next part ends, or None where more has to be read to know."""
+        known, low = self.known(), self.low()
+        if low is None or self.fits(known, self.soft):
+            return None if known < END else END
+        return self.end_within(known, low)
 
     def fits(self, end, most):
         """Whether the frames before a time are no more than a part may have."""
@@ -95,11 +97,10 @@ class Cutter:
         """How often rules change between the frames before a time."""
         return self.edits.changes_between(self.least(), end) if self.edits.changes else 0
 
-    def end_within(self, known):
+    def end_within(self, known, low):
         """The greatest time up to which a part isn't too large and at which the traces can be cut; or else the least
         one at which they can be cut at all, where what stands before it is within the limits. None where more has to
         be read."""
-        low = self.low()
         end = self.lowered(self.greatest(low, known))
         if end > low:
             return end

@@ -128,7 +128,7 @@ class Packets:
     def frames_at(self, port):
         """The frames of a port: when each came in, and its record."""
         header, *_, data = self.inputs[f"{port}.pcap"]
-        form, frames = FORMS[header[:4]], []
+        form, frames, data = FORMS[header[:4]], [], bytes(data)
         runs, _ = Records(f"{port}.pcap", form).runs(0, data)
         for some in runs:
             for at, mark in enumerate(some.times):

@@ -7,6 +7,7 @@ import contextlib
 import fcntl
 import hashlib
 import json
+import mmap
 import os
 import re
 import shutil
@@ -121,10 +122,6 @@ class Folder:
             if stretch.name == self.unpacked(part.number, port):
                 os.remove(stretch.name)
 
-    def slot(self, number):
-        """What a process locks while it runs the program."""
-        return self.path(f".slot-{number}")
-
     def write(self, name, pieces):
         try:
             write_file(name, pieces)
@@ -180,7 +177,7 @@ class Work:
         about = json.dumps([self.plan.checksum, self.words, files])
         return hashlib.sha256(about.encode()).hexdigest()
 
-    def done_before(self, key):
+    def record(self):
         """The record of the part where it was done, with all that it has made still there; or None."""
         try:
             with open(self.folder.part(self.part.number, RECORD_NAME), encoding="ascii") as file:
@@ -188,7 +185,7 @@ class Work:
             sizes = {name: os.path.getsize(self.folder.part(self.part.number, name)) for name in record["sizes"]}
         except (OSError, ValueError, KeyError, TypeError):
             return None
-        return record if record["key"] == key and record["sizes"] == sizes else None
+        return record if record["sizes"] == sizes else None
 
     def keep(self, attempt, key, names, text):
         """Makes the folder of a part of what its run has made, and gives its record."""
@@ -209,22 +206,22 @@ class Work:
         return record
 
     def done(self, headers, run):
-        """Does the part, unless it was done before. run has the program run in a folder on inputs, and tells how that
-        ended and where it ran."""
+        """Does the part, unless it was done before. run has the program run in a folder on inputs, does something
+        meanwhile, and tells how that ended and where it ran."""
         try:
             inputs = self.inputs(headers)
         except Refused as refused:
             return Outcome(self.part, Ended(refused.status, refused.text), None, None)
-        key, names = self.key(inputs), list(inputs)
-        if record := self.done_before(key):
+        record = self.record()
+        if record and record["key"] == self.key(inputs):
             return Outcome(self.part, Ended(0, ""), None, record, False)
-        attempt, record, where = self.folder.attempt(self.part.number), None, None
+        attempt, record, where, keys = self.folder.attempt(self.part.number), None, None, []
         try:
             shutil.rmtree(attempt, ignore_errors=True)
             os.mkdir(attempt)
-            ended, where = run(attempt, self.words, inputs)
+            ended, where = run(attempt, self.words, inputs, lambda: keys.append(self.key(inputs)))
             if ended.status == 0:
-                record = self.keep(attempt, key, names, ended.text)
+                record = self.keep(attempt, keys[0], list(inputs), ended.text)
         except OSError as why:
             fault = write_fault(why.filename or attempt)
             ended = Ended(fault.status, fault.text)
@@ -241,17 +238,17 @@ def checksum_of(pieces):
 
 
 def contents_of(stretch):
-    """The records of a part at a port."""
+    """The records of a part at a port, where they stand."""
+    before = stretch.begin % mmap.ALLOCATIONGRANULARITY
     size = stretch.end - stretch.begin
+    if not size:
+        return b""
     try:
-        with open(stretch.name, "rb", buffering=0) as file:
-            file.seek(stretch.begin)
-            data = file.read(size) if size else b""
-    except OSError:
+        with open(stretch.name, "rb") as file:
+            whole = mmap.mmap(file.fileno(), before + size, offset=stretch.begin - before, access=mmap.ACCESS_READ)
+    except (OSError, ValueError):
         raise read_fault(stretch.name)
-    if len(data) < size:
-        raise read_fault(stretch.name)
-    return data
+    return memoryview(whole)[before:]
 
 
 def rules_in(name):

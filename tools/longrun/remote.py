@@ -32,12 +32,13 @@ def write_file(name, pieces):
             write_all(file, piece)
 
 
-def run(program, words, folder):
-    """Runs the program in a folder. Where this process is ended, so is the program."""
+def run(program, words, folder, meanwhile=lambda: None):
+    """Runs the program in a folder, and does something meanwhile. Where this process is ended, so is the program."""
     process = subprocess.Popen(
         [program, *words], cwd=folder, stdin=subprocess.DEVNULL, stdout=subprocess.PIPE, stderr=subprocess.PIPE
     )
     try:
+        meanwhile()
         text, complaint = process.communicate()
     finally:
         process.kill()

@@ -1,5 +1,5 @@
 """A whole run: traces are cut, parts are done side by side, and what they made is put together in their order."""
-from collections import namedtuple
+from collections import deque, namedtuple
 
 from .cluster import Cluster
 from .crew import Crew
@@ -12,8 +12,9 @@ from .refusals import FAILED, Refused
 
 # What is known before a frame is looked at: the dump of the rules, and how many edits and blocks there are.
 Known = namedtuple("Known", "rules edits blocks")
-# How many parts may be done and not be added yet, for each that may be under way, since one before them isn't done.
-PARTS_AHEAD = 4
+# How many parts are cut before there is a place for them. And how many may be done and not be added yet, for each that
+# may be under way, since one before them isn't done.
+PARTS_READY, PARTS_AHEAD = 2, 4
 
 
 def run(command, progress):
@@ -45,18 +46,20 @@ class Session:
         else:
             self.side = Crew(command.jobs, plan, folder, headers)
         self.exports = command.netflow
-        # By their numbers: parts that aren't added yet, those that have failed once, and records of those that are
-        # done.
-        self.works, self.failed, self.records, self.frames = {}, set(), {}, 0
+        # Parts that are cut and wait for a place. By their numbers: those that aren't added yet, those that failed once,
+        # and the records of those that are done.
+        self.waiting, self.works, self.failed, self.records, self.frames = deque(), {}, set(), {}, 0
 
     def run(self):
         try:
             origin = None
             for part in self.cutter.parts():
-                origin = origin or (part if self.exports else None)
-                self.begin(Work(self.plan, self.folder, part, origin))
+                if part:
+                    origin = origin or (part if self.exports else None)
+                    self.put(Work(self.plan, self.folder, part, origin))
+                self.go_on(patiently=self.has_enough)
             while self.works:
-                self.settle(patiently=True)
+                self.go_on(patiently=True)
             summary = self.joined.finish()
             self.folder.leave_parts(self.joined.parts)
             return summary
@@ -65,28 +68,41 @@ class Session:
             self.joined.close()
             self.progress.clear()
 
-    def begin(self, work):
-        """Starts a part, when there is a place for it."""
-        while self.side.is_full or len(self.works) > PARTS_AHEAD * self.side.most:
-            self.settle(patiently=True)
+    def put(self, work):
         self.frames += work.part.frames
         self.works[work.part.number] = work
-        self.side.start(work)
-        self.settle(patiently=False)
+        self.waiting.append(work)
 
-    def settle(self, patiently):
-        """Takes the outcomes of parts that have ended, and adds those whose turn it is."""
-        for outcome in self.side.ended(patiently):
-            work = self.works[outcome.part.number]
-            if outcome.record is None:
-                self.try_again(work, outcome)
-            else:
-                self.records[outcome.part.number] = outcome.record
-                self.progress.done(outcome.part.frames, outcome.is_run)
-        while (number := self.joined.parts + 1) in self.records:
-            self.joined.add(self.works[number], self.records.pop(number))
-            self.folder.forget_unpacked(self.works.pop(number).part)
-        self.progress.show(self.frames, *self.cutter.progress())
+    @property
+    def has_enough(self):
+        """Whether as many parts are cut as are needed soon."""
+        return len(self.waiting) > PARTS_READY or len(self.works) > PARTS_AHEAD * self.side.most
+
+    def go_on(self, patiently):
+        """Takes the outcomes of parts that have ended, starts others in their places, and adds those whose turn it
+        is. Where it is patient it waits until there are fewer."""
+        while True:
+            self.start_some()
+            for outcome in self.side.ended(patiently):
+                self.take(outcome)
+            self.start_some()
+            while (number := self.joined.parts + 1) in self.records:
+                self.joined.add(self.works[number], self.records.pop(number))
+                self.folder.forget_unpacked(self.works.pop(number).part)
+            self.progress.show(self.frames, *self.cutter.progress())
+            if not patiently or not self.has_enough:
+                return
+
+    def start_some(self):
+        while self.waiting and not self.side.is_full:
+            self.side.start(self.waiting.popleft())
+
+    def take(self, outcome):
+        if outcome.record is None:
+            self.try_again(self.works[outcome.part.number], outcome)
+        else:
+            self.records[outcome.part.number] = outcome.record
+            self.progress.done(outcome.part.frames, outcome.is_run)
 
     def try_again(self, work, outcome):
         """Starts a part again that has failed, elsewhere if it can be, or names it where it failed before."""
