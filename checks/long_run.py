@@ -100,10 +100,10 @@ def joined(files):
     return {name: data for name, data in files.items() if name.endswith((".pcap", ".rules", ".netflow"))}
 
 
-def wrong_in(got, wanted, folder):
+def wrong_in(got, wanted, folder, words, given):
     """What is otherwise in a run in parts, or None."""
     if wanted.status != DONE:
-        return wrong_in_refusal(got, wanted)
+        return wrong_in_refusal(got, wanted, words, given)
     if got.status != DONE:
         return f"status {got.status} and {got.text!r}"
     wanted_files = joined(wanted.files)
@@ -112,13 +112,22 @@ def wrong_in(got, wanted, folder):
     return ", ".join(wrong) or wrong_in_summary(counts_of(got.text), counts_of(wanted.text), folder)
 
 
-def wrong_in_refusal(got, wanted):
-    """Of two traces with a fault another one may be the first that is met."""
+def wrong_in_refusal(got, wanted, words, given):
+    """Of several traces with a fault another one may be the first that is met. It has to have this fault by itself."""
     if got.status == DONE or got.files:
         return f"status {got.status} and files {sorted(got.files)}, where one run has {wanted.text!r}"
-    if re.match(r"(edits|mirrors)", wanted.text) and got.text != wanted.text:
+    if got.text == wanted.text:
+        return None
+    if got.text != simulated([only_trace(word, got.text) for word in words], given).text:
         return f"{got.text!r}, not {wanted.text!r}"
     return None
+
+
+def only_trace(word, text):
+    """A word, without the name of a trace of which a text doesn't tell."""
+    port, _, name = word.partition("=")
+    is_told = text.startswith(f"{name}: ") or text == f"read fault: {name}\n"
+    return f"{port}=" if port.isdecimal() and not is_told else word
 
 
 def wrong_in_summary(got, wanted, folder):
@@ -151,7 +160,7 @@ class Runs:
         folder = tempfile.mkdtemp(prefix="long-run-")
         words = [f"--part-frames={most or MOST_PARTS}", "--jobs=2", *words]
         got = in_parts(self.program, words, given, folder)
-        wrong = wrong_in(got, wanted, folder)
+        wrong = wrong_in(got, wanted, folder, words[2:], given)
         if wrong and not (self.may_refuse and TOO_FAR in got.text):
             raise Otherwise(f"{what}, {' '.join(words)}, in {folder}: {wrong}")
         self.count += 1

@@ -20,9 +20,13 @@ PARTS_READY, PARTS_AHEAD = 2, 4
 def run(command, progress):
     """Runs a command, and gives the summary."""
     edits = contents(command.edits)
-    mirrors = None if command.mirrors is None else contents(command.mirrors)
     with Folder(command.out, progress.tell) as folder:
         program = found_program(command.program, folder)
+        mirrors = None
+        if command.mirrors is not None:
+            # A fault of the edits comes first.
+            checked(program, command, edits, None, folder)
+            mirrors = contents(command.mirrors)
         about = checked(program, command, edits, mirrors, folder)
         by_block = Edits(edits)
         known = Known(about.rules, about.edits, by_block.syncs + 1)
