@@ -113,7 +113,7 @@ def wrong_in(got, wanted, folder, words, given):
 
 
 def wrong_in_refusal(got, wanted, words, given):
-    """Of several traces with a fault another one may be the first that is met. It has to have this fault by itself."""
+    """Of several traces with a fault another one may be the first that is met. It has this fault by itself, too."""
     if got.status == DONE or got.files:
         return f"status {got.status} and files {sorted(got.files)}, where one run has {wanted.text!r}"
     if got.text == wanted.text:

@@ -13,6 +13,7 @@ import pty
 import re
 import resource
 import select
+import shutil
 import signal
 import socket
 import subprocess
@@ -89,6 +90,12 @@ class Room:
         text, told = process.communicate(timeout=PATIENCE)
         files = {name: data for name, data in outputs(self.folder, GIVEN).items() if name not in ("program", "log")}
         return Ended(process.returncode, text or "", files), told
+
+    def clear(self):
+        """Removes what a run has made."""
+        shutil.rmtree(self.path("out.parts"))
+        for name in FILES:
+            os.remove(self.path(name))
 
     def run(self, *words, **options):
         return self.end(self.start(*words, **options))
@@ -226,6 +233,22 @@ def word_rows(program):
         yield "a folder in the place of an output", room.run()[0].text, "write fault: out.p2.pcap\n"
 
 
+def input_rows(program):
+    """A capture may come by standard input, from a file and from a pipe; and each file by a pipe."""
+    words = [*IN_TEN_PARTS, "--netflow", "edits", "out", "1=/dev/stdin", "2=b.pcap"]
+    with tempfile.TemporaryDirectory() as folder:
+        room = Room(program, folder)
+        for what, command in [("a file", "exec {} <a.pcap"), ("a pipe", "cat a.pcap | {}")]:
+            command = command.format(" ".join([COMMAND, "--program", room.path("program"), *words]))
+            process = subprocess.Popen(["sh", "-c", command], cwd=folder, stdout=subprocess.PIPE, text=True)
+            yield f"a capture by standard input, from {what}", is_whole(room.end(process)[0]), True
+            room.clear()
+        command = f"{COMMAND} --program {room.path('program')} {' '.join(IN_TEN_PARTS)} --netflow <(cat edits) out " \
+            "1=<(cat a.pcap) 2=<(cat b.pcap)"
+        process = subprocess.Popen(["bash", "-c", command], cwd=folder, stdout=subprocess.PIPE, text=True)
+        yield "each file by a pipe", is_whole(room.end(process)[0]), True
+
+
 def launcher_rows(program):
     """Without another word the tool runs what the launcher does, here where the launcher has built it."""
     if os.path.dirname(program) != os.path.join(TOP, "crates", "megaswitch", "out"):
@@ -348,8 +371,8 @@ def cluster_rows(program):
 
 
 def all_rows(program, kind):
-    by_processes = (word_rows, launcher_rows, interrupted_rows, changed_rows, lost_rows, full_rows, beside_rows)
-    for rows in (cluster_rows,) if kind == "cluster" else by_processes:
+    by_processes = [word_rows, input_rows, launcher_rows, interrupted_rows, changed_rows, lost_rows, full_rows]
+    for rows in [cluster_rows] if kind == "cluster" else [*by_processes, beside_rows]:
         yield from rows(program)
 
 

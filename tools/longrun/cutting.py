@@ -18,8 +18,8 @@ PART_BYTES = 1 << 26
 
 # The most of a part: frames, bytes of its records, and times at which rules change.
 Most = namedtuple("Most", "frames bytes changes")
-# What a part has of a trace: from where to where in which file.
-Stretch = namedtuple("Stretch", "name begin end")
+# What a part has of a trace: from where to where in which file, which is told by its number or by its name.
+Stretch = namedtuple("Stretch", "file begin end")
 # A part by its number, counted from 1: its stretches by port, the times of its first and its last frame and the port
 # of the first one, and how many frames it has. Without a frame it has neither times nor port.
 Part = namedtuple("Part", "number stretches first first_port last frames")
@@ -164,7 +164,7 @@ class Cutter:
         """Where the records of a part stand. Those of a trace that can't be read again are written to a file."""
         size = sum(run.place(len(run.times)) - run.place(0) for run in runs)
         if trace.source.is_plain:
-            return Stretch(trace.source.name, trace.begin - size, trace.begin)
+            return Stretch(trace.source.file.fileno(), trace.begin - size, trace.begin)
         name = self.folder.unpacked(self.number, trace.port)
         self.folder.write(name, map(Run.bytes, runs))
         return Stretch(name, 0, size)

@@ -119,8 +119,8 @@ class Folder:
     def forget_unpacked(self, part):
         """Removes the records of a part that were unpacked."""
         for port, stretch in part.stretches.items():
-            if stretch.name == self.unpacked(part.number, port):
-                os.remove(stretch.name)
+            if stretch.file == self.unpacked(part.number, port):
+                os.remove(stretch.file)
 
     def write(self, name, pieces):
         try:
@@ -168,7 +168,7 @@ class Work:
             header = headers[port]
             own = self.opener is not None and self.opener.port == port
             begin = [header, empty_record(FORMS[header[:4]], self.opener.time)] if own else [header]
-            files[f"{port}.pcap"] = [*begin, contents_of(stretch)]
+            files[f"{port}.pcap"] = [*begin, contents_of(stretch, f"{port}.pcap")]
         return files
 
     def key(self, inputs):
@@ -237,17 +237,17 @@ def checksum_of(pieces):
     return checksum
 
 
-def contents_of(stretch):
+def contents_of(stretch, name):
     """The records of a part at a port, where they stand."""
     before = stretch.begin % mmap.ALLOCATIONGRANULARITY
     size = stretch.end - stretch.begin
     if not size:
         return b""
     try:
-        with open(stretch.name, "rb") as file:
+        with open(stretch.file, "rb", closefd=isinstance(stretch.file, str)) as file:
             whole = mmap.mmap(file.fileno(), before + size, offset=stretch.begin - before, access=mmap.ACCESS_READ)
     except (OSError, ValueError):
-        raise read_fault(stretch.name)
+        raise read_fault(name)
     return memoryview(whole)[before:]
 
 

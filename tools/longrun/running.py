@@ -12,8 +12,8 @@ from .refusals import FAILED, Refused
 
 # What is known before a frame is looked at: the dump of the rules, and how many edits and blocks there are.
 Known = namedtuple("Known", "rules edits blocks")
-# How many parts are cut before there is a place for them. And how many may be done and not be added yet, for each that
-# may be under way, since one before them isn't done.
+# How many parts are cut before there is a place for them. And how many may be done and not be added yet, for each
+# that may be under way, since one before them isn't done.
 PARTS_READY, PARTS_AHEAD = 2, 4
 
 
@@ -50,8 +50,8 @@ class Session:
         else:
             self.side = Crew(command.jobs, plan, folder, headers)
         self.exports = command.netflow
-        # Parts that are cut and wait for a place. By their numbers: those that aren't added yet, those that failed once,
-        # and the records of those that are done.
+        # Parts that are cut and wait for a place. By their numbers: those that aren't added yet, those that failed
+        # once, and the records of those that are done.
         self.waiting, self.works, self.failed, self.records, self.frames = deque(), {}, set(), {}, 0
 
     def run(self):
