@@ -15,7 +15,6 @@ use std::env;
 use std::io::{self, ErrorKind};
 use std::process::ExitCode;
 use switch_app::{OUT_OF_MEMORY, run_switch};
-use switch_decider::SwitchDecider;
 
 /// The words after the program's name. One that isn't text is an error.
 fn words_of(rt: &HostRuntime) -> io::Result<Vec<String>> {
@@ -34,13 +33,5 @@ fn main(rt: HostRuntime) -> ExitCode {
         Err(_) => Vec::new(rt.alloc()),
     };
     let mut shelf = RealShelf::new(&rt);
-    let status = run_switch::<SwitchDecider, _, _, _, _>(
-        &rt,
-        rt.alloc(),
-        &words,
-        &mut shelf,
-        &mut say,
-        &OpenGate,
-    );
-    ExitCode::from(status)
+    ExitCode::from(run_switch(&rt, rt.alloc(), &words, &mut shelf, &mut say, &OpenGate))
 }

@@ -46,11 +46,10 @@
 //! Reading comes first and whole (`switch_input`). What was read is one run, and `decide_and_tell` has it as its type
 //! parameter: every board, and every fact of a board, speaks of it.
 //!
-//! Who decides the frames is a parameter (`Decider` of `run_decider`), so that what is read and what is written is proved
-//! beside it. Without workers each port's board takes the given steps and is then run to its end, which decides every
-//! frame; it keeps as many megaflows at most as the words say. With workers threads do all of this. Only then files are
-//! written and the summary is printed (`switch_output`), of boards whose type says that they are finished. Why a run was
-//! refused is told without memory (`switch_refusals`).
+//! Without workers each port's board takes the given steps and is then run to its end, which decides every frame; it keeps
+//! as many megaflows at most as the words say. The tables follow the bundles meanwhile. With workers threads do all of this
+//! (`switch_decider` has both). Only then files are written and the summary is printed (`switch_output`), of boards whose
+//! type says that they are finished. Why a run was refused is told without memory (`switch_refusals`).
 //!
 //! A call that is handed a runtime may wait, and need not return. What a run does without workers is done by calls that
 //! have none: `read_inputs`, `decide_alone`, `put_out` and `say_refusal`. That each of these returns is a part of its proof.
@@ -58,7 +57,7 @@
 //! # What is left to others
 //!
 //! Words, files and the rules of the edits to `switch_input`, the edits under the run's name to `run_edits`, the run
-//! and its blocks to `run_case`, deciding to a `Decider` (the program's is that of `switch_decider`), what is written to
+//! and its blocks to `run_case`, deciding to `switch_decider`, what is written to
 //! `switch_output`, texts and statuses to `switch_refusals`, and all that touches the system to `edge_io`.
 #![tactic(auto)]
 

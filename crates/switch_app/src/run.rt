@@ -24,7 +24,6 @@ use crate::status::status_of;
 use edge_io::{Gate, Shelf, Sink};
 use run_boards::Finished;
 use run_case::{Case, RunData};
-use run_decider::Decider;
 use run_edits::RunEdits;
 use spec_case::RunStep;
 use spec_dumps::Ran;
@@ -32,6 +31,7 @@ use std::alloc::{AllocError, Global};
 use std::marker::Brand;
 use std::sync::Wait;
 use std::thread::Threads;
+use switch_decider::{decide_by_workers, run_schedule};
 use switch_input::{Command, Input, Inputs, Mirror, read_inputs};
 use switch_output::{Outlets, OutputRefusal, put_out};
 use switch_refusals::DONE;
@@ -62,7 +62,7 @@ fn told_of(input: &Input<'_>, ran: Ran) -> Option<Ran>
 
 // Decides all frames of a run without workers, as its schedule has it. Its bounds leave nothing to wait for, so that it
 // returns is part of its proof.
-fn decide_alone<C: Case, D: Decider>(
+fn decide_alone<C: Case>(
     alloc: Global,
     run: &RunData<C>,
     edits: &RunEdits<C>,
@@ -76,12 +76,12 @@ fn decide_alone<C: Case, D: Decider>(
     ensures journals { IfOk result (λ r. AreJournals 0 C.run r.0) }
     ensures told { IfOk result (λ r. r.1 ≡ ran_of (has_steps (input_view command.now.input)) C.run) }
 {
-    let (finished, ran) = D::decide_alone(alloc, run, edits, command.flow_limit, steps)?;
+    let (finished, ran) = run_schedule(alloc, run, edits, command.flow_limit, steps)?;
     Ok((finished, told_of(&command.input, ran)))
 }
 
 // Decides all frames of a run: in threads where there are workers, and else as its schedule has it.
-fn decide<C: Case + Send + Sync, D: Decider, R: Threads + Wait + Sync, G: Gate + Sync>(
+fn decide<C: Case + Send + Sync, R: Threads + Wait + Sync, G: Gate + Sync>(
     rt: &R,
     alloc: Global,
     run: &RunData<C>,
@@ -99,10 +99,10 @@ fn decide<C: Case + Send + Sync, D: Decider, R: Threads + Wait + Sync, G: Gate +
     ensures told { IfOk result (λ r. r.1 ≡ ran_of (has_steps (input_view command.now.input)) C.run) }
 {
     if command.workers == 0 {
-        return decide_alone::<C, D>(alloc, run, edits, command, steps);
+        return decide_alone(alloc, run, edits, command, steps);
     }
     let limit = command.flow_limit;
-    let finished = D::decide_by_workers(rt, alloc, run, edits, limit, command.workers, gate)?;
+    let finished = decide_by_workers(rt, alloc, run, edits, limit, command.workers, gate)?;
     // The journals are whole.
     let _ = finished.boards();
     Ok((finished, None))
@@ -111,7 +111,6 @@ fn decide<C: Case + Send + Sync, D: Decider, R: Threads + Wait + Sync, G: Gate +
 // Decides all frames of a run, and then tells what became of it: writes its files, where it has some, and prints its summary.
 fn decide_and_tell<
     C: Case + Send + Sync,
-    D: Decider,
     R: Threads + Wait + Sync,
     S: Shelf,
     K: Sink,
@@ -159,12 +158,12 @@ fn decide_and_tell<
         script.syncs,
         traces,
     )?;
-    let (finished, told) = decide::<C, D, R, G>(rt, alloc, &run, &edits, &command, &steps, gate)?;
+    let (finished, told) = decide(rt, alloc, &run, &edits, &command, &steps, gate)?;
     let outlets = outlets_of(&command.input, &mirrors);
     put_out(alloc, shelf, say, outlets, &run, &rules, &finished, told)
 }
 
-fn run<'a, D: Decider, R: Threads + Wait + Sync, S: Shelf, K: Sink, G: Gate + Sync>(
+fn run<'a, R: Threads + Wait + Sync, S: Shelf, K: Sink, G: Gate + Sync>(
     rt: &R,
     alloc: Global,
     words: &'a [String],
@@ -179,11 +178,11 @@ fn run<'a, D: Decider, R: Threads + Wait + Sync, S: Shelf, K: Sink, G: Gate + Sy
         (Leaves S.Shelf K.Sink (texts words.now) shelf.old shelf.new say.old say.new) }
 {
     let inputs = read_inputs(alloc, words, shelf)?;
-    decide_and_tell::<Brand, D, R, S, K, G>(rt, alloc, shelf, say, inputs, gate)?;
+    decide_and_tell::<Brand, R, S, K, G>(rt, alloc, shelf, say, inputs, gate)?;
     Ok(())
 }
 
-fn end<D: Decider, R: Threads + Wait + Sync, S: Shelf, K: Sink, G: Gate + Sync>(
+fn end<R: Threads + Wait + Sync, S: Shelf, K: Sink, G: Gate + Sync>(
     rt: &R,
     alloc: Global,
     words: &[String],
@@ -195,7 +194,7 @@ fn end<D: Decider, R: Threads + Wait + Sync, S: Shelf, K: Sink, G: Gate + Sync>(
     ensures { let words = texts words.now in
         Ends S.Shelf K.Sink words shelf.old shelf.new say.old say.new result }
 {
-    match run::<D, R, S, K, G>(rt, alloc, words, shelf, say, gate) {
+    match run(rt, alloc, words, shelf, say, gate) {
         Ok(()) => DONE,
         Err(refusal) => {
             say_refusal(say, &refusal);
@@ -240,7 +239,7 @@ fn end<D: Decider, R: Threads + Wait + Sync, S: Shelf, K: Sink, G: Gate + Sync>(
 ///
 /// The runtime and the gate are for workers. By its bounds the call may wait, so that it returns is no part of what is
 /// proved of it. It is proved of each call that it makes without workers: of reading, of deciding, of writing and printing.
-pub fn run_switch<D: Decider, R: Threads + Wait + Sync, S: Shelf, K: Sink, G: Gate + Sync>(
+pub fn run_switch<R: Threads + Wait + Sync, S: Shelf, K: Sink, G: Gate + Sync>(
     rt: &R,
     alloc: Global,
     words: &[String],
@@ -265,5 +264,5 @@ pub fn run_switch<D: Decider, R: Threads + Wait + Sync, S: Shelf, K: Sink, G: Ga
         → ¬ Rose (K.faults say.old) (K.faults say.new)
         → (result ≡ done_status) ⊎ (result ≡ out_of_memory_status) }
 {
-    end::<D, R, S, K, G>(rt, alloc, words, shelf, say, gate)
+    end(rt, alloc, words, shelf, say, gate)
 }

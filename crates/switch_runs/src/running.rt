@@ -10,7 +10,6 @@ use std::alloc::{AllocError, Global};
 use std::sync::Wait;
 use std::thread::Threads;
 use switch_app::run_switch;
-use switch_decider::SwitchDecider;
 
 /// The status of a run that is done.
 pub const DONE: u8 = 0;
@@ -84,7 +83,7 @@ pub fn status_of<R: Threads + Wait + Sync, S: Shelf>(
     for word in words {
         owned.push(String::from_str(alloc, word)?)?;
     }
-    Ok(run_switch::<SwitchDecider, _, _, _, _>(rt, alloc, &owned, shelf, say, &OpenGate))
+    Ok(run_switch(rt, alloc, &owned, shelf, say, &OpenGate))
 }
 
 /// The files that a run writes.

@@ -8,7 +8,6 @@ use std::alloc::{AllocError, Global};
 use std::sync::Wait;
 use std::thread::Threads;
 use switch_app::run_switch;
-use switch_decider::SwitchDecider;
 
 /// The status of a run that is done.
 pub const DONE: u8 = 0;
@@ -115,8 +114,6 @@ pub fn run_through<R: Threads + Wait + Sync, G: Gate + Sync>(
     }
     let mut shelf = shelf_of(alloc, run)?;
     let mut say = MemorySink::new(alloc, Vec::new(alloc));
-    let status = run_switch::<SwitchDecider, _, _, _, _>(
-        rt, alloc, &words, &mut shelf, &mut say, gate,
-    );
+    let status = run_switch(rt, alloc, &words, &mut shelf, &mut say, gate);
     Ok(Ended { status, shelf })
 }
