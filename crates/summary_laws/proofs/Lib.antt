@@ -1,0 +1,5 @@
+pub mod Counted
+pub mod SentAlike
+pub mod MadeApart
+pub mod MadeRuns
+mod Rows
