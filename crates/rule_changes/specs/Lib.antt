@@ -1,0 +1,5 @@
+pub mod Lockstep
+pub mod Live
+pub mod Twins
+pub mod Pairs
+pub mod Changes

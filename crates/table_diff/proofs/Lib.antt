@@ -1,0 +1,10 @@
+pub mod SameActions
+pub mod BitLaws
+pub mod SplitLaws
+pub mod HoldLaws
+pub mod StandLaws
+pub mod TellLaws
+pub mod OpenLaws
+pub mod ApartLaws
+pub mod WholeLaws
+pub mod JudgeLaws

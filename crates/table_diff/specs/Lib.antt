@@ -1,0 +1,7 @@
+pub mod Cubes
+pub mod Judging
+pub mod Standing
+pub mod Deciding
+pub mod Open
+pub mod Checking
+pub mod Proposing

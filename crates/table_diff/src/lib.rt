@@ -1,0 +1,58 @@
+//! The difference of two versions of the flow tables: which packets they treat differently, and how.
+//!
+//! # What?
+//!
+//! Before rules are changed one wants to know what that does to traffic. `compare` takes two versions of the rules and the
+//! ports of a switch, and gives the packets that they treat differently, in classes: a key and a mask, what the old rules do
+//! to the frames of all packets whose keys agree with it on the mask, and what the new ones do.
+//!
+//! # What is promised
+//!
+//! The classes are the `IsDifference` of `spec_diff`. Every key that a frame may have, of a port that is listed once, is in
+//! exactly one class, or in none, and then both versions do the same to its frame. Of a class both versions do what it says
+//! of them, and that isn't the same. Both lists can be printed.
+//!
+//! Where there are too many cubes, or memory runs out, there is no list. `Undecided` says that bits were chosen that don't
+//! decide a translation. That it never comes isn't proved.
+//!
+//! # How
+//!
+//! Packets are taken in cubes: a key, and the bits on which its packets agree with it. At first there is one for each port.
+//! The packet of a cube's key is judged, with bits that decide the judgement (`judging`). The packets that have these bits
+//! too are done with: alike, or a class. The others are put back, a cube for each bit of these: alike in those before it,
+//! different in it (`splitting`). Each key is in as many of all cubes and classes as before, but for those that were found
+//! alike; that is the invariant (specs/Standing.antt).
+//!
+//! Which bits decide is proposed by a run through the tables that adds, for each rule that may win and isn't told yet, one
+//! bit in which the packet differs from it (`proposing`). Then it is checked by a run with the mask fixed (`checking`):
+//! at each lookup, whether the mask tells of each rule that may win; at each action, whether it has the action's bits. Only
+//! the check is proved, so a better choice changes no proof. A megaflow's bits would serve too, and are far too many: of a
+//! packet that isn't of an address they have all of that address, and one bit is enough.
+//!
+//! # What is left to others
+//!
+//! Rules that both versions have needn't be told apart at all (`same_rules_do_the_same` is the law for that); a class
+//! is to say flow actions, so that packets which are rewritten are of few classes. Neither is built.
+#![tactic(auto)]
+
+mod actions;
+mod apart;
+mod checking;
+mod choosing;
+mod class;
+mod comparing;
+mod cube;
+mod error;
+mod judging;
+mod laws;
+mod proposing;
+mod settling;
+mod splitting;
+mod telling;
+mod whole;
+
+pub use class::Class;
+pub use comparing::compare;
+pub use cube::Cube;
+pub use error::CompareError;
+pub use laws::deciding_mask_is_sound;
