@@ -1,5 +1,5 @@
 -- Packets that meet no changed rule, by the bits of a mask.
-use Rattle.std.proofs.Common.{◌≡◌, ℕ, Bool, true, false, IsTrue, List, [], ◌∷◌, inl, inr, refl, sym, ap, ◌∙◌}
+use Rattle.std.proofs.Common.{◌≡◌, ℕ, Bool, true, false, List, [], ◌∷◌, inl, inr, refl, sym, ap, ◌∙◌}
 use Rattle.spec_keys.specs.Fields.{register_fields}
 use Rattle.spec_keys.specs.Keys.{masked, same, agree, overlap, IsKey, IsClean}
 use Rattle.spec_tables.specs.Rules.{Match, is_matched}

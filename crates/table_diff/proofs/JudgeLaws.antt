@@ -1,5 +1,6 @@
 -- Checks of a mask, and what they say of other packets.
 use Rattle.std.proofs.Common.{◌≡◌, ℕ, Bool, true, false, IsTrue, ◌&&◌, List, [], ◌∷◌, fold, refl, sym, ap, ◌∙◌, subst}
+use Rattle.std.proofs.lemmas.Bool.{and_parts}
 use Rattle.spec_keys.specs.Fields.{register_fields}
 use Rattle.spec_keys.specs.Keys.{agree, IsKey, IsClean}
 use Rattle.spec_xlate.specs.Translation.{Switch, Translation, pipe}
@@ -24,3 +25,13 @@ does sw key m mask true is clean same open_ told t made other frame h =
     ∙ sym (ap (λ (x : Translation). x.actions) made)
 does sw key m mask false is clean same open_ told t made other frame h =
     ap (done sw) (open_ refl key other (record { is_key = is; clean = clean }) frame h) ∙ sym (ap (λ (x : Translation). x.actions) made)
+
+-- the same of two switches
+pub both_do : (o n : Switch) (key m mask : List ℕ) (old new : Bool) → IsKey key → IsClean key → ((old && new) ≡ true → mask ≡ without register_fields m)
+    → ((old && new) ≡ false → (a b : List ℕ) → IsFrameKey a → IsFrameKey b → IsTrue (agree b a mask) → b ≡ a)
+    → old ≡ tells_all m o key → new ≡ tells_all m n key → (s t : Translation) → s ≡ pipe o key → t ≡ pipe n key
+    → DoesAll o key mask s.actions × DoesAll n key mask t.actions
+both_do o n key m mask old new is clean same open_ old_told new_told s t made_old made_new = (
+  does o key m mask (old && new) is clean same open_ (λ h. sym old_told ∙ (and_parts old new h).0) s made_old,
+  does n key m mask (old && new) is clean same open_ (λ h. sym new_told ∙ (and_parts old new h).1) t made_new,
+)

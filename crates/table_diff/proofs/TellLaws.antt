@@ -2,7 +2,6 @@
 use Rattle.std.proofs.Common.{◌≡◌, ℕ, zero, suc, ◌+◌, ◌-◌, Bool, true, false, not, ◌&&◌, ◌||◌, ◌==◌, nat_le, List, [], ◌∷◌, ◌++◌, length, set, fold, bit_and, Option, Some, None, inl, inr, refl, sym, ap, ap₂, ◌∙◌, subst, get_or-set_other}
 use Rattle.std.specs.List.{list_any, list_all}
 use Rattle.std.proofs.lemmas.Bool.{and_parts, eqb-true}
-use Rattle.std.proofs.lemmas.Nat.{and_comm, and_assoc}
 use Rattle.spec_keys.specs.declared.field_id.FieldId.TheVariants as field
 use Rattle.spec_keys.specs.declared.field_id.FieldId.{FieldId}
 use Rattle.spec_keys.specs.Fields.{place_of, register_fields}
@@ -16,7 +15,7 @@ use Rattle.spec_xlate.specs.Translation.Mode.{Going, ListEnded, Stopped}
 use Rattle.spec_xlate.specs.Lookup.{union, priority_to_beat, rules_from}
 use Rattle.spec_xlate.specs.Consulted.{whole, act_bits, without}
 use Rattle.translation_laws.proofs.MemberLaws.{Among, Among_in-filter}
-use Rattle.translation_laws.proofs.KeyLaws.{SameBits, agree-masked, agree_from-masked, masked_from-places, places_from-masked, number_at-masked, length_from-masked, same-eq, joined-right}
+use Rattle.translation_laws.proofs.KeyLaws.{SameBits, agree-masked, agree_from-masked, masked_from-places, places_from-masked, length_from-masked, same-eq, joined-right}
 use Rattle.translation_laws.proofs.UnionLaws.{SameBits_from-union, agree-covers}
 use Rattle.translation_laws.proofs.KeysAlike.{start-alike, and-alike, eqb-false}
 use Rattle.translation_laws.proofs.StatesAlike.{Alike, mode-alike, whole-same}

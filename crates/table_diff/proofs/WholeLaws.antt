@@ -1,10 +1,10 @@
 -- Keys of frames that agree on all bits are one key.
-use Rattle.std.proofs.Common.{◌≡◌, ℕ, zero, suc, ◌<◌, ◌≤◌, ◌^◌, ◌⊎◌, Bool, true, false, ◌&&◌, ◌||◌, ◌==◌, List, [], ◌∷◌, length, get_or, map, inl, inr, refl, sym, ap, ap₂, ◌∙◌, subst, arith, eqb-true}
+use Rattle.std.proofs.Common.{◌≡◌, ℕ, zero, suc, ◌<◌, ◌≤◌, ◌⊎◌, Bool, true, false, ◌&&◌, ◌||◌, ◌==◌, List, [], ◌∷◌, length, map, inl, inr, refl, sym, ap, ap₂, ◌∙◌, subst, arith, eqb-true}
 use Rattle.std.proofs.lemmas.Bool.{and_parts, cases_lt}
 use Rattle.std.specs.List.{list_any}
 use Rattle.spec_keys.specs.declared.field_id.FieldId.{FieldId}
 use Rattle.spec_keys.specs.Fields.{place_of, fields, field_count, register_fields}
-use Rattle.spec_keys.specs.Keys.{number_at, value_of, agree, IsKey, IsClean}
+use Rattle.spec_keys.specs.Keys.{number_at, agree, IsKey}
 use Rattle.spec_xlate.specs.Consulted.{whole, without}
 use Rattle.spec_xlate.specs.Lookup.{union}
 use Rattle.spec_diff.specs.Classes.{IsFrameKey}
@@ -20,14 +20,14 @@ tested_below p (suc n) = p n && tested_below p n
 
 below : (p : ℕ → Bool) (n q : ℕ) → tested_below p n ≡ true → q < n → p q ≡ true
 below p zero q h lt = absurd (omega arith)
-below p (suc n) q h lt = at (cases_lt q n)
+below p (suc n) q h lt = at (cases_lt q n) (below p n q)
   where
     parts : (p n ≡ true) × (tested_below p n ≡ true)
     parts = and_parts (p n) (tested_below p n) h
 
-    at : (q < n) ⊎ (n ≤ q) → p q ≡ true
-    at (inl less) = below p n q parts.1 less
-    at (inr more) = let same : q ≡ n = omega arith in ap p same ∙ parts.0
+    at : (q < n) ⊎ (n ≤ q) → (tested_below p n ≡ true → q < n → p q ≡ true) → p q ≡ true
+    at (inl less) others = others parts.1 less
+    at (inr more) others = let same : q ≡ n = omega arith in ap p same ∙ parts.0
 
 abbrev is_place : ℕ → Bool
 is_place q = list_any (λ f. q == place_of f) fields
@@ -46,13 +46,14 @@ same_numbers (x ∷ xs) (y ∷ ys) l each =
 same_values : (a b : List ℕ) → IsKey a → IsKey b → (fs : List FieldId) → SameBits a b (map whole fs) → (q : ℕ)
     → list_any (λ f. q == place_of f) fs ≡ true → number_at a q ≡ number_at b q
 same_values a b ka kb [] s q h = absurd (cc h)
-same_values a b ka kb (f ∷ fs) s q h = at (q == place_of f) refl h
+same_values a b ka kb (f ∷ fs) s q h = at (q == place_of f) refl (same_values a b ka kb fs s.1 q) h
   where
-    at : (t : Bool) → (q == place_of f) ≡ t → (t || list_any (λ g. q == place_of g) fs) ≡ true → number_at a q ≡ number_at b q
-    at true e h =
+    at : (t : Bool) → (q == place_of f) ≡ t → (list_any (λ g. q == place_of g) fs ≡ true → number_at a q ≡ number_at b q)
+        → (t || list_any (λ g. q == place_of g) fs) ≡ true → number_at a q ≡ number_at b q
+    at true e others h =
         let here : q ≡ place_of f = eqb-true q (place_of f) e in
         ap (number_at a) here ∙ whole-same a b ka kb f s.0 ∙ sym (ap (number_at b) here)
-    at false e h = same_values a b ka kb fs s.1 q h
+    at false e others h = others h
 
 pub all_bits_same : (a b mask : List ℕ) → IsFrameKey a → IsFrameKey b → mask ≡ without register_fields (union (map whole fields)) → agree b a mask ≡ true → b ≡ a
 all_bits_same a b mask fa fb is h =

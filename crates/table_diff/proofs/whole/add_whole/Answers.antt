@@ -2,7 +2,8 @@ use Rattle.std.proofs.Common.{◌≡◌, ℕ, ◌+◌, ◌<◌, List, length, ge
 use Rattle.std.proofs.lemmas.List.{drop_more}
 use Rattle.spec_base.specs.Bits.{all_bits}
 use Rattle.spec_keys.specs.declared.field_id.FieldId.{FieldId}
-use Rattle.spec_keys.specs.Fields.{place_of, width_of}
+use Rattle.spec_keys.specs.declared.field_id.FieldId.TheVariants.{InPort}
+use Rattle.spec_keys.specs.Fields.{place_of}
 use Rattle.spec_keys.specs.Keys.{joined, only_at}
 use Rattle.spec_xlate.specs.Consulted.{whole}
 use Rattle.spec_xlate.specs.Lookup.{added}
@@ -17,4 +18,8 @@ next fields i d m m' within one =
     ∙ sym (ap (λ (fs : List FieldId). added m (map whole fs)) (drop_more fields i d within))
 
 pub fields-preserved : goal.fields-preserved
-fields-preserved c = ?
+fields-preserved c =
+    next c.args.fields.now c.fields.field-index InPort (bits c.fields.mask) (bits c.add.new.self) c.fields-test.true
+    (c.add.ensures ∙ ap (λ (n : ℕ). joined (bits c.fields.mask) (only_at (place_of (get_or c.args.fields.now c.fields.field-index InPort)) n))
+    (c.low_bits.ensures ∙ ap all_bits c.width.ensures))
+    ∙ c.fields.invariant
