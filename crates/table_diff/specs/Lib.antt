@@ -1,6 +1,5 @@
 pub mod Cubes
 pub mod Judging
-pub mod Standing
 pub mod Deciding
 pub mod Open
 pub mod Checking

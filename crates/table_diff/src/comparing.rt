@@ -1,11 +1,11 @@
 //! The comparison of two versions.
-ghost use Rattle.std.specs.Prelude.{◌≡◌, IfOk, map};
+ghost use Rattle.std.specs.Prelude.{◌≡◌, IfOk, IfErr, map};
 ghost use Rattle.spec_xlate.specs.Translation.{switch_of};
 ghost use Rattle.rule_lines.specs.Live.{IsOfEdits, live_in};
 ghost use Rattle.pipe_model.specs.Runnable.{AreRunnable};
 ghost use Rattle.spec_diff.specs.Classes.{from_port, IsDifference};
 ghost use Rattle.table_diff.specs.Cubes.{cube_view, cubes_view, classes_view};
-ghost use Rattle.table_diff.specs.Standing.{Stands};
+ghost use Rattle.spec_diff.specs.Progress.{IsUnfinished, cube_limit};
 
 use crate::class::Class;
 use crate::cube::Cube;
@@ -17,8 +17,8 @@ use rule_changes::changes_of;
 use rule_tables::VersionedRules;
 use std::alloc::{AllocError, Global};
 
-/// How many cubes are looked into (the limit is this profile's).
-const CUBE_LIMIT: u32 = 1 << 22;
+/// How many cubes are looked into.
+pub const CUBE_LIMIT: u32 = 1 << 22;
 
 /// All packets that come in by a port.
 fn cube_of(port: u16) -> Cube
@@ -53,9 +53,11 @@ pub fn compare(
     requires new_edits { IsOfEdits new.now }
     requires old_runnable { AreRunnable (live_in old.now) }
     requires new_runnable { AreRunnable (live_in new.now) }
-    ensures { IfOk result (λ v.
+    ensures ok { IfOk result (λ v.
         IsDifference (switch_of (live_in old.now) ports.now) (switch_of (live_in new.now) ports.now)
         ports.now (classes_view v.items)) }
+    ensures too_many { IfErr result (λ e. e ≡ CompareError.TooMany →
+        IsUnfinished (switch_of (live_in old.now) ports.now) (switch_of (live_in new.now) ports.now) ports.now cube_limit) }
 {
     let changes = changes_of(alloc, old, new)?;
     let mut work = first(alloc, ports)?;
@@ -68,6 +70,9 @@ pub fn compare(
                 settle(&mut work, &mut classes, cube, judged)?;
             }
         }
+    }
+    if work.is_empty() {
+        return Ok(classes);
     }
     Err(CompareError::TooMany)
 }
