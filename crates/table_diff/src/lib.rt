@@ -12,8 +12,8 @@
 //! exactly one class, or in none, and then both versions do the same to its frame. Of a class both versions do what it says
 //! of them, and that isn't the same. Both lists can be printed.
 //!
-//! Where there are too many cubes, or memory runs out, there is no list. `Undecided` says that bits were chosen that don't
-//! decide a translation. That it never comes isn't proved.
+//! Where there are more cubes than are looked into, there is no list; what was found up to then is right, and something is
+//! left (`IsUnfinished`). Out of memory is the only other error.
 //!
 //! # How
 //!
@@ -21,18 +21,23 @@
 //! The packet of a cube's key is judged, with bits that decide the judgement (`judging`). The packets that have these bits
 //! too are done with: alike, or a class. The others are put back, a cube for each bit of these: alike in those before it,
 //! different in it (`splitting`). Each key is in as many of all cubes and classes as before, but for those that were found
-//! alike; that is the invariant (specs/Standing.antt).
+//! alike; that is the invariant (`IsPartWay`).
 //!
-//! Which bits decide is proposed by a run through the tables that adds, for each rule that may win and isn't told yet, one
-//! bit in which the packet differs from it (`proposing`). Then it is checked by a run with the mask fixed (`checking`):
-//! at each lookup, whether the mask tells of each rule that may win; at each action, whether it has the action's bits. Only
-//! the check is proved, so a better choice changes no proof. A megaflow's bits would serve too, and are far too many: of a
-//! packet that isn't of an address they have all of that address, and one bit is enough.
+//! Most packets meet no rule that was changed, whatever becomes of the bits that actions write, and are treated alike
+//! (`rule_changes`). One bit for each changed rule tells them apart from it (`apart`). Only the others are followed through
+//! both versions.
+//!
+//! Which bits decide what becomes of those is proposed by a run through the tables that adds, for each rule that may win and
+//! isn't told yet, one bit in which the packet differs from it (`proposing`, `choosing`). Then it is checked by a run with the
+//! mask fixed (`checking`): at each lookup, whether the mask tells of each rule that may win; at each action, whether it has
+//! the action's bits. Only the check is proved, so a better choice changes no proof. Where bits don't pass, all bits of the
+//! packet are taken, which always decide. A megaflow's bits would serve too, and are far too many: of a packet that isn't of
+//! an address they have all of that address, and one bit is enough.
 //!
 //! # What is left to others
 //!
-//! Rules that both versions have needn't be told apart at all (`same_rules_do_the_same` is the law for that); a class
-//! is to say flow actions, so that packets which are rewritten are of few classes. Neither is built.
+//! The text of classes (`diff_lines`). A class says datapath actions, which depend on the bits that are written over: rules
+//! that rewrite make a class for each value that such bits may have, and many of them end at the limit.
 #![tactic(auto)]
 
 mod actions;
@@ -51,8 +56,9 @@ mod splitting;
 mod telling;
 mod whole;
 
+pub use actions::are_same;
 pub use class::Class;
-pub use comparing::compare;
+pub use comparing::{CUBE_LIMIT, compare};
 pub use cube::Cube;
 pub use error::CompareError;
 pub use laws::deciding_mask_is_sound;

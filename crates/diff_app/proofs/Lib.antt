@@ -1,0 +1,3 @@
+pub mod Ending
+pub mod Stages
+pub mod Told

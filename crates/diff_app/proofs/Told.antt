@@ -1,0 +1,24 @@
+-- What stands where no difference is told, by the refusal.
+use Rattle.std.proofs.Common.{◌≡◌, ℕ, List, [], ◌∷◌, ◌⊎◌, inl, inr, refl, sym, ap, ◌∙◌, subst}
+use Rattle.std.specs.Prelude.{IsTrue}
+use Rattle.spec_run.specs.Statuses.{done_status}
+use Rattle.spec_diff.specs.Classes.{Class}
+use Rattle.spec_diff_run.specs.Statuses.{differ_status, found_status}
+use Rattle.edge_io.specs.declared.outside.Shelf as shelf
+use Rattle.edge_io.specs.declared.outside.Sink as sink
+use Rattle.diff_app.specs.declared.refusal.Refusal.{Refusal}
+use Rattle.diff_app.specs.declared.refusal.Refusal.TheVariants.{Usage, Reading, TooManyCubes, Printing}
+use Rattle.diff_app.specs.Refused.{IsUntold}
+use Rattle.diff_app.specs.Leaving.{LeavesUnread, Leaves}
+
+pub unread_leaves : {S K : Type 0} (g : shelf.Ghosts S) (h : sink.Ghosts K) (words : List (List ℕ)) (old new : S) (said saying : K) (r : Refusal)
+    → IsUntold r → LeavesUnread g h words old new said saying r → Leaves g h words old new said saying r
+unread_leaves g h words old new said saying Usage untold left = left
+unread_leaves g h words old new said saying (Reading r) untold left = left
+unread_leaves g h words old new said saying TooManyCubes untold left = absurd untold
+unread_leaves g h words old new said saying (Printing f) untold left = absurd untold
+
+-- the status of a comparison is one of two
+pub found : (classes : List Class) (status : ℕ) → status ≡ found_status classes → (status ≡ done_status) ⊎ (status ≡ differ_status)
+found [] status is = inl is
+found (c ∷ classes) status is = inr is

@@ -1,0 +1,11 @@
+use Rattle.command_words.specs.CommandViews.{texts}
+use Rattle.diff_app.proofs.Ending.{refused_ends, accepted_ends}
+use Rattle.diff_app.proofs.run.run_diff.Goals as goal
+
+pub returns-clause-refusal : goal.returns-clause-refusal
+returns-clause-refusal g c = λ t.
+    refused_ends g.S.Shelf g.K.Sink (texts c.args.words.now) c.args.shelf.now c.end.new.shelf c.args.say.now c.end.new.say c.end.result t c.end.ensures
+
+pub returns-clause-accepted : goal.returns-clause-accepted
+returns-clause-accepted g c = λ t.
+    accepted_ends g.S.Shelf g.K.Sink (texts c.args.words.now) c.args.shelf.now c.end.new.shelf c.args.say.now c.end.new.say c.end.result t c.end.ensures

@@ -1,0 +1,5 @@
+pub mod Commands
+pub mod InputViews
+pub mod Refused
+pub mod Ends
+pub mod Leaving

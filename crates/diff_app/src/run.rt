@@ -1,0 +1,123 @@
+ghost use Rattle.std.specs.Prelude.{◌≡◌, ◌⊎◌, string_bytes, IsTrue, IsOk, IfOk, IfErr};
+ghost use Rattle.spec_base.specs.Counts.{Rose};
+ghost use Rattle.spec_run.specs.Statuses.{done_status, limit_status, read_fault_status, out_of_memory_status};
+ghost use Rattle.edge_io.specs.declared.outside.InUse.TheVariants.{Nothing};
+ghost use Rattle.command_words.specs.CommandViews.{texts};
+ghost use Rattle.spec_diff.specs.Progress.{IsUnfinished, cube_limit};
+ghost use Rattle.spec_diff_run.specs.Verdict.{old_switch, new_switch, verdict};
+ghost use Rattle.spec_diff_run.specs.Statuses.{differ_status, found_status, status_of as refusal_status};
+ghost use Rattle.spec_diff_run.specs.Outputs.{Tells};
+ghost use Rattle.spec_diff_run.specs.Texts.{text_of_classes};
+ghost use Rattle.table_diff.specs.Cubes.{classes_view};
+ghost use Rattle.diff_app.specs.InputViews.{accepted_view, AreComparable};
+ghost use Rattle.diff_app.specs.Ends.{Ends, IsCompared};
+ghost use Rattle.diff_app.specs.Leaving.{Leaves};
+
+use crate::inputs::{Inputs, read_inputs};
+use crate::refusal::Refusal;
+use crate::say::say_refusal;
+use crate::status::{DIFFER, status_of};
+use diff_lines::print_difference;
+use edge_io::{Shelf, Sink, say_all};
+use std::alloc::{AllocError, Global};
+use switch_refusals::DONE;
+use table_diff::{Class, CompareError, compare};
+
+/// The text of a difference, and the status that goes with it.
+#[derive(Drop)]
+struct Told {
+    text: String,
+    status: u8,
+}
+
+fn told(alloc: Global, classes: &[Class], brief: bool) -> Result<Told, AllocError>
+    ensures text { IfOk result (λ t. string_bytes t.text ≡ text_of_classes brief (classes_view classes.now)) }
+    ensures status { IfOk result (λ t. t.status ≡ found_status (classes_view classes.now)) }
+{
+    let mut text = String::new(alloc);
+    print_difference(&mut text, classes, brief)?;
+    let status = if classes.is_empty() { DONE } else { DIFFER };
+    Ok(Told { text, status })
+}
+
+// Compares both versions.
+fn find(alloc: Global, inputs: &Inputs) -> Result<Told, CompareError>
+    requires { AreComparable inputs.now }
+    ensures ok { IfOk result (λ t. Tells (accepted_view inputs.now) (string_bytes t.text) t.status) }
+    ensures too_many { IfErr result (λ e. e ≡ CompareError.TooMany →
+        IsUnfinished (old_switch (accepted_view inputs.now)) (new_switch (accepted_view inputs.now))
+        inputs.now.ports.items cube_limit) }
+{
+    let classes = compare(alloc, &inputs.old, &inputs.new, &inputs.ports)?;
+    let told = told(alloc, &classes, inputs.brief)?;
+    Ok(told)
+}
+
+fn run<'a, S: Shelf, K: Sink>(
+    alloc: Global,
+    words: &'a [String],
+    shelf: &mut S,
+    say: &mut K,
+) -> Result<u8, Refusal<'a>>
+    requires { S.in_use shelf.old ≡ Nothing }
+    ensures ok { IfOk result
+        (IsCompared S.Shelf K.Sink (texts words.now) shelf.old shelf.new say.old say.new) }
+    ensures status { IfOk result (λ s. (s ≡ done_status) ⊎ (s ≡ differ_status)) }
+    ensures err { IfErr result
+        (Leaves S.Shelf K.Sink (texts words.now) shelf.old shelf.new say.old say.new) }
+{
+    let inputs = read_inputs(alloc, words, shelf)?;
+    let told = find(alloc, &inputs)?;
+    say_all(say, told.text.as_bytes())?;
+    Ok(told.status)
+}
+
+fn end<S: Shelf, K: Sink>(alloc: Global, words: &[String], shelf: &mut S, say: &mut K) -> u8
+    requires { S.in_use shelf.old ≡ Nothing }
+    ensures { Ends S.Shelf K.Sink (texts words.now) shelf.old shelf.new say.old say.new result }
+{
+    match run(alloc, words, shelf, say) {
+        Ok(status) => status,
+        Err(refusal) => {
+            say_refusal(say, &refusal);
+            status_of(&refusal)
+        }
+    }
+}
+
+/// Compares two versions of the flow tables: reads two files of edits, and prints which packets the last versions of the one
+/// and of the other treat differently.
+///
+/// The words are those after the program's name: `[--brief] OLD NEW PORT..`. OLD and NEW name the files, whose lines are as
+/// `megaswitch` reads them; sync lines say nothing here. The ports of the switch are 1 to 32 numbers.
+///
+/// For each class of packets three lines are printed: the match, and what the old tables and the new ones do; with `--brief`
+/// one line for each pair of actions. A last line counts both. Nothing is printed where no packet is treated differently, and
+/// nothing is written to the shelf.
+///
+/// The answer is the exit status: 0 where no packet is treated differently, 1 where some is. `spec_diff_run` has the others,
+/// and the text that is printed with each. Of a text a prefix may be missing its end where the sink fails.
+pub fn run_diff<S: Shelf, K: Sink>(
+    alloc: Global,
+    words: &[String],
+    shelf: &mut S,
+    say: &mut K,
+) -> u8
+    requires { S.in_use shelf.old ≡ Nothing }
+
+    // What the status is, and what is printed and opened with it, and which counts rose.
+    ensures ends { Ends S.Shelf K.Sink (texts words.now) shelf.old shelf.new say.old say.new result }
+
+    // What is refused ends with the status of its refusal, and what is accepted is compared, unless a count rises, memory
+    // runs out or there are more cubes than are looked into.
+    ensures refusal { IsTrue S.tells → IfErr (verdict (texts words.now) (S.told shelf.old).holds)
+        (λ r. (result ≡ refusal_status r)
+        ⊎ ((result ≡ read_fault_status) ⊎ (result ≡ out_of_memory_status))) }
+    ensures accepted { IsTrue S.tells → IsOk (verdict (texts words.now) (S.told shelf.old).holds)
+        → ¬ Rose (S.counts shelf.old).reading (S.counts shelf.new).reading
+        → ¬ Rose (K.faults say.old) (K.faults say.new)
+        → ((result ≡ done_status) ⊎ (result ≡ differ_status))
+        ⊎ ((result ≡ limit_status) ⊎ (result ≡ out_of_memory_status)) }
+{
+    end(alloc, words, shelf, say)
+}

@@ -1,0 +1,5 @@
+pub mod Texts
+pub mod Words
+pub mod Verdict
+pub mod Statuses
+pub mod Outputs
