@@ -1,3 +1,4 @@
 pub mod Ending
+pub mod PortLaws
 pub mod Stages
 pub mod Told

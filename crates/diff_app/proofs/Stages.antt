@@ -92,7 +92,7 @@ module _ (files : Files) (c : Command) where
         let so_far = left_later before before mid (c.old ∷ c.new ∷ []) (c.old ∷ c.new ∷ []) (all_left before (c.old ∷ c.new ∷ [])) (c.old ∷ []) (c.new ∷ []) refl first in
         opened_until before mid now (c.new ∷ []) (c.old ∷ c.new ∷ []) so_far (c.new ∷ []) [] refl r (none_later r) until
       where
-        none_later : (r : InputRefusal) → reading.IfInput r (λ _. [] ≡ [])
+        none_later : (r : InputRefusal) → reading.IfInput r (λ _. ◌≡◌ {A = List (List ℕ)} [] [])
         none_later (input.Input f) = refl
         none_later (input.ReadFault name) = tt
         none_later input.OutOfMemory = tt
@@ -154,3 +154,6 @@ none_opened t = sym (append-nil t.opened)
 
 pub none_yet : (t : Told) (names : List (List ℕ)) → HasOpenedPrefix t t names
 none_yet t names = record { opened = []; left = names; are_names = refl; has_opened = none_opened t }
+
+pub all_is_prefix : (before now : Told) (names : List (List ℕ)) → HasOpened before now names → HasOpenedPrefix before now names
+all_is_prefix before now names opened = record { opened = names; left = []; are_names = sym (append-nil names); has_opened = opened }

@@ -31,8 +31,8 @@ module _ {S K : Type 0} (g : shelf.Ghosts S) (h : sink.Ghosts K) (words : List (
   abbrev pub Says : List ℕ → Type 0
   Says text = IsTrue h.tells → Prints h.needs_memory (h.faults said) (h.faults saying) (h.written said) (h.written saying) text
 
-  -- All is done: exactly the text of a difference is printed, and the status is that of one. Nothing failed, and no file is
-  -- left in use.
+  -- All is done: exactly the text of a difference is printed, and the status is that of one. Nothing failed, and no
+  -- file is left in use.
   pub record IsCompared (status : ℕ) : Type 0 where
     pub run : IsTrue g.tells → IsPrinted words held h.tells (h.written said) (h.written saying) status
     pub opened : OpensAll

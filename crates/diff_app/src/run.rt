@@ -1,7 +1,8 @@
-ghost use Rattle.std.specs.Prelude.{◌≡◌, ◌⊎◌, string_bytes, IsTrue, IsOk, IfOk, IfErr};
+ghost use Rattle.std.specs.Prelude.{◌≡◌, ◌++◌, ◌⊎◌, ℕ, take, string_bytes, IsTrue, IsOk, OnOk, OnErr, IfOk, IfErr};
 ghost use Rattle.spec_base.specs.Counts.{Rose};
 ghost use Rattle.spec_run.specs.Statuses.{done_status, limit_status, read_fault_status, out_of_memory_status};
 ghost use Rattle.edge_io.specs.declared.outside.InUse.TheVariants.{Nothing};
+ghost use Rattle.edge_io.specs.Counts.{HasCause, with_fault};
 ghost use Rattle.command_words.specs.CommandViews.{texts};
 ghost use Rattle.spec_diff.specs.Progress.{IsUnfinished, cube_limit};
 ghost use Rattle.spec_diff_run.specs.Verdict.{old_switch, new_switch, verdict};
@@ -18,7 +19,7 @@ use crate::refusal::Refusal;
 use crate::say::say_refusal;
 use crate::status::{DIFFER, status_of};
 use diff_lines::print_difference;
-use edge_io::{Shelf, Sink, say_all};
+use edge_io::{Failed, Shelf, Sink, say_all};
 use std::alloc::{AllocError, Global};
 use switch_refusals::DONE;
 use table_diff::{Class, CompareError, compare};
@@ -30,14 +31,25 @@ struct Told {
     status: u8,
 }
 
-fn told(alloc: Global, classes: &[Class], brief: bool) -> Result<Told, AllocError>
+fn found_status(classes: &[Class]) -> u8
+    ensures { result ≡ found_status (classes_view classes.now) }
+{
+    match classes {
+        [] => DONE,
+        [_, ..] => DIFFER,
+    }
+}
+
+fn tell(alloc: Global, classes: &[Class], brief: bool) -> Result<Told, AllocError>
     ensures text { IfOk result (λ t. string_bytes t.text ≡ text_of_classes brief (classes_view classes.now)) }
     ensures status { IfOk result (λ t. t.status ≡ found_status (classes_view classes.now)) }
 {
     let mut text = String::new(alloc);
     print_difference(&mut text, classes, brief)?;
-    let status = if classes.is_empty() { DONE } else { DIFFER };
-    Ok(Told { text, status })
+    Ok(Told {
+        text,
+        status: found_status(classes),
+    })
 }
 
 // Compares both versions.
@@ -49,8 +61,18 @@ fn find(alloc: Global, inputs: &Inputs) -> Result<Told, CompareError>
         inputs.now.ports.items cube_limit) }
 {
     let classes = compare(alloc, &inputs.old, &inputs.new, &inputs.ports)?;
-    let told = told(alloc, &classes, inputs.brief)?;
+    let told = tell(alloc, &classes, inputs.brief)?;
     Ok(told)
+}
+
+fn print<K: Sink>(say: &mut K, told: &Told) -> Result<(), Failed>
+    ensures ok { IsTrue K.tells
+        → OnOk result (K.written say.new ≡ K.written say.old ++ string_bytes told.now.text) }
+    ensures err { IsTrue K.tells → OnErr result
+        ((n : ℕ) × (K.written say.new ≡ K.written say.old ++ take n (string_bytes told.now.text))) }
+    ensures cause { HasCause with_fault (K.faults say.old) (K.faults say.new) result }
+{
+    say_all(say, told.text.as_bytes())
 }
 
 fn run<'a, S: Shelf, K: Sink>(
@@ -68,7 +90,7 @@ fn run<'a, S: Shelf, K: Sink>(
 {
     let inputs = read_inputs(alloc, words, shelf)?;
     let told = find(alloc, &inputs)?;
-    say_all(say, told.text.as_bytes())?;
+    print(say, &told)?;
     Ok(told.status)
 }
 
@@ -85,18 +107,18 @@ fn end<S: Shelf, K: Sink>(alloc: Global, words: &[String], shelf: &mut S, say: &
     }
 }
 
-/// Compares two versions of the flow tables: reads two files of edits, and prints which packets the last versions of the one
-/// and of the other treat differently.
+/// Compares two versions of the flow tables: reads two files of edits, and prints which packets the last versions of
+/// the one and of the other treat differently.
 ///
-/// The words are those after the program's name: `[--brief] OLD NEW PORT..`. OLD and NEW name the files, whose lines are as
-/// `megaswitch` reads them; sync lines say nothing here. The ports of the switch are 1 to 32 numbers.
+/// The words are those after the program's name: `[--brief] OLD NEW PORT..`. OLD and NEW name the files, whose lines
+/// are as `megaswitch` reads them; sync lines say nothing here. The ports of the switch are 1 to 32 numbers.
 ///
-/// For each class of packets three lines are printed: the match, and what the old tables and the new ones do; with `--brief`
-/// one line for each pair of actions. A last line counts both. Nothing is printed where no packet is treated differently, and
-/// nothing is written to the shelf.
+/// For each class of packets three lines are printed: the match, and what the old tables and the new ones do; with
+/// `--brief` one line for each pair of actions. A last line counts both. Nothing is printed where no packet is
+/// treated differently, and nothing is written to the shelf.
 ///
-/// The answer is the exit status: 0 where no packet is treated differently, 1 where some is. `spec_diff_run` has the others,
-/// and the text that is printed with each. Of a text a prefix may be missing its end where the sink fails.
+/// The answer is the exit status: 0 where no packet is treated differently, 1 where some is. `spec_diff_run` has the
+/// others, and the text that is printed with each. Of a text a prefix may be missing its end where the sink fails.
 pub fn run_diff<S: Shelf, K: Sink>(
     alloc: Global,
     words: &[String],
@@ -108,8 +130,8 @@ pub fn run_diff<S: Shelf, K: Sink>(
     // What the status is, and what is printed and opened with it, and which counts rose.
     ensures ends { Ends S.Shelf K.Sink (texts words.now) shelf.old shelf.new say.old say.new result }
 
-    // What is refused ends with the status of its refusal, and what is accepted is compared, unless a count rises, memory
-    // runs out or there are more cubes than are looked into.
+    // What is refused ends with the status of its refusal, and what is accepted is compared, unless a count rises,
+    // memory runs out or there are more cubes than are looked into.
     ensures refusal { IsTrue S.tells → IfErr (verdict (texts words.now) (S.told shelf.old).holds)
         (λ r. (result ≡ refusal_status r)
         ⊎ ((result ≡ read_fault_status) ⊎ (result ≡ out_of_memory_status))) }

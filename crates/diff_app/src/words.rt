@@ -103,7 +103,11 @@ fn command_from<'a>(
 
 // Both names and one port or more.
 #[tactic(auto, unfolding(spec_diff_run::specs::Words::command_in))]
-fn command_in(alloc: Global, brief: bool, words: &[String]) -> Result<Option<Command<'_>>, AllocError>
+fn command_in(
+    alloc: Global,
+    brief: bool,
+    words: &[String],
+) -> Result<Option<Command<'_>>, AllocError>
     ensures { IfOk result (λ found. option_map command_view found ≡ command_in brief (texts words.now)) }
 {
     let [old, new, ports @ ..] = words else {

@@ -1,0 +1,178 @@
+#!/usr/bin/env python3
+"""Compares the comparison of tables with the simulation on made-up pairs of files of edits.
+
+    python3 diff_rows.py PROGRAM ROUNDS
+
+NEW is OLD with some lines left out, moved, or with actions and matches of others. Packets are tried of each class, beside
+each class by one bit, of frames, and of no frame at all. Each has to be in exactly one class, which says what the simulation
+does to it under both files, or in none and treated alike. Round n is the same at each call. It prints the first packet that
+is told otherwise, and ends with 1; else it tells how many rounds ended with which status, and how many packets were tried.
+"""
+import ipaddress
+import os
+import random
+import subprocess
+import sys
+import tempfile
+from collections import Counter, namedtuple
+
+sys.dont_write_bytecode = True
+TOP = os.path.join(os.path.dirname(os.path.abspath(__file__)), "..")
+sys.path.insert(0, os.path.join(TOP, "vectors"))
+from made_runs import CacheMaker
+from simulation.classifier import Tables
+from simulation.dump_text import print_datapath_actions
+from simulation.flow_fields import BEGIN, FRAGMENT_WORDS, IPV4, IPV6, KEY_FIELD, KEY_FIELDS, MAC, full, prefix
+from simulation.frame_key import key_of
+from simulation.switch import read_edits, read_text
+from simulation.translation import REGISTERS, translate
+
+Class = namedtuple("Class", "key mask old new")
+
+# The packets that are tried of a class, and beside it, and the random ones.
+INSIDE, BESIDE, ANYWHERE = 4, 4, 200
+# A round whose comparison takes longer is left out.
+SECONDS = 20
+GIVEN_UP = 7
+ALL = sum(full(field.width) << BEGIN[field.name] for field in KEY_FIELDS) & ~REGISTERS
+
+
+def read_number(field, text):
+    if field.form == MAC:
+        return int(text.replace(":", ""), 16)
+    if field.form in (IPV4, IPV6):
+        return int(ipaddress.ip_address(text))
+    return int(text, 0)
+
+
+def read_item(item):
+    """The bits that an item of a match states, as a key and a mask."""
+    name, _, text = item.partition("=")
+    field = KEY_FIELD[name]
+    if text in FRAGMENT_WORDS:
+        value, mask = FRAGMENT_WORDS[text]
+    else:
+        value, _, mask = text.partition("/")
+        value = read_number(field, value)
+        if not mask:
+            mask = full(field.width)
+        elif field.form in (IPV4, IPV6) and mask.isdigit():
+            mask = prefix(field.width, int(mask))
+        else:
+            mask = read_number(field, mask)
+    return value << BEGIN[name], mask << BEGIN[name]
+
+
+def read_class(match, old, new):
+    items = [read_item(item) for item in match.split(",")]
+    return Class(sum(key for key, _ in items), sum(mask for _, mask in items), old.removeprefix("- "), new.removeprefix("+ "))
+
+
+def read_classes(text):
+    """The classes of a text, whose last line counts them."""
+    lines = text.splitlines()
+    if not lines:
+        return []
+    classes = [read_class(*lines[at : at + 3]) for at in range(0, len(lines) - 1, 3)]
+    kinds = {(it.old, it.new) for it in classes}
+    assert lines[-1] == f"{len(classes)} classes, {len(kinds)} kinds", lines[-1]
+    return classes
+
+
+def changed(pick, lines):
+    """A file whose lines are these but for a few."""
+    lines = list(lines)
+    for _ in range(pick.randrange(1, 4)):
+        if len(lines) < 2:
+            break
+        one, other = pick.sample(range(len(lines)), 2)
+        kind = pick.randrange(4)
+        if kind == 0:
+            del lines[one]
+        elif kind == 1:
+            lines[one], lines[other] = lines[other], lines[one]
+        elif b"actions=" in lines[one] and b"actions=" in lines[other]:
+            head, _, tail = lines[one].partition(b"actions=")
+            _, _, actions = lines[other].partition(b"actions=")
+            lines[one] = head + b"actions=" + actions
+            if kind == 3:
+                lines.append(head + b"actions=" + tail)
+    return lines
+
+
+def made_pair(number):
+    """The ports, some frames and both files of a round."""
+    maker = CacheMaker(number)
+    pick = random.Random(number)
+    old = [line for line in maker.edits().splitlines() if not line.startswith((b"sync", b"begin", b"commit"))][:12]
+    return maker.ports, maker.frames, b"\n".join([*old, b""]), b"\n".join([*changed(pick, old), b""])
+
+
+def compared(program, ports, old, new):
+    with tempfile.TemporaryDirectory(prefix="megadiff-") as folder:
+        for name, data in (("old", old), ("new", new)):
+            with open(os.path.join(folder, name), "wb") as file:
+                file.write(data)
+        words = [program, "old", "new", *map(str, ports)]
+        got = subprocess.run(words, cwd=folder, stdin=subprocess.DEVNULL, stdout=subprocess.PIPE, timeout=SECONDS)
+        return got.returncode, got.stdout.decode()
+
+
+def tables_of(data):
+    _, rules = read_text(read_edits, data, "edits")
+    return Tables(rules.live.values())
+
+
+def packets(pick, ports, frames, classes):
+    """Keys of packets that are tried."""
+    for it in pick.sample(classes, min(len(classes), 40)):
+        for _ in range(INSIDE):
+            yield it.key | pick.getrandbits(ALL.bit_length()) & ALL & ~it.mask
+        bits = [bit for bit in range(it.mask.bit_length()) if it.mask >> bit & 1]
+        for _ in range(BESIDE):
+            yield it.key ^ 1 << pick.choice(bits)
+    for _ in range(ANYWHERE):
+        numbers = key_of(pick.choice(ports), pick.choice(frames))
+        key = sum(number << BEGIN[name] for name, number in numbers.items())
+        yield key
+        yield key ^ 1 << pick.randrange(ALL.bit_length()) & ALL
+
+
+def is_told(classes, ports, tables, key):
+    """Whether a packet is told as the simulation treats it. Of other ports nothing is told."""
+    if key >> BEGIN["in_port"] & full(16) not in ports:
+        return True
+    old, new = (print_datapath_actions(translate(each, ports, key).actions) for each in tables)
+    its = [it for it in classes if key & it.mask == it.key]
+    return old == new if not its else [(it.old, it.new) for it in its] == [(old, new)]
+
+
+def main(words):
+    program, rounds = os.path.abspath(words[0]), int(words[1])
+    ended, tried = Counter(), 0
+    for number in range(rounds):
+        ports, frames, old, new = made_pair(number)
+        try:
+            status, text = compared(program, ports, old, new)
+        except subprocess.TimeoutExpired:
+            ended["too long"] += 1
+            continue
+        ended[status] += 1
+        if status > 1:
+            continue
+        classes = read_classes(text)
+        if status != bool(classes):
+            print(f"round {number}: status {status} of {len(classes)} classes")
+            return 1
+        tables = tables_of(old), tables_of(new)
+        for key in packets(random.Random(number), ports, frames, classes):
+            tried += 1
+            if not is_told(classes, ports, tables, key):
+                print(f"round {number} tells otherwise of the key {key:#x}: {old!r} and {new!r}")
+                return 1
+    print(f"{rounds} pairs, {tried} packets: " + ", ".join(f"{count} with status {status}" for status, count in sorted(ended.items(), key=str)))
+    return 0
+
+
+if __name__ == "__main__":
+    sys.exit(main(sys.argv[1:]))
