@@ -9,12 +9,12 @@
 //! there on `run_diff` answers for what it is told.
 #![tactic(auto)]
 
+use diff_app::{OUT_OF_MEMORY, run_diff};
 use edge_io::say_all;
 use edge_real::{RealShelf, StdoutSink};
 use std::env;
 use std::io::{self, ErrorKind};
 use std::process::ExitCode;
-use diff_app::{OUT_OF_MEMORY, run_diff};
 
 /// The words after the program's name. One that isn't text is an error.
 fn words_of(rt: &HostRuntime) -> io::Result<Vec<String>> {
