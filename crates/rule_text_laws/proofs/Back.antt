@@ -1,5 +1,5 @@
 -- A line of the dump of rules is read as the edit that adds its rule.
-use Rattle.std.proofs.Common.{◌≡◌, ℕ, suc, ◌+◌, ◌<◌, ◌≤◌, ◌^◌, true, List, [], ◌∷◌, ◌++◌, length, refl, sym, ap, ◌∙◌, arith, append_assoc, length-append, Option, Some, None, Ok}
+use Rattle.std.proofs.Common.{◌≡◌, ℕ, suc, ◌+◌, ◌<◌, ◌≤◌, ◌^◌, true, List, [], ◌∷◌, ◌++◌, length, refl, sym, ap, ◌∙◌, subst, arith, append_assoc, length-append, Option, Some, None, Ok}
 use Rattle.std.specs.Prelude.{Result, codes}
 use Rattle.std.specs.List.{position_or_len}
 use Rattle.std.specs.Fmt.{decimal}
@@ -31,7 +31,7 @@ use Rattle.rule_text_laws.specs.Lines.{rule_text, added, IsWritable, AreCounts}
 use Rattle.rule_text_laws.proofs.Words.{item_read, separator_read, all_shown_read, list_name, list_read}
 use Rattle.rule_text_laws.proofs.Numbers as numbers
 use Rattle.rule_text_laws.proofs.Numbers.{full, cookie_item, table_item, packets_item, bytes_item, priority_item}
-use Rattle.rule_text_laws.proofs.Texts.{IsText, text_append, plain_text, text_uncommented, text_ascii}
+use Rattle.rule_text_laws.proofs.Texts.{IsText, IsFeedless, text_append, plain_text, text_uncommented, text_ascii, text_feedless, feedless_append}
 
 -- what stands after the priority, before a list of actions and after it
 abbrev tail_of : List ℕ → List ℕ → List ℕ
@@ -257,6 +257,16 @@ by_add line o none at = rw none refl
 adds : (cs : List ℕ) → uncommented (99 ∷ cs) ≡ 99 ∷ cs → edit_in (99 ∷ cs) ≡ edit_from Add 0 (99 ∷ cs)
 unfolding edit_in
 adds cs clean = by_add (99 ∷ cs) (meaning_of edit_words (first_word (uncommented (99 ∷ cs))).text) (ap (λ t. meaning_of edit_words (first_word t).text) clean ∙ no_word cs) (end_of (first_word (uncommented (99 ∷ cs))))
+
+-- the line has no line feed
+pub rule_feedless : (v : ReadValues) (counts : RuleCounts) (few : AreCounts counts) (r : Rule) (w : IsWritable r) → IsPlain (actions_printed r.actions) → IsFeedless (rule_text counts r)
+rule_feedless v counts few r w plain =
+    let list = actions_printed r.actions in
+    let number = text_feedless (decimal r.number) (plain_text (decimal r.number) (decimal_plain r.number)) in
+    let comment = feedless_append (codes " # rule=") (decimal r.number) refl number in
+    let line = text_feedless (line_with counts r list) (line_text v counts few r w list (plain_text list plain)) in
+    subst IsFeedless (sym (text_is counts r ∙ line_longer counts r list (space ∷ number_sign ∷ comment_of r)))
+    (feedless_append (line_with counts r list) (space ∷ number_sign ∷ comment_of r) line comment)
 
 module _ (v : ReadValues) (counts : RuleCounts) (few : AreCounts counts) (r : Rule) (w : IsWritable r)
     (plain : IsPlain (actions_printed r.actions))

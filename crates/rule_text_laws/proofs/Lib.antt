@@ -4,3 +4,8 @@ pub mod Numbers
 pub mod Texts
 pub mod Back
 pub mod Stated
+pub mod Distinct
+pub mod Again
+pub mod Files
+pub mod Dumped
+pub mod FromFiles
