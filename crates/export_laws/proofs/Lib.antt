@@ -1,0 +1,3 @@
+pub mod Outputs
+pub mod Decided
+pub mod Arrivals
