@@ -34,7 +34,9 @@ def connected(address, tell):
         import distributed
     except ImportError:
         raise Refused(FAILED, note=f"--scheduler needs Dask: apt-get install {PACKAGE}")
-    logging.getLogger("distributed").setLevel(logging.CRITICAL)
+    for name in ["distributed", "distributed.client"]:
+        # What goes wrong is told here, part by part.
+        logging.getLogger(name).setLevel(logging.CRITICAL)
     # Workers needn't have this file.
     cloudpickle.register_pickle_by_value(remote)
     try:
@@ -49,6 +51,10 @@ def connected(address, tell):
         client.close()
         raise Refused(FAILED, note=f"the scheduler at {address} has no workers")
     return client, distributed.wait
+
+
+class Lost(Exception):
+    """Why no worker has answered."""
 
 
 class Cluster:
@@ -90,11 +96,21 @@ class Cluster:
         try:
             outcome = work.done(self.headers, functools.partial(self.run_at, avoided))
         except Exception as why:
-            outcome = Outcome(work.part, Ended(None, f"it was lost: {type(why).__name__} {why}"), None, None)
+            outcome = Outcome(work.part, Ended(None, f"it was lost: {why}"), None, None)
         self.outcomes.put(outcome)
 
     def run_at(self, avoided, attempt, words, inputs, meanwhile):
         """Has a worker run the program: another one than what is to be avoided, where there is one."""
+        try:
+            ended, files, where = self.answer(avoided, words, inputs, meanwhile)
+        except Exception as why:
+            raise Lost(f"{type(why).__name__} {why}")
+        for name, data in files.items():
+            write_file(os.path.join(attempt, name), [data])
+        return ended, where
+
+    def answer(self, avoided, words, inputs, meanwhile):
+        """What a worker answers."""
         others = [it for it in self.client.scheduler_info()["workers"] if it != avoided] or None
         with self.transfers:
             data = [{name: b"".join(pieces) for name, pieces in inputs.items()}]
@@ -106,7 +122,4 @@ class Cluster:
         meanwhile()
         self.wait(task)
         with self.transfers:
-            ended, files, where = task.result()
-            for name, data in files.items():
-                write_file(os.path.join(attempt, name), [data])
-        return ended, where
+            return task.result()

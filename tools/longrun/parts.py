@@ -225,7 +225,8 @@ class Work:
         except OSError as why:
             fault = write_fault(why.filename or attempt)
             ended = Ended(fault.status, fault.text)
-        shutil.rmtree(attempt, ignore_errors=True)
+        finally:
+            shutil.rmtree(attempt, ignore_errors=True)
         return Outcome(self.part, ended, where, record)
 
 

@@ -10,6 +10,8 @@ import subprocess
 import tempfile
 from collections import namedtuple
 
+WRITE_FAULT = 6
+
 # How the program ended, with what it printed. A status below 0 is that of a signal; None stands where it wasn't run.
 Ended = namedtuple("Ended", "status text")
 
@@ -64,11 +66,14 @@ def run_remotely(programs, checksum, words, inputs):
     if not program:
         names = " or ".join(programs)
         return Ended(None, f"{where} has no program like that of this run by the name {names}"), {}, where
-    with tempfile.TemporaryDirectory(prefix="long-run-") as folder:
-        for name, data in inputs.items():
-            write_file(os.path.join(folder, name), [data])
-        ended = run(program, words, folder)
-        for name in set(os.listdir(folder)) - set(inputs) if ended.status == 0 else ():
-            with open(os.path.join(folder, name), "rb") as file:
-                files[name] = file.read()
+    try:
+        with tempfile.TemporaryDirectory(prefix="long-run-") as folder:
+            for name, data in inputs.items():
+                write_file(os.path.join(folder, name), [data])
+            ended = run(program, words, folder)
+            for name in set(os.listdir(folder)) - set(inputs) if ended.status == 0 else ():
+                with open(os.path.join(folder, name), "rb") as file:
+                    files[name] = file.read()
+    except OSError as why:
+        return Ended(WRITE_FAULT, f"write fault: {why.filename} of {where}, {why.strerror}\n"), {}, where
     return ended, files, where
