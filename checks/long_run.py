@@ -298,6 +298,14 @@ def with_octets(runs, octets):
         os.remove(script.name)
 
 
+def no_frames(runs):
+    """A run without a frame, and one without a trace, have their files too."""
+    given = {"edits": FLOOD, "mirrors": b"select_all\n", "a.pcap": trace()}
+    for traces in (["1=a.pcap", "2="], ["1=", "2="]):
+        words = ["--netflow", "--mirrors=mirrors", "edits", "out", *traces]
+        runs.compare("no frames", words, given, simulated(words, given))
+
+
 def one_time(runs):
     """Frames of one time stay together, also where they are more than a part is to have."""
     given = {"edits": FLOOD, "a.pcap": trace(*[(SECOND, frame(at)) for at in range(9)], (2 * SECOND, WEB))}
@@ -369,7 +377,7 @@ def expect(what, got, wanted):
         raise Otherwise(f"{what}: {got}, not {wanted}")
 
 
-ROWS = [many_changes, full_flows, one_time, times_that_go_back, times_that_go_back_far, packed_captures]
+ROWS = [no_frames, many_changes, full_flows, one_time, times_that_go_back, times_that_go_back_far, packed_captures]
 
 
 def main(program, rounds):

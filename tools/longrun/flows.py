@@ -100,6 +100,8 @@ class Flows:
 
     def export(self, begin, end):
         """The datagrams of all flows, of a run whose first and last frames came in at these times."""
+        if not self.records:
+            return
         up, size = (end - begin) // MILLISECOND & MOST_NUMBER, MOST_RECORDS * RECORD_SIZE
         for at in range(0, len(self.records), size):
             some = self.records[at : at + size]
