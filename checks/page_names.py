@@ -9,7 +9,7 @@ from glob import glob
 PAGES_OF_CODE = ["README.md", "bench/README.md", "vectors/README.md"]
 PAGES_OF_CODE += [f"docs/{name}.md" for name in ["ARCHITECTURE", "CLAIMS", "DECISIONS", "DEFINITIONS", "HOUSE"]]
 SOURCES = ["crates/*/src/**/*", "crates/*/specs/**/*", "crates/*/proofs/**/*", "checks/**/*", "tools/**/*", "bench/*"]
-SOURCES += ["vectors/*", "examples/*.py", "crates.txt", "megaswitch", "megatrace", ".ci/run"]
+SOURCES += ["vectors/*", "examples/*.py", "crates.txt", "megaswitch", "megatrace", "megadiff", ".ci/run"]
 PAGES = "**/*.md"
 
 QUOTED = re.compile(r"`([^`\n]+)`")

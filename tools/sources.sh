@@ -2,7 +2,7 @@
 # the repository in $home.
 
 # The programs that are released.
-programs='megaswitch megatrace'
+programs='megaswitch megatrace megadiff'
 
 # Prints the lines of crates.txt for a program and for all crates below it.
 lines_below() {
