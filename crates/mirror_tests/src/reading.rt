@@ -14,7 +14,9 @@ const EMPTY_MIRROR: &[u8] = b",\n";
 #[test]
 fn mirrors_have_their_ports(rt: HostRuntime) -> Result<(), Fail> {
     let bytes = b"# sources\nselect_src_port=70,select_src_port=1\n\nselect_dst_port=2 select_all";
-    let mirrors = read_mirrors(rt.alloc(), bytes, &PORTS)?;
+    let mirrors = read_mirrors(rt.alloc(), bytes, &PORTS).map_err(|_| Fail::new(
+        "the mirrors are read",
+    ))?;
     assert_eq!(rt; mirrors.len(), 2);
     assert!(rt; mirrors[0].src.as_slice() == [70, 1].as_slice());
     assert!(rt; mirrors[0].dst.is_empty());

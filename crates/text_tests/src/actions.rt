@@ -5,7 +5,7 @@ use std::test::Fail;
 #[test]
 fn actions_of_a_line_and_their_text(rt: HostRuntime) -> Result<(), Fail> {
     let line = b"actions=load:5->reg0[4..7] output:in_port[],resubmit(,1),goto_table:254 # 9";
-    let actions = read_actions(rt.alloc(), line, 8)?;
+    let actions = read_actions(rt.alloc(), line, 8).map_err(|_| Fail::new("the actions are read"))?;
     let port = Slice {
         name: NamedField::InPort,
         low: 0,
@@ -32,7 +32,7 @@ fn actions_of_a_line_and_their_text(rt: HostRuntime) -> Result<(), Fail> {
 #[test]
 fn tags_of_both_types_are_pushed(rt: HostRuntime) -> Result<(), Fail> {
     let line = b"actions=push_vlan:33024,push_vlan:0x88a8,strip_vlan";
-    let actions = read_actions(rt.alloc(), line, 8)?;
+    let actions = read_actions(rt.alloc(), line, 8).map_err(|_| Fail::new("the actions are read"))?;
     let expected = [
         OfAction::PushVlan(0x8100),
         OfAction::PushVlan(0x88a8),

@@ -8,7 +8,9 @@ use std::test::Fail;
 fn a_flow_says_its_match_and_where_its_actions_begin(rt: HostRuntime) -> Result<(), Fail> {
     let line =
         b"table=3, tcp,nw_dst=10.0.0.0/8,tp_dst=80,dl_vlan=5 vlan_pcp=2,ipv6_src=::1,actions=drop # web";
-    let text = read_match(rt.alloc(), line, 0, EditWord::Add)?;
+    let text = read_match(rt.alloc(), line, 0, EditWord::Add).map_err(|_| Fail::new(
+        "the match is read",
+    ))?;
     assert_eq!(rt; text.table, Some(3));
     assert_eq!(rt; text.priority, 32_768);
     assert_eq!(rt; text.rest, Some(83));
@@ -42,7 +44,9 @@ fn a_fault_has_a_column(rt: HostRuntime) -> Result<(), Fail> {
 fn a_match_is_printed_in_the_order_of_the_fields(rt: HostRuntime) -> Result<(), Fail> {
     let line =
         b"nw_dst=10.0.0.0/8,tp_dst=80,dl_vlan=5,vlan_pcp=2,in_port=3,tcp,ipv6_src=::1,actions=";
-    let text = read_match(rt.alloc(), line, 0, EditWord::Add)?;
+    let text = read_match(rt.alloc(), line, 0, EditWord::Add).map_err(|_| Fail::new(
+        "the match is read",
+    ))?;
     let mut out = String::new(rt.alloc());
     print_match(&text.matching, &mut out)?;
     assert_eq!(rt;

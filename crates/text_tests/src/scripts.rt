@@ -8,7 +8,7 @@ use std::test::Fail;
 fn a_script_has_edits_and_sync_points(rt: HostRuntime) -> Result<(), Fail> {
     let bytes =
         b"sync 0\n# all of it\nadd priority=5,tcp,actions=2,output:3 # 4\n \t\r\n\tsync\t2.5 \ndelete_strict table=3\nactions=drop";
-    let script = read_script(rt.alloc(), bytes)?;
+    let script = read_script(rt.alloc(), bytes).map_err(|_| Fail::new("the edits are read"))?;
     assert_eq!(rt; script.edits.len(), 3);
     let first = &script.edits[0];
     assert!(rt; first.word == EditWord::Add);
@@ -35,7 +35,7 @@ fn a_script_has_edits_and_sync_points(rt: HostRuntime) -> Result<(), Fail> {
 fn edits_between_begin_and_commit_are_one_bundle(rt: HostRuntime) -> Result<(), Fail> {
     let bytes =
         b"actions=1\n begin # two edits\ndelete\nactions=2\ncommit\nsync 1\nbegin\ncommit\nactions=3\n";
-    let script = read_script(rt.alloc(), bytes)?;
+    let script = read_script(rt.alloc(), bytes).map_err(|_| Fail::new("the edits are read"))?;
     assert_eq!(rt; script.edits.len(), 4);
     assert_eq!(rt; script.bundles.as_slice(), [1, 3, 4].as_slice());
     let sync = SyncPoint {

@@ -10,7 +10,7 @@
 //! It looks at no clock: two runs with different numbers of rounds differ only in rounds, and whoever runs it takes the
 //! time of both.
 //!
-//! Words or files that the switch refuses are refused, with the first fault. Nothing is promised of the numbers.
+//! Words or files that the switch refuses are refused; `megaswitch` tells why. Nothing is promised of the numbers.
 #![tactic(auto)]
 
 mod counts;

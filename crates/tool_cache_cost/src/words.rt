@@ -23,7 +23,7 @@ fn inputs_of<'a>(rt: &HostRuntime, words: &'a [String]) -> Result<Inputs<'a>>
 {
     match read_inputs(rt.alloc(), words, &mut RealShelf::new(rt)) {
         Ok(inputs) => Ok(inputs),
-        Err(refusal) => Err(anyhow!("{refusal:?}")),
+        Err(_) => Err(anyhow!("the switch refuses these words, or a file that they name")),
     }
 }
 

@@ -32,9 +32,7 @@ pub fn read_edits(rt: &HostRuntime, name: &str) -> Result<Script>
         (λ script. AreBundles script.bundles.items (length script.edits.items)) }
 {
     let bytes = bytes_of(rt, name, MOST_BYTES)?;
-    read_script(rt.alloc(), &bytes).map_err(|fault| anyhow!(
-        "{name}: this is no file of edits: {fault:?}"
-    ))
+    read_script(rt.alloc(), &bytes).map_err(|_| anyhow!("{name}: this is no file of edits"))
 }
 
 /// Reads a capture file.

@@ -78,6 +78,18 @@ fn trace_of(alloc: Global, frames: &[u8]) -> Result<Trace, Fail>
     Ok(read_trace(alloc, file, MANY)?)
 }
 
+/// The edits of a row, read.
+fn edits_of(alloc: Global, edits: &[u8]) -> Result<Script, Fail>
+    requires { length edits.now ≤ MOST_BYTES }
+    ensures sound { IfOk result (λ s. IsTrue (list_all has_sound_actions s.edits.items)) }
+    ensures edit_count { IfOk result (λ s. length s.edits.items ≤ most_edits) }
+    ensures sync_count { IfOk result (λ s. length s.syncs.items ≤ most_syncs) }
+    ensures in_order { IfOk result (λ s. AreInOrder s.syncs.items (length s.bundles.items)) }
+    ensures bundles { IfOk result (λ s. AreBundles s.bundles.items (length s.edits.items)) }
+{
+    read_script(alloc, edits).map_err(|_| Fail::new("the edits are read"))
+}
+
 /// That acts on each row's board answer as the row has it.
 pub fn are_as_shown<R: Abort + Wait>(rt: &R, alloc: Global, rows: &[Row]) -> Result<(), Fail> {
     for row in rows {
@@ -94,7 +106,7 @@ fn first_wrong_of<R: Wait>(rt: &R, alloc: Global, row: &Row) -> Result<Option<us
     let mut list = Vec::new(alloc);
     list.push(PORT)?;
     let ports = Ports::new(list);
-    let script = read_script(alloc, row.edits)?;
+    let script = edits_of(alloc, row.edits)?;
     let mut traces = Vec::new(alloc);
     traces.push(trace_of(alloc, row.frames)?)?;
     Ok(in_run::<Brand, R>(rt, alloc, ports, script, traces, row)?)
