@@ -32,7 +32,7 @@ Class = namedtuple("Class", "key mask old new")
 # The packets that are tried of a class, and beside it, and the random ones.
 INSIDE, BESIDE, ANYWHERE = 4, 4, 200
 # A round whose comparison takes longer is left out.
-SECONDS = 20
+SECONDS = 3
 GIVEN_UP = 7
 ALL = sum(full(field.width) << BEGIN[field.name] for field in KEY_FIELDS) & ~REGISTERS
 
