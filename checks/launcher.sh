@@ -366,8 +366,10 @@ clone_runs_at_once() {
     for name in $programs; do
         launcher=./$name
         launch
-        [ $? = 2 ] && diff <(echo "${unpacked/megaswitch/$name} to $PWD/release/out${how/megaswitch/$name}") \
-            "$room/complained" || return 1
+        [ $? = 2 ] && diff <(
+            echo "${unpacked/megaswitch/$name} to $PWD/release/out${how/megaswitch/$name}"
+            tools/advise "$name" 2 2>&1
+        ) "$room/complained" || return 1
     done
     launcher=./megaswitch
     launch --generate 7 && [ ! -s "$room/complained" ] \
