@@ -88,7 +88,8 @@ class Room:
     def end(self, process):
         """How a run ends, with its outputs, and what it tells beside."""
         text, told = process.communicate(timeout=PATIENCE)
-        files = {name: data for name, data in outputs(self.folder, GIVEN).items() if name not in ("program", "log")}
+        own = ("program", "log", "killed")
+        files = {name: data for name, data in outputs(self.folder, GIVEN).items() if name not in own}
         return Ended(process.returncode, text or "", files), told
 
     def clear(self):
@@ -180,7 +181,9 @@ def lost_rows(program):
         yield "a process that is killed", is_whole(end), True
         yield "what is told of it", re.findall("ended by itself.*; it is tried once more", told) != [], True
     with tempfile.TemporaryDirectory() as folder:
-        room = Room(program, folder, f"[ $(wc -l <{folder}/log) != 3 ] || kill -9 $$")
+        # Two may count three at once, of which one makes the file.
+        once = f"(set -C; : >{folder}/killed) 2>/dev/null"
+        room = Room(program, folder, f"[ $(wc -l <{folder}/log) -lt 3 ] || ! {once} || kill -9 $$")
         end, told = room.run()
         yield "a program that is killed", is_whole(end), True
         yield "what is told of it", len(re.findall("status -9: ; it is tried once more", told)), 1
@@ -265,7 +268,7 @@ def launcher_rows(program):
 def beside_rows(program):
     """Two runs of one name come one after the other; what is printed goes to a terminal, or nowhere."""
     with tempfile.TemporaryDirectory() as folder:
-        room = Room(program, folder, f"sleep {SLOW}")
+        room = Room(program, folder, f"sleep {4 * SLOW}")
         first = room.start()
         room.wait_for(lambda: room.parts_done() >= 1)
         second = room.start()

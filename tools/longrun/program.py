@@ -1,10 +1,8 @@
 """The program that runs parts: which it is, and what it says of edits and mirrors before there are any parts."""
-import errno
 import os
 import re
 import shutil
 import subprocess
-import time
 from collections import namedtuple
 
 from .edits import MOST_SYNCS, is_sync
@@ -14,11 +12,8 @@ from .remote import checksum_of, run
 
 TOP = os.path.dirname(os.path.dirname(os.path.dirname(os.path.realpath(__file__))))
 LAUNCHER = os.path.join(TOP, "megaswitch")
+LAUNCH = os.path.join(TOP, "tools", "launch")
 NAME = "megaswitch"
-# How often it is looked whether the launcher has started the program, in seconds.
-TURN = 0.01
-# What the system adds to the name of a program whose file is gone.
-GONE = " (deleted)"
 
 EDIT_COUNT = re.compile(r" edits=(\d+) ")
 # A text that tells of a line in a file.
@@ -39,47 +34,16 @@ def found_program(given, folder):
     if not found:
         raise Refused(FAILED, note=f"there is no program {path}")
     if os.path.realpath(found) == LAUNCHER:
-        found = launched(found, folder)
+        found = launched()
     return Program(os.path.abspath(found), checksum_of(found))
 
 
-def launched(launcher, folder):
-    """The program that the launcher runs. What is to be run it finds out by all sources, so it is asked once and not
-    for each part: the program waits for its edits, which come by a pipe, and then the system tells which it is."""
-    room = folder.fresh(".launched")
-    pipe, program = os.path.join(room, EDITS), None
-    os.mkfifo(pipe)
-    child = subprocess.Popen([launcher, EDITS, OUT, "1="], cwd=room, stdin=subprocess.DEVNULL, stdout=subprocess.PIPE)
-    try:
-        writing = opened_by(child, pipe)
-        if writing is not None:
-            program = named_or_copied(f"/proc/{child.pid}/exe", folder)
-            os.close(writing)
-        text, _ = child.communicate()
-    finally:
-        child.kill()
-    if child.returncode != DONE:
-        raise Refused(child.returncode, text.decode(errors="replace"))
-    return program
-
-
-def opened_by(child, pipe):
-    """The end of a pipe at which one writes, when the child has opened the other one; None where the child ended."""
-    while True:
-        try:
-            return os.open(pipe, os.O_WRONLY | os.O_NONBLOCK)
-        except OSError as why:
-            if why.errno != errno.ENXIO:
-                raise
-        if child.poll() is not None:
-            return None
-        time.sleep(TURN)
-
-
-def named_or_copied(link, folder):
-    """The name of a program that runs, or that of a copy where its file is gone."""
-    name = os.readlink(link)
-    return shutil.copy(link, folder.path(".program")) if name.endswith(GONE) else name
+def launched():
+    """The program that the launcher runs. It finds that out by all sources, so it is asked once, not for each part."""
+    asked = subprocess.run([LAUNCH, "--which", NAME], stdin=subprocess.DEVNULL, stdout=subprocess.PIPE, text=True)
+    if asked.returncode != DONE:
+        raise Refused(asked.returncode, asked.stdout)
+    return asked.stdout.rstrip("\n")
 
 
 # ---- what it says
