@@ -1,34 +1,47 @@
 #!/usr/bin/env python3
 """Runs the program with workers, again and again, and holds what it writes against the simulation.
 
-    python3 workers.py PROGRAM ROUNDS TIMES
+    python3 workers.py PROGRAM ROUNDS TIMES BUSY
 
 The runs are those of made_runs.py, without given steps, and each of them again with all edits before the first frame; each
 with 1, 2, 4 and 16 workers, so many times. The journal tells which steps threads chose: the simulation takes just these,
 finds each legal and the whole complete, and makes of them the files and the summary, which have to be the same byte by
 byte. Where no block has both edits and frames, the files of the ports and of the rules also have to be those of the run
-without workers. A run that doesn't end in time is told as one that
-hangs. It prints the first run that is wrong and keeps its folder, and ends with 1; else it prints how many runs there were,
-and in how many of them threads did what one thread alone doesn't do.
+without workers. A run that doesn't end in time is told as one that hangs.
+
+Then come busy runs (busy_runs.py), which are held to the same, until each port was swept by threads, its upcalls settled,
+and its frames found by their keys and by masks, before the end of a block does what threads have left (thread_marks.py): no
+proof says that they do anything. So many rounds have to be enough for that, also on a machine that has other work.
+
+It prints the first run that is wrong and keeps its folder, or what threads never did, and ends with 1; else it prints how
+many runs there were, in how many of them threads did what one thread alone doesn't do, and how often threads did what in
+busy runs.
 """
 import os
 import shutil
 import subprocess
 import sys
 import tempfile
+from collections import Counter, defaultdict
 
 sys.dont_write_bytecode = True
+from busy_runs import PORTS, busy_run
 from made_runs import made_run
+from simulation.caches import EXACT, MEGA
 from simulation.command_words import read_words
 from simulation.refusals import Refused
 from simulation.replay import Unlawful
 from simulation.schedule import blocks_of
 from simulation.switch import read_input
+from thread_marks import SETTLE, SWEEP, marks_of
 from whole_run import journal_of, ran_in, simulated
 
 WORKERS = [1, 2, 4, 16]
 # In seconds. A run takes some hundredths of one.
 PATIENCE = 60
+
+# What threads have to do at each port, by the words of the journal.
+DONE_BY_THREADS = [SWEEP, SETTLE, EXACT, MEGA]
 
 
 def without_steps(words):
@@ -67,10 +80,11 @@ def wrong_in(got, wanted):
 
 
 class Runs:
-    """Runs of the program with workers, and how many of them are which."""
+    """Runs of the program with workers, how many of them are which, and what threads did by port."""
 
     def __init__(self, program):
         self.program, self.tried, self.threaded = program, 0, 0
+        self.marks = defaultdict(Counter)
 
     def try_run(self, words, given, workers, alone, folder):
         """Makes a run in an empty folder, and tells what is wrong."""
@@ -87,8 +101,16 @@ class Runs:
         if not wrong and got.files and has_edits_apart(words, given):
             if same_for_all(got.files) != same_for_all(alone.files):
                 wrong = "edits are apart from frames, and yet another run than without workers"
+        self.mark(got)
         return wrong and f"{words}: {wrong}"
 
+    def mark(self, got):
+        for port, marks in marks_of(journal_of(got) or "").items():
+            self.marks[port].update(marks)
+
+    def undone(self):
+        """What no threads have done yet at some port."""
+        return [f"{word} at port {port}" for port in map(str, PORTS) for word in DONE_BY_THREADS if not self.marks[port][word]]
 
     def try_times(self, words, given, times):
         """Makes a run with each number of workers so many times, and tells what is wrong, and in which folder."""
@@ -109,18 +131,40 @@ def is_run(words):
         return False
 
 
-def main(words):
-    rounds, times = int(words[1]), int(words[2])
-    runs = Runs(os.path.abspath(words[0]))
+def try_made(runs, rounds, times):
+    """What is wrong in the made runs, or None."""
     for number in range(rounds):
         words, given = made_run(number)
         words = without_steps(words)
         for files in [given, with_edits_first(given)] if is_run(words) else []:
             wrong = runs.try_times(words, files, times)
             if wrong:
-                print(f"round {number} is wrong, in {wrong}")
-                return 1
-    print(f"{runs.tried} runs, {runs.threaded} of them with a journal that one thread doesn't make")
+                return f"round {number} is wrong, in {wrong}"
+    return None
+
+
+def try_busy(runs, most):
+    """What is wrong in busy runs, or what threads never did in so many of them, or None."""
+    for number in range(most):
+        wrong = runs.try_times(*busy_run(number), 1)
+        if wrong:
+            return f"busy run {number} is wrong, in {wrong}"
+        if not runs.undone():
+            return None
+    return "what no threads did: " + ", ".join(runs.undone())
+
+
+def main(words):
+    program, (rounds, times, busy) = os.path.abspath(words[0]), map(int, words[1:])
+    made, busy_ones = Runs(program), Runs(program)
+    wrong = try_made(made, rounds, times) or try_busy(busy_ones, busy)
+    if wrong:
+        print(wrong)
+        return 1
+    tried, threaded = made.tried + busy_ones.tried, made.threaded + busy_ones.threaded
+    print(f"{tried} runs, {threaded} of them with a journal that one thread doesn't make; by threads:")
+    for port, marks in busy_ones.marks.items():
+        print(f"port {port}: " + " ".join(f"{word}={marks[word]}" for word in DONE_BY_THREADS))
     return 0
 
 
