@@ -2,8 +2,9 @@
 """Compares the comparison of tables with the simulation on made-up pairs of files of edits.
 
     python3 diff_rows.py PROGRAM ROUNDS
+    python3 diff_rows.py PROGRAM OLD NEW PORT..
 
-NEW is OLD with some lines left out, moved, or with actions and matches of others. Packets are tried of each class, beside
+The second compares two files that are there. In a made-up pair NEW is OLD with some lines left out, moved, or with actions and matches of others. Packets are tried of each class, beside
 each class by one bit, of frames, and of no frame at all. Each has to be in exactly one class, which says what the simulation
 does to it under both files, or in none and treated alike. Round n is the same at each call. It prints the first packet that
 is told otherwise, and ends with 1; else it tells how many rounds ended with which status, and how many packets were tried.
@@ -147,8 +148,36 @@ def is_told(classes, ports, tables, key):
     return old == new if not its else [(it.old, it.new) for it in its] == [(old, new)]
 
 
+def read_file(name):
+    with open(name, "rb") as file:
+        return file.read()
+
+
+def otherwise(number, classes, ports, frames, old, new):
+    """How many packets were tried, up to the first that is told otherwise, and what is to be said of that."""
+    tables, tried = (tables_of(old), tables_of(new)), 0
+    for key in packets(random.Random(number), ports, frames, classes):
+        tried += 1
+        if not is_told(classes, ports, tables, key):
+            return tried, f"tells otherwise of the key {key:#x}: {old!r} and {new!r}"
+    return tried, None
+
+
+def compare_files(program, old, new, ports):
+    _, frames, _, _ = made_pair(0)
+    old, new, ports = read_file(old), read_file(new), [int(port) for port in ports]
+    _, text = compared(program, ports, old, new)
+    classes = read_classes(text)
+    tried, fault = otherwise(0, classes, ports, frames, old, new)
+    print(fault or f"{len(classes)} classes, {tried} packets")
+    return 1 if fault else 0
+
+
 def main(words):
-    program, rounds = os.path.abspath(words[0]), int(words[1])
+    program = os.path.abspath(words[0])
+    if len(words) > 2:
+        return compare_files(program, words[1], words[2], words[3:])
+    rounds = int(words[1])
     ended, tried = Counter(), 0
     for number in range(rounds):
         ports, frames, old, new = made_pair(number)
@@ -164,12 +193,11 @@ def main(words):
         if status != bool(classes):
             print(f"round {number}: status {status} of {len(classes)} classes")
             return 1
-        tables = tables_of(old), tables_of(new)
-        for key in packets(random.Random(number), ports, frames, classes):
-            tried += 1
-            if not is_told(classes, ports, tables, key):
-                print(f"round {number} tells otherwise of the key {key:#x}: {old!r} and {new!r}")
-                return 1
+        more, fault = otherwise(number, classes, ports, frames, old, new)
+        tried += more
+        if fault:
+            print(f"round {number} {fault}")
+            return 1
     print(f"{rounds} pairs, {tried} packets: " + ", ".join(f"{count} with status {status}" for status, count in sorted(ended.items(), key=str)))
     return 0
 

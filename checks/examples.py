@@ -3,9 +3,10 @@
     python3 examples.py
     python3 examples.py NAME OUT
     python3 examples.py --traced
+    python3 examples.py --compared
 
 prints their names, or the words of one of them, a word in each line; or of those that are traced the names, each with the
-words of the tracer behind it in one line.
+words of the tracer behind it in one line; or of each comparison the name, that of its expected text, and the words.
 """
 import os
 import re
@@ -16,6 +17,7 @@ TOP = os.path.dirname(os.path.dirname(os.path.realpath(__file__)))
 COMMAND = re.compile(r"^\./megaswitch (.*) out (.*)$", re.MULTILINE)
 
 TRACE = re.compile(r"^\./megatrace (.*)$", re.MULTILINE)
+COMPARISON = re.compile(r"^\./megadiff (.*)$", re.MULTILINE)
 
 # The options, the name of the edits and the ports; names are from the top of the repository.
 Example = namedtuple("Example", "name options edits ports")
@@ -44,7 +46,20 @@ def traced_examples():
             yield name, found[1]
 
 
+def comparisons():
+    """Each with the text that it is to print: `brief`, or that of the name of NEW."""
+    for name, text in readmes():
+        for words in COMPARISON.findall(text):
+            brief = words.startswith("--brief ")
+            _, new, *_ = words.removeprefix("--brief ").split()
+            yield name, "brief" if brief else os.path.basename(new), words
+
+
 def main(words):
+    if words == ["--compared"]:
+        for compared in comparisons():
+            print(*compared)
+        return
     if words == ["--traced"]:
         for traced in traced_examples():
             print(*traced)
