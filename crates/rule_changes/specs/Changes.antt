@@ -15,7 +15,8 @@ use Rattle.rule_changes.specs.Lockstep.{keeps, FoundAlike, NoneMatches}
 abbrev pub changed_in : Changes → List Match
 changed_in c = map match_view c.aside.items
 
--- Where none of these matches speaks of a packet, each lookup finds rules of the same actions in both versions, or none.
+-- Where none of these matches speaks of a packet, each lookup finds rules of the same actions in both versions, or
+-- none.
 abbrev pub FindAlike : List Rule → List Rule → List Match → Type 0
 FindAlike rs ss ms =
     (table : ℕ) (key : List ℕ) → NoneMatches key ms → FoundAlike (winner (rules_in table rs) key) (winner (rules_in table ss) key)

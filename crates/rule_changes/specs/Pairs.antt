@@ -26,8 +26,8 @@ pub record IsPair (rs ss : List Rule) (p : Pair) : Type 0 where
   pub matching : r.matching ≡ s.matching
   pub actions : r.actions ≡ s.actions
 
--- Where rules of one priority stand in one order in the old version and in the other one in the new one, no packet meets
--- both, or they do the same.
+-- Where rules of one priority stand in one order in the old version and in the other one in the new one, no packet
+-- meets both, or they do the same.
 abbrev pub KeepOrder : List Rule → Pair → Pair → Type 0
 KeepOrder rs p q =
     (r t : Rule) → rule_numbered p.old rs ≡ Some r → rule_numbered q.old rs ≡ Some t

@@ -52,8 +52,8 @@ fn may_clash(a: &LiveRule<'_>, b: &LiveRule<'_>) -> bool
     agree(&p.key, &q.key, &and(&p.mask, &q.mask)) & !are_same_actions(a.actions, b.actions)
 }
 
-/// Whether the order of two pairs of one priority was turned, and a packet may meet the rules of both, which don't do the
-/// same.
+/// Whether the order of two pairs of one priority was turned, and a packet may meet the rules of both, which don't do
+/// the same.
 fn turned(old: &VersionedRules, p: &Pair, q: &Pair) -> bool
     requires { IsOfEdits old.now }
     ensures { result ≡ false → KeepOrder (live_in old.now) p.now q.now }

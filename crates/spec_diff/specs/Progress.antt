@@ -8,8 +8,8 @@ use Rattle.spec_diff.specs.Classes.{Class, IsFrameKey, IsRight, done, from_port,
 abbrev pub AreAlike : Switch → Switch → Match → Type 0
 AreAlike o n m = (key : List ℕ) → IsFrameKey key → IsTrue (is_matched key m) → done o key ≡ done n key
 
--- After so many steps there are classes, each of which is right, and matches of packets that are treated alike, one for each
--- step. Each frame of the first matches is in exactly one of these, or in one of what is left.
+-- After so many steps there are classes, each of which is right, and matches of packets that are treated alike, one
+-- for each step. Each frame of the first matches is in exactly one of these, or in one of what is left.
 pub record IsPartWay (o n : Switch) (first left : List Match) (classes : List Class) (steps : ℕ) : Type 0 where
   pub alike : List Match
   pub right : All (IsRight o n) classes

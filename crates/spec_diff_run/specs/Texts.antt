@@ -8,8 +8,8 @@
 --
 --     COUNT: ACTIONS -> ACTIONS
 --
--- A kind is a pair of actions, and COUNT its classes. A last line counts classes and kinds. Matches and actions are printed as
--- in the dump of megaflows. Nothing is printed where there is no class.
+-- A kind is a pair of actions, and COUNT its classes. A last line counts classes and kinds. Matches and actions are
+-- printed as in the dump of megaflows. Nothing is printed where there is no class.
 use Rattle.std.specs.Prelude.{ℕ, Bool, ◌&&◌, if◌then◌else◌, List, [], ◌∷◌, ◌++◌, length, codes}
 use Rattle.std.specs.List.{list_any, flat_map, count_by}
 use Rattle.std.specs.Fmt.{decimal}

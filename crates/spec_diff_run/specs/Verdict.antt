@@ -1,5 +1,5 @@
--- What becomes of a comparison before it is made. The words come first, then the file OLD, and then the file NEW; the first
--- that is refused decides.
+-- What becomes of a comparison before it is made. The words come first, then the file OLD, and then the file NEW; the
+-- first that is refused decides.
 use Rattle.std.specs.Prelude.{ℕ, Bool, List, [], ◌∷◌, length, Result, Ok, Err}
 use Rattle.std.specs.Option.{ok_or}
 use Rattle.spec_tables.specs.Rules.{Rule}
