@@ -16,7 +16,8 @@ pub fold_checked : (mask : List ℕ) (t : Bool) (events : List Event) → (fold 
 fold_checked mask t [] = refl
 fold_checked mask t (e ∷ events) = fold_checked mask (t && tells mask e) events
 
--- What is done to a packet whose translation a mask decides is done to all that agree with it; so it is where they are one key.
+-- What is done to a packet whose translation a mask decides is done to all that agree with it; so it is where they
+-- are one key.
 pub does : (sw : Switch) (key m mask : List ℕ) (decides : Bool) → IsKey key → IsClean key → (decides ≡ true → mask ≡ without register_fields m)
     → (decides ≡ false → (a b : List ℕ) → IsFrameKey a → IsFrameKey b → IsTrue (agree b a mask) → b ≡ a)
     → (decides ≡ true → tells_all m sw key ≡ true) → (t : Translation) → t ≡ pipe sw key → DoesAll sw key mask t.actions

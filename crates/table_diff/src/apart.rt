@@ -15,8 +15,8 @@ use rule_changes::Changes;
 use rule_tables::Match;
 use xlate_pipeline::without_registers;
 
-/// Adds a bit of those that are kept by which a packet differs from a match, where none is there, and answers whether there
-/// is one.
+/// Adds a bit of those that are kept by which a packet differs from a match, where none is there, and answers whether
+/// there is one.
 fn tell(mask: &mut Mask, key: &Key, matching: &Match, kept: &Mask) -> bool {
     let stated = and(&matching.mask, kept);
     if agree(key, &matching.key, &stated) {

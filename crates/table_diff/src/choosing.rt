@@ -37,8 +37,8 @@ fn filled(number: u128) -> u128 {
     number | number >> 64
 }
 
-/// Of what a match states of a field, a bit in which a packet differs: the most significant one, and of an address those
-/// before it too, so that what comes of it are prefixes.
+/// Of what a match states of a field, a bit in which a packet differs: the most significant one, and of an address
+/// those before it too, so that what comes of it are prefixes.
 fn chosen(field: FieldId, stated: u128, differing: u128) -> u128 {
     let low = filled(differing) >> 1;
     match field {

@@ -42,7 +42,8 @@ fn first(alloc: Global, ports: &[u16]) -> Result<Vec<Cube>, AllocError>
     Ok(cubes)
 }
 
-/// The classes of the packets that two versions of the tables treat differently, whatever port of these they come in by.
+/// The classes of the packets that two versions of the tables treat differently, whatever port of these they come in
+/// by.
 pub fn compare(
     alloc: Global,
     old: &VersionedRules,

@@ -7,7 +7,8 @@ ghost use Rattle.spec_xlate.specs.Consulted.{without};
 ghost use Rattle.spec_diff.specs.Classes.{done};
 ghost use Rattle.table_diff.specs.Deciding.{tells_all};
 
-/// A mask that decides each step of a translation decides it for every frame whose key agrees on the mask, but for registers.
+/// A mask that decides each step of a translation decides it for every frame whose key agrees on the mask, but for
+/// registers.
 pub fn deciding_mask_is_sound()
     ensures { (sw : Switch) (a b mask : List ℕ)
         → IsKey a → IsKey b → IsClean a → IsClean b
