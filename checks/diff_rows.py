@@ -4,10 +4,11 @@
     python3 diff_rows.py PROGRAM ROUNDS
     python3 diff_rows.py PROGRAM OLD NEW PORT..
 
-The second compares two files that are there. In a made-up pair NEW is OLD with some lines left out, moved, or with actions and matches of others. Packets are tried of each class, beside
-each class by one bit, of frames, and of no frame at all. Each has to be in exactly one class, which says what the simulation
-does to it under both files, or in none and treated alike. Round n is the same at each call. It prints the first packet that
-is told otherwise, and ends with 1; else it tells how many rounds ended with which status, and how many packets were tried.
+Of a made-up pair NEW is OLD with some lines left out, moved, or with actions and matches of others; the second command
+takes two files that are there. Packets are tried of each class, beside each class by one bit, of frames, and of no frame at
+all. Each has to be in exactly one class, which says what the simulation does to it under both files, or in none and treated
+alike. Round n is the same at each call. It prints the first packet that is told otherwise, and ends with 1; else it tells
+how many rounds ended with which status, and how many packets were tried.
 """
 import ipaddress
 import os
@@ -198,7 +199,8 @@ def main(words):
         if fault:
             print(f"round {number} {fault}")
             return 1
-    print(f"{rounds} pairs, {tried} packets: " + ", ".join(f"{count} with status {status}" for status, count in sorted(ended.items(), key=str)))
+    statuses = ", ".join(f"{count} with status {status}" for status, count in sorted(ended.items(), key=str))
+    print(f"{rounds} pairs, {tried} packets: {statuses}")
     return 0
 
 
