@@ -2,37 +2,37 @@
 //!
 //! # What?
 //!
-//! A frame that its port's caches missed waits on its board. A handler takes up its upcall, translates the frame's key
-//! through the tables that are published, and settles the frame on its board: so it is decided, and a megaflow is installed
-//! where there is room. (Open vSwitch's handler threads; Pfaff et al., NSDI 2015.)
+//! A frame that its port's caches missed waits on its board. A handler takes up its upcall, translates the frame's
+//! key through the tables that are published, and settles the frame on its board: so it is decided, and a megaflow is
+//! installed where there is room. (Open vSwitch's handler threads; Pfaff et al., NSDI 2015.)
 //!
 //! # What is promised
 //!
-//! `handle_one` handles one upcall. It translates outside the board's lock and takes the lock for each settle alone, so
-//! that frames of the port are looked up meanwhile. A sweep may begin in between, and then the board refuses a translation
-//! that is older: the handler translates again, four times at most. It says how it ended:
+//! `handle_all` handles upcalls of one port together. It translates all of their frames first, outside the board's
+//! lock, so that frames of the port are looked up meanwhile, and takes the lock once for their settles. A sweep may
+//! begin in between, and then the board refuses a translation that is older: that frame is translated again and
+//! settled under a lock of its own, in `TRIES` tries at most in all. The call tells what became of each upcall, as
+//! counts (`Handled`) that come to the number of the upcalls:
 //!
-//! - `Done`: the frame is decided.
-//! - `Gone`: the run has no such frame, or the board was of another port, or the frame wasn't pending.
-//! - `Left`: four translations were each older than a sweep. The last sweep's version is newer than all that the seer saw,
-//!   and some block of the run allows it.
-//! - `Beyond`: the translation was newer than the board's block allows, by a version that the seer saw.
+//! - `settled`: the frame is decided.
+//! - `gone`: the run has no such frame, or the board was of another port, or the frame wasn't pending.
+//! - `left`: `TRIES` translations were each older than a sweep. The version of the last such sweep is newer than what
+//!   the seer had seen before, and some block of the run allows it; where all upcalls were left, as where there is
+//!   one, it is newer than all that the seer saw.
+//! - `beyond`: the translation was newer than the board's block allows, by a version that the seer saw.
 //!
-//! The seer comes back, of the same publication, and has seen no less than before. Where memory is wanting the board is as
-//! it was.
-//!
-//! `handle_all` handles upcalls of one port together: it translates all of their frames first, and takes the lock once for
-//! their settles. A frame whose translation a sweep has made stale by then is translated again as above, in the tries that
-//! are left to it. The seer comes back as above; where memory is wanting, some frames may have been settled.
+//! The seer comes back, of the same publication, and has seen no less than before. Where memory is wanting, some
+//! frames may have been settled.
 //!
 //! What a board had and has behind its lock no contract can say. What one settle does with a board that was lent is a
-//! clause of `settle_lent`, by which each of them is made.
+//! clause of `settle_lent`, by which each of them is made; that frames are settled at all, and how often they are
+//! tried, is tested.
 //!
 //! # How
 //!
-//! Each try is a translation and a settle (`settle_newest`); a try after a stale one enters the tables anew, and so finds
-//! the version at which the sweep began, if that is published by then. What a try tells of versions is a clause of its own
-//! (`Tells`), since it stays true when the lock is free again; what it did with the board (`Settles`) doesn't.
+//! A try after a stale one enters the tables anew, and so finds the version at which the sweep began, if that is
+//! published by then. What a try tells of versions is a clause of its own (`Tells`), since it stays true when the
+//! lock is free again; what it did with the board (`Settles`) doesn't.
 //!
 //! # What is left to others
 //!
@@ -44,7 +44,7 @@ mod settling;
 mod translated;
 mod upshot;
 
-pub use handling::{handle_all, handle_one};
+pub use handling::{TRIES, handle_all};
 pub use settling::settle_lent;
 pub use upcalls::Upcall;
-pub use upshot::{Settling, Upshot};
+pub use upshot::{Handled, Settling};

@@ -1,5 +1,5 @@
 //! Handlers of upcalls.
-ghost use Rattle.std.specs.Prelude.{◌≡◌, ◌≤◌, ◌<◌, length};
+ghost use Rattle.std.specs.Prelude.{◌≡◌, ◌≤◌, ◌<◌, IfOk, length};
 
 use crate::phase::Phase;
 use crate::shared::{Shared, most_queued};
@@ -62,7 +62,7 @@ fn take_share<C: Case, T: RunTables<C>, P: Phase, R: Wait>(
     Ok(())
 }
 
-// Handles upcalls of one port at its board.
+// Handles upcalls of one port at its board, and answers of how many it is known what became of them.
 fn handle_at<C: Case, T: RunTables<C>, P: Phase, R: Wait, G: Gate>(
     rt: &R,
     alloc: Global,
@@ -70,20 +70,26 @@ fn handle_at<C: Case, T: RunTables<C>, P: Phase, R: Wait, G: Gate>(
     seer: Seer<C, T>,
     upcalls: &[Upcall],
     gate: &G,
-) -> (Seer<C, T>, Result<(), AllocError>)
+) -> (Seer<C, T>, Result<usize, AllocError>)
     requires { seer.publication ≡ P.publication }
-    ensures { result.0.publication ≡ P.publication }
+    ensures publication { result.0.publication ≡ P.publication }
+    ensures all { IfOk result.1 (λ count. count ≡ length upcalls.now) }
 {
     let Some(first) = upcalls.first() else {
-        return (seer, Ok(()));
+        return (seer, Ok(0));
     };
+    // Upcalls of a port that the run hasn't are of no use.
     let Some(at) = shared.run.ports().find(first.port) else {
-        return (seer, Ok(()));
+        return (seer, Ok(upcalls.len()));
     };
     let Some(lock) = shared.locks.get(at as usize) else {
-        return (seer, Ok(()));
+        return (seer, Ok(upcalls.len()));
     };
-    handle_all(rt, alloc, seer, shared.run, lock, upcalls, gate)
+    let (seer, handled) = handle_all(rt, alloc, seer, shared.run, lock, upcalls, gate);
+    match handled {
+        Ok(handled) => (seer, Ok(handled.total())),
+        Err(e) => (seer, Err(e)),
+    }
 }
 
 // How many of the upcalls, from the first one on, are of its port.
@@ -101,7 +107,8 @@ fn row_length(upcalls: &[Upcall]) -> usize
     upcalls.len()
 }
 
-// Handles upcalls that were taken, those of one port that stand in a row together.
+// Handles upcalls that were taken, those of one port that stand in a row together, and answers of how many it is known
+// what became of them.
 fn handle_taken<C: Case, T: RunTables<C>, P: Phase, R: Wait, G: Gate>(
     rt: &R,
     alloc: Global,
@@ -109,23 +116,24 @@ fn handle_taken<C: Case, T: RunTables<C>, P: Phase, R: Wait, G: Gate>(
     seer: Seer<C, T>,
     taken: &[Upcall],
     gate: &G,
-) -> (Seer<C, T>, Result<(), AllocError>)
+) -> (Seer<C, T>, Result<usize, AllocError>)
     requires { seer.publication ≡ P.publication }
-    ensures { result.0.publication ≡ P.publication }
+    ensures publication { result.0.publication ≡ P.publication }
+    ensures all { IfOk result.1 (λ count. count ≡ length taken.now) }
 {
     let mut seer = seer;
-    let mut from = 0;
-    'rows: while from < taken.len() {
-        let left = &taken[from..];
+    let mut handled = 0;
+    'rows: while handled < taken.len() {
+        let left = &taken[handled..];
         let row = row_length(left);
-        let (back, handled) = handle_at(rt, alloc, shared, seer, &left[..row], gate);
+        let (back, count) = handle_at(rt, alloc, shared, seer, &left[..row], gate);
         seer = back;
-        if handled.is_err() {
-            return (seer, handled);
-        }
-        from += row;
+        let Ok(count) = count else {
+            return (seer, Err(AllocError));
+        };
+        handled += count;
     }
-    (seer, Ok(()))
+    (seer, Ok(handled))
 }
 
 /// Handles upcalls until none is left and all receive workers have ended, or memory is wanting.
@@ -166,7 +174,7 @@ pub fn handle<C: Case, T: RunTables<C>, P: Phase, R: Wait, G: Gate>(
         let (back, handled) = handle_taken(rt, alloc, shared, told, taken.as_slice(), gate);
         seer = back;
         taken.clear();
-        done = handled;
+        done = handled.map(|_| ());
         if done.is_err() {
             break;
         }

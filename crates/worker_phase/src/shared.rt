@@ -1,5 +1,7 @@
 //! What the workers of a phase share.
-ghost use Rattle.std.specs.Prelude.{◌≡◌, ◌<◌, ◌≤◌};
+ghost use Rattle.std.specs.Prelude.{◌≡◌, ◌<◌, ◌≤◌, ◌*◌};
+ghost use Rattle.rx_worker.specs.declared.looking.TheConstants.{BATCH_SIZE};
+ghost use Rattle.spec_words.specs.Words.{most_workers};
 
 use crate::mailbox::{Mailbox, learn};
 use crate::phase::Phase;
@@ -30,7 +32,8 @@ const QUEUED_EACH: usize = 128;
 /// How many upcalls wait at most where there are so many receive workers.
 pub fn most_queued(workers: usize) -> usize
     requires { 0 < workers }
-    ensures { 1 ≤ result }
+    ensures some { 1 ≤ result }
+    ensures batches { workers ≤ most_workers → BATCH_SIZE * workers ≤ result }
 {
     QUEUED_EACH.saturating_mul(workers)
 }

@@ -2,7 +2,7 @@
 use crate::meddling::swept_beside;
 use crate::runs::PORT;
 use crate::stage::{Points, SmallQueue, Stage, Told};
-use pmd_board::{BeginFault, Board, EndFault};
+use pmd_board::{BeginFault, Board, EndFault, Step};
 use revalidator::{Swept, sweep_board};
 use run_case::{Case, RunData};
 use rx_worker::{Polled, poll_batch};
@@ -10,7 +10,7 @@ use std::alloc::{AllocError, Global};
 use std::sync::{Mutex, Wait};
 use table_publish::Seer;
 use table_versions::RunTables;
-use upcall_handler::{Upshot, handle_one};
+use upcall_handler::{Handled, handle_all};
 use upcalls::Upcall;
 
 /// An act on a board, with what it is to answer.
@@ -18,8 +18,8 @@ use upcalls::Upcall;
 pub enum Act {
     /// A batch is polled.
     Poll(Polled),
-    /// The upcall of a frame is handled on this board.
-    Handle(Upcall, Upshot),
+    /// The upcalls of frames are handled together on this board.
+    Handle(&'static [Upcall], Handled),
     /// The board is swept.
     Sweep(Swept),
     /// The board is swept while another puts its first entry, and then begins a sweep at the version, if there is one.
@@ -41,6 +41,15 @@ pub enum Call {
     Done(u32),
     /// The frame of the place is decided, or isn't.
     Decided(u32, bool),
+    /// The journal has these settles, in this order, and no others.
+    Settles(&'static [Settle]),
+}
+
+/// That a frame was settled under a version.
+#[derive(Clone, Copy)]
+pub struct Settle {
+    pub place: u32,
+    pub version: u32,
 }
 
 /// The upcalls of the port's first two frames.
@@ -54,6 +63,25 @@ pub const SECOND: Upcall = Upcall {
     place: 2,
 };
 
+/// What became of one upcall whose frame was settled, and of one that was of no use.
+pub const SETTLED: Handled = Handled {
+    settled: 1,
+    gone: 0,
+    left: 0,
+    floor: 0,
+    beyond: 0,
+    hi: 0,
+};
+
+pub const USELESS: Handled = Handled {
+    settled: 0,
+    gone: 1,
+    left: 0,
+    floor: 0,
+    beyond: 0,
+    hi: 0,
+};
+
 /// Whether a board answers a call as it says.
 fn is_answered<C: Case>(board: &mut Board<C>, call: Call) -> bool {
     match call {
@@ -61,7 +89,26 @@ fn is_answered<C: Case>(board: &mut Board<C>, call: Call) -> bool {
         Call::End(expected) => board.end() == expected,
         Call::Done(version) => board.done() == version,
         Call::Decided(place, expected) => board.decision(place).is_some() == expected,
+        Call::Settles(expected) => has_settles(board, expected),
     }
+}
+
+/// Whether a board's journal has these settles, in this order, and no others.
+fn has_settles<C: Case>(board: &Board<C>, expected: &[Settle]) -> bool {
+    let mut found = 0;
+    for step in board.journal() {
+        let Step::Settle { place, version, .. } = step else {
+            continue;
+        };
+        let Some(next) = expected.get(found) else {
+            return false;
+        };
+        if next.place != *place || next.version != *version {
+            return false;
+        }
+        found += 1;
+    }
+    found == expected.len()
 }
 
 /// Whether the upcalls of the frames from the first to this place are in a queue, and no others.
@@ -91,17 +138,17 @@ fn answers<C: Case, T: RunTables<C>, R: Wait>(
             let polled = poll_batch(rt, run, PORT, &stage.board, &mut stage.queue, &stage.points);
             (seer, Ok(polled == expected))
         }
-        Act::Handle(upcall, expected) => {
-            let (seer, upshot) = handle_one(
+        Act::Handle(upcalls, expected) => {
+            let (seer, handled) = handle_all(
                 rt,
                 alloc,
                 seer,
                 run,
                 &stage.board,
-                upcall,
+                upcalls,
                 &stage.points,
             );
-            (seer, upshot.map(|upshot| upshot == expected))
+            (seer, handled.map(|handled| handled == expected))
         }
         Act::Sweep(expected) => {
             let (seer, swept) = sweep_board(

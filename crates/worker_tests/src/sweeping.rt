@@ -1,11 +1,10 @@
 //! How a sweep ends.
-use crate::acts::{Act, Call, FIRST, SECOND};
+use crate::acts::{Act, Call, FIRST, SECOND, SETTLED};
 use crate::runs::{Row, are_as_shown};
 use crate::stage::Told;
 use revalidator::Swept;
 use rx_worker::Polled;
 use std::test::Fail;
-use upcall_handler::Upshot;
 
 const ROWS: [Row; 3] = [
     Row {
@@ -22,8 +21,8 @@ const ROWS: [Row; 3] = [
                 given: 2,
                 refused: 0,
             }),
-            Act::Handle(FIRST, Upshot::Done),
-            Act::Handle(SECOND, Upshot::Done),
+            Act::Handle(&[FIRST], SETTLED),
+            Act::Handle(&[SECOND], SETTLED),
             Act::Sweep(Swept::Done { version: 1 }),
             Act::Points(Told {
                 batches: 1,
@@ -59,7 +58,7 @@ const ROWS: [Row; 3] = [
                 given: 1,
                 refused: 0,
             }),
-            Act::Handle(FIRST, Upshot::Done),
+            Act::Handle(&[FIRST], SETTLED),
             Act::SweepBeside(None, Swept::Other),
             Act::SweepBeside(Some(1), Swept::Left { n: 1 }),
             Act::Call(Call::Done(0)),

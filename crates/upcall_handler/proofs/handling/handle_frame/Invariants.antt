@@ -6,5 +6,5 @@ abbrev pub invariant-tries : goal.invariant-tries
 invariant-tries g l = record {
   publication : l.seer.publication ≡ l.fn.seer.publication;
   newer : l.fn.seer.version ≤ l.seer.version;
-  stale : l.fn.from < l.tried → (l.seer.version < l.floor) × IsWithinBlock g.C.Case.run l.floor;
+  stale : l.fn.from < l.counter → (l.seer.version < l.floor) × IsWithinBlock g.C.Case.run l.floor;
 }

@@ -3,9 +3,9 @@ use Rattle.worker_phase.proofs.handling.handle_taken.Given as goal
 
 abbrev pub invariant-rows : goal.invariant-rows
 invariant-rows g l = record {
-  within : l.from ≤ length l.taken;
+  within : l.handled ≤ length l.taken;
   publication : l.seer.publication ≡ g.P.Phase.publication;
 }
 
 abbrev pub decreases-rows : goal.decreases-rows
-decreases-rows g l = length l.taken - l.from
+decreases-rows g l = length l.taken - l.handled
