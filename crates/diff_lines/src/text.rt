@@ -145,8 +145,8 @@ fn print_body(out: &mut String, classes: &[Class], brief: bool) -> Result<(), Al
 
 /// Adds the text of a difference: that of each class, or, in brief, of each pair of actions, and how many there are.
 ///
-/// Nothing is added where there is no class. The only error is out of memory, and then the string has what it had, and perhaps
-/// a part of the text.
+/// Nothing is added where there is no class. The only error is out of memory, and then the string has what it had,
+/// and perhaps a part of the text.
 pub fn print_difference(out: &mut String, classes: &[Class], brief: bool) -> Result<(), AllocError>
     ensures { Adds out.old out.new (text_of_classes brief (classes_view classes.now)) result }
 {
