@@ -1,4 +1,3 @@
 pub mod Begun
-pub mod LineFaults
 pub mod ScriptViews
 pub mod WellFormed

@@ -23,8 +23,8 @@
 //!
 //! # How
 //!
-//! The bytes are walked once, line by line. Lines and words are parts of the bytes: nothing is copied but the numbers that
-//! they spell. An edit takes memory for its actions, and for what its match states, which is given back with the line. A
+//! The file is read line by line (`line_files`). Words are parts of the bytes: nothing is copied but the numbers that they
+//! spell. An edit takes memory for its actions, and for what its match states, which is given back with the line. A
 //! line is looked at a few times: for its end, for its comment and its first word, which tells what the line is, and by the
 //! readers of edits, matches and actions.
 //!
@@ -44,9 +44,8 @@
 mod edit_line;
 mod line_words;
 mod script;
-mod told;
 mod word_lines;
 
 pub use rule_tables::{Edit, SyncPoint};
 pub use script::{MOST_BYTES, MOST_EDITS, Script, read_script};
-pub use spec_script::ScriptFault;
+pub use spec_script::FileFault;

@@ -1,7 +1,7 @@
 ghost use Rattle.std.specs.Prelude.{◌≡◌, ◌≤◌, ◌==◌, bytes_eq, length};
 ghost use Rattle.spec_flow_text.specs.Lines.{first_word as word_at_start};
 ghost use Rattle.spec_flow_text.specs.Matches.{uncommented};
-ghost use Rattle.spec_script.specs.Script.{is_blank};
+ghost use Rattle.spec_script.specs.Lines.{is_blank};
 
 use field_text::{first_word, uncommented};
 

@@ -3,9 +3,11 @@ ghost use Rattle.std.specs.List.{list_all};
 ghost use Rattle.spec_case.specs.Blocks.{AreInOrder};
 ghost use Rattle.spec_flow_text.specs.Lines.{edit_in};
 ghost use Rattle.spec_flow_text.specs.declared.fault.TextFault.TheVariants.{Syntax};
-ghost use Rattle.spec_script.specs.declared.fault.ScriptFault.TheVariants.{Line};
+ghost use Rattle.spec_script.specs.declared.fault.FileFault.TheVariants.{Line};
 ghost use Rattle.spec_script.specs.Given.{Gives};
-ghost use Rattle.spec_script.specs.Script.{most_line_bytes, most_edits, most_syncs, nothing_read, in_line, last_time, sync_time, word_alone, with_bundle, with_edit_in, with_edit, with_sync, with_begin, with_commit, with_line, with_lines, lines_of, script_of};
+ghost use Rattle.spec_script.specs.Lines.{most_line_bytes, in_line};
+ghost use Rattle.spec_script.specs.Script as scripts;
+ghost use Rattle.spec_script.specs.Script.{most_edits, most_syncs, last_time, sync_time, word_alone, with_bundle, with_edit_in, with_edit, with_sync, with_begin, with_commit, with_line, script_of};
 ghost use Rattle.spec_tables.specs.Bundles.{edits_through, AreBundles};
 ghost use Rattle.spec_tables.specs.Edits.{has_sound_actions};
 ghost use Rattle.edit_script.specs.Begun.{begun_view};
@@ -14,13 +16,12 @@ ghost use Rattle.edit_script.specs.WellFormed.{IsWellFormed};
 
 use crate::edit_line::read_edit;
 use crate::line_words::{is_word, word_in_front};
-use crate::told::in_line;
 use crate::word_lines::{Begun, read_sync_time, read_word_alone};
 use field_text::TextFault;
+use line_files::{LineReader, in_line, read_lines};
 use rule_tables::{Edit, SyncPoint};
-use spec_script::ScriptFault;
+use spec_script::FileFault;
 use std::alloc::Global;
-use text_numbers::cut_at;
 
 /// The most bytes of a file of edits.
 pub const MOST_BYTES: usize = 33_554_432;
@@ -28,10 +29,8 @@ pub const MOST_BYTES: usize = 33_554_432;
 /// The most edits of a file.
 pub const MOST_EDITS: usize = 32_768;
 
-// The most sync points of a file, and bytes of a line without its line feed.
+// The most sync points of a file.
 const MOST_SYNCS: usize = 63;
-
-const MOST_LINE_BYTES: usize = 4096;
 
 /// What a file of edits says.
 #[derive(Drop)]
@@ -52,7 +51,7 @@ struct Reading {
     begun: Option<Begun>,
 }
 
-fn edit_in_line(alloc: Global, number: u32, line: &[u8]) -> Result<Edit, ScriptFault>
+fn edit_in_line(alloc: Global, number: u32, line: &[u8]) -> Result<Edit, FileFault>
     requires { length line.now ≤ most_line_bytes }
     ensures value { Gives (λ e. e) result (in_line number (edit_in line.now)) }
     ensures sound { IfOk result (λ e. IsTrue (has_sound_actions e)) }
@@ -60,14 +59,14 @@ fn edit_in_line(alloc: Global, number: u32, line: &[u8]) -> Result<Edit, ScriptF
     in_line(number, read_edit(alloc, line))
 }
 
-fn time_in_line(number: u32, begun: Option<Begun>, line: &[u8]) -> Result<u64, ScriptFault>
+fn time_in_line(number: u32, begun: Option<Begun>, line: &[u8]) -> Result<u64, FileFault>
     requires { length line.now ≤ most_line_bytes }
     ensures { Gives (λ time. time) result (in_line number (sync_time (begun_view begun) line.now)) }
 {
     in_line(number, read_sync_time(begun, line))
 }
 
-fn word_in_line(number: u32, may_stand: bool, line: &[u8]) -> Result<u32, ScriptFault>
+fn word_in_line(number: u32, may_stand: bool, line: &[u8]) -> Result<u32, FileFault>
     requires { length line.now ≤ most_line_bytes }
     ensures { Gives (λ column. column) result (in_line number (word_alone may_stand line.now)) }
 {
@@ -85,7 +84,7 @@ fn last_through(bundles: &[u32]) -> u32
 }
 
 // The script with a bundle of the edits since the last one, if there are any.
-fn with_bundle(mut script: Script) -> Result<Script, ScriptFault>
+fn with_bundle(mut script: Script) -> Result<Script, FileFault>
     requires { length script.edits.items ≤ most_edits }
     ensures { Gives script_view result (Ok (with_bundle (script_view script))) }
 {
@@ -98,7 +97,7 @@ fn with_bundle(mut script: Script) -> Result<Script, ScriptFault>
 }
 
 // The script with one more edit, which is a bundle by itself where none was begun.
-fn with_edit_in(begun: Option<Begun>, edit: Edit, mut script: Script) -> Result<Script, ScriptFault>
+fn with_edit_in(begun: Option<Begun>, edit: Edit, mut script: Script) -> Result<Script, FileFault>
     requires { length script.edits.items < most_edits }
     ensures { Gives script_view result (Ok (with_edit_in (begun_view begun) edit (script_view script))) }
 {
@@ -116,7 +115,7 @@ fn with_edit(
     number: u32,
     line: &[u8],
     reading: Reading,
-) -> Result<Reading, ScriptFault>
+) -> Result<Reading, FileFault>
     requires short { length line.now ≤ most_line_bytes }
     requires formed { IsWellFormed (reading_view reading) }
     ensures value { Gives reading_view result (with_edit number line.now (reading_view reading)) }
@@ -124,7 +123,7 @@ fn with_edit(
 {
     let Reading { said, begun } = reading;
     if said.edits.len() >= MOST_EDITS {
-        return Err(ScriptFault::TooManyEdits);
+        return Err(FileFault::TooManyEdits);
     }
     let edit = edit_in_line(alloc, number, line)?;
     let said = with_edit_in(begun, edit, said)?;
@@ -142,18 +141,18 @@ fn last_time(syncs: &[SyncPoint]) -> u64
 
 // The script with the sync point of one more line.
 #[tactic(auto, unfolding(spec_script::specs::Script::with_sync))]
-fn with_sync(number: u32, line: &[u8], mut reading: Reading) -> Result<Reading, ScriptFault>
+fn with_sync(number: u32, line: &[u8], mut reading: Reading) -> Result<Reading, FileFault>
     requires short { length line.now ≤ most_line_bytes }
     requires formed { IsWellFormed (reading_view reading) }
     ensures value { Gives reading_view result (with_sync number line.now (reading_view reading)) }
     ensures formed { IfOk result (λ r. IsWellFormed (reading_view r)) }
 {
     if reading.said.syncs.len() >= MOST_SYNCS {
-        return Err(ScriptFault::TooManySyncs);
+        return Err(FileFault::TooManySyncs);
     }
     let time = time_in_line(number, reading.begun, line)?;
     if time < last_time(&reading.said.syncs) {
-        return Err(ScriptFault::SyncOrder { line: number });
+        return Err(FileFault::SyncOrder { line: number });
     }
     let after = reading.said.bundles.len() as u32;
     reading.said.syncs.push(SyncPoint { time, after })?;
@@ -162,7 +161,7 @@ fn with_sync(number: u32, line: &[u8], mut reading: Reading) -> Result<Reading, 
 
 // A bundle is begun.
 #[tactic(auto, unfolding(spec_script::specs::Script::with_begin))]
-fn with_begin(number: u32, line: &[u8], mut reading: Reading) -> Result<Reading, ScriptFault>
+fn with_begin(number: u32, line: &[u8], mut reading: Reading) -> Result<Reading, FileFault>
     requires short { length line.now ≤ most_line_bytes }
     requires formed { IsWellFormed (reading_view reading) }
     ensures value { Gives reading_view result (with_begin number line.now (reading_view reading)) }
@@ -178,7 +177,7 @@ fn with_begin(number: u32, line: &[u8], mut reading: Reading) -> Result<Reading,
 
 // The bundle that was begun ends.
 #[tactic(auto, unfolding(spec_script::specs::Script::with_commit))]
-fn with_commit(number: u32, line: &[u8], reading: Reading) -> Result<Reading, ScriptFault>
+fn with_commit(number: u32, line: &[u8], reading: Reading) -> Result<Reading, FileFault>
     requires short { length line.now ≤ most_line_bytes }
     requires formed { IsWellFormed (reading_view reading) }
     ensures value { Gives reading_view result (with_commit number line.now (reading_view reading)) }
@@ -189,65 +188,62 @@ fn with_commit(number: u32, line: &[u8], reading: Reading) -> Result<Reading, Sc
     Ok(Reading { said, begun: None })
 }
 
-// The script with what one more line says.
-#[tactic(auto, unfolding(spec_script::specs::Script::with_line))]
-fn with_line(
+// What reads the lines of a file of edits.
+#[derive(Drop)]
+struct ScriptReader {
     alloc: Global,
-    number: u32,
-    line: &[u8],
-    reading: Reading,
-) -> Result<Reading, ScriptFault>
-    requires { IsWellFormed (reading_view reading) }
-    ensures value { Gives reading_view result (with_line number line.now (reading_view reading)) }
-    ensures formed { IfOk result (λ r. IsWellFormed (reading_view r)) }
-{
-    if line.len() > MOST_LINE_BYTES {
-        return Err(ScriptFault::LineTooLong);
-    }
-    let word = word_in_front(line);
-    if word.is_empty() {
-        return Ok(reading);
-    }
-    if is_word("sync", word) {
-        with_sync(number, line, reading)
-    } else if is_word("begin", word) {
-        with_begin(number, line, reading)
-    } else if is_word("commit", word) {
-        with_commit(number, line, reading)
-    } else {
-        with_edit(alloc, number, line, reading)
+}
+
+impl LineReader for ScriptReader {
+    type Read = Reading;
+
+    ghost Said = { scripts.Reading };
+
+    ghost said = { reading_view };
+
+    ghost is_kept = { λ r. IsWellFormed (reading_view r) };
+
+    ghost after_line = { λ _. with_line };
+
+    // The script with what one more line says.
+    #[tactic(auto, unfolding(spec_script::specs::Script::with_line))]
+    fn read_line(&self, number: u32, line: &[u8], reading: Reading) -> Result<Reading, FileFault> {
+        let word = word_in_front(line);
+        if word.is_empty() {
+            return Ok(reading);
+        }
+        if is_word("sync", word) {
+            with_sync(number, line, reading)
+        } else if is_word("begin", word) {
+            with_begin(number, line, reading)
+        } else if is_word("commit", word) {
+            with_commit(number, line, reading)
+        } else {
+            with_edit(self.alloc, number, line, reading)
+        }
     }
 }
 
-// What all lines of a file say.
-fn read_lines(alloc: Global, bytes: &[u8]) -> Result<Reading, ScriptFault>
-    requires { length bytes.now ≤ 33_554_432 }
-    ensures value { Gives reading_view result (with_lines 1 (lines_of bytes.now) nothing_read) }
-    ensures formed { IfOk result (λ r. IsWellFormed (reading_view r)) }
+// What no line says.
+fn nothing_read(alloc: Global) -> Reading
+    ensures view { reading_view result ≡ scripts.nothing_read }
+    ensures formed { IsWellFormed (reading_view result) }
 {
-    let mut reading = Reading {
+    Reading {
         said: Script {
             edits: Vec::new(alloc),
             bundles: Vec::new(alloc),
             syncs: Vec::new(alloc),
         },
         begun: None,
-    };
-    let mut number: u32 = 1;
-    let mut rest = bytes;
-    'lines: while let Some((line, more)) = cut_at(rest, b'\n') {
-        reading = with_line(alloc, number, line, reading)?;
-        number += 1;
-        rest = more;
     }
-    with_line(alloc, number, rest, reading)
 }
 
 // What is wrong with a file that ends in a bundle.
-fn left_open(begun: Begun) -> ScriptFault
+fn left_open(begun: Begun) -> FileFault
     ensures { result ≡ Line begun.line (Syntax begun.column) }
 {
-    ScriptFault::Line {
+    FileFault::Line {
         line: begun.line,
         why: TextFault::Syntax { col: begun.column },
     }
@@ -257,7 +253,7 @@ fn left_open(begun: Begun) -> ScriptFault
 ///
 /// A fault is the first of the file. Lines of it are counted from 1, and so are columns.
 #[tactic(auto, unfolding(spec_script::specs::Script::script_of))]
-pub fn read_script(alloc: Global, bytes: &[u8]) -> Result<Script, ScriptFault>
+pub fn read_script(alloc: Global, bytes: &[u8]) -> Result<Script, FileFault>
     requires { length bytes.now ≤ 33_554_432 }
     ensures script { Gives script_view result (script_of bytes.now) }
     ensures sound { IfOk result (λ s. IsTrue (list_all has_sound_actions s.edits.items)) }
@@ -266,7 +262,7 @@ pub fn read_script(alloc: Global, bytes: &[u8]) -> Result<Script, ScriptFault>
     ensures in_order { IfOk result (λ s. AreInOrder s.syncs.items (length s.bundles.items)) }
     ensures bundles { IfOk result (λ s. AreBundles s.bundles.items (length s.edits.items)) }
 {
-    let reading = read_lines(alloc, bytes)?;
+    let reading = read_lines(&ScriptReader { alloc }, bytes, nothing_read(alloc))?;
     match reading.begun {
         None => Ok(reading.said),
         Some(begun) => Err(left_open(begun)),

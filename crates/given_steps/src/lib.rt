@@ -40,7 +40,7 @@
 //! # What is left to others
 //!
 //! How a run ends whatever was done before is `step_runner`'s (`finish`).
-//! Reading a file of steps is `step_script`'s.
+//! Reading a file of steps is `port_scripts`'s.
 #![tactic(auto)]
 
 mod attempts;

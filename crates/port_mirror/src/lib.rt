@@ -23,7 +23,7 @@
 //!
 //! # What is left to others
 //!
-//! That every frame is decided (`run_boards`, whose `Finished` has it as its type), how a mirror is read (`mirror_script`),
+//! That every frame is decided (`run_boards`, whose `Finished` has it as its type), how a mirror is read (`port_scripts`),
 //! the name of the file, and that files are written for all mirrors.
 #![tactic(auto)]
 

@@ -15,7 +15,8 @@ use Rattle.spec_board.specs.Texts.{Journal, line_of}
 use Rattle.spec_flow_text.specs.Lines.{edit_in}
 use Rattle.spec_dumps.specs.declared.rule_counts.RuleCounts.{RuleCounts}
 use Rattle.spec_dumps.specs.Rules.{counts_of, counts_text, comes_before, put_in_order, in_order, live_rules, gone_rules, rules_text}
-use Rattle.spec_script.specs.Script.{nothing_read, most_edits, most_line_bytes, with_lines, lines_of, script_of}
+use Rattle.spec_script.specs.Lines.{most_line_bytes, with_lines, lines_of}
+use Rattle.spec_script.specs.Script.{nothing_read, most_edits, with_line, script_of}
 use Rattle.translation_laws.proofs.MemberLaws.{Among, All-Among, All_from-Among, Among-append_left, Among-append_right}
 use Rattle.text_laws.proofs.PlainValues.{decimal_plain}
 use Rattle.rule_text_laws.specs.Lines.{rule_text, added}
@@ -107,7 +108,7 @@ module _ (run : Run) (journals : List Journal) where
       let few : 0 + length rules ≤ most_edits = omega (arith, length_order (live_rules run), d.few) in
       let shape = append_assoc (texts counts rules) comments ([] ∷ []) in
       whole (rules_text run journals) (map added rules)
-      (ap (λ (ls : List (List ℕ)). with_lines 1 ls nothing_read) (cut ∙ shape)
+      (ap (λ (ls : List (List ℕ)). with_lines with_line 1 ls nothing_read) (cut ∙ shape)
       ∙ rules_read counts 1 rules [] (comments ++ [] ∷ []) (all_read rules read) (short_front (texts counts rules) comments short_lines) few
       ∙ comments_read comment (1 + length rules) (gone_rules run) (reading (map added rules)) (short_back (texts counts rules) comments short_lines))
 

@@ -16,7 +16,8 @@ use Rattle.spec_flow_text.specs.Matches.{uncommented}
 use Rattle.spec_flow_text.specs.Lines.{first_word, edit_in}
 use Rattle.spec_board.specs.Texts.{line_of}
 use Rattle.spec_dumps.specs.declared.rule_counts.RuleCounts.{RuleCounts}
-use Rattle.spec_script.specs.Script.{Reading, nothing_read, most_line_bytes, most_edits, with_bundle, with_edit, with_line, with_lines, lines_of, script_of}
+use Rattle.spec_script.specs.Lines.{most_line_bytes, with_lines, lines_of, with_next}
+use Rattle.spec_script.specs.Script.{Reading, nothing_read, most_edits, with_bundle, with_edit, with_line, script_of}
 use Rattle.rule_text_laws.specs.Lines.{rule_text, added}
 
 -- ---- lines
@@ -103,7 +104,7 @@ within : (line : List ℕ) → length line ≤ most_line_bytes → nat_lt most_l
 within line short = grind (arith, nat_tests)
 
 front_read : (number : ℕ) (cs : List ℕ) (edits : List Edit) (e : Edit) → length (99 ∷ 111 ∷ 111 ∷ cs) ≤ most_line_bytes → length edits < most_edits
-    → edit_in (99 ∷ 111 ∷ 111 ∷ cs) ≡ Ok e → with_line number (99 ∷ 111 ∷ 111 ∷ cs) (reading edits) ≡ Ok (reading (edits ++ e ∷ []))
+    → edit_in (99 ∷ 111 ∷ 111 ∷ cs) ≡ Ok e → with_next with_line number (99 ∷ 111 ∷ 111 ∷ cs) (reading edits) ≡ Ok (reading (edits ++ e ∷ []))
 unfolding with_line
 front_read number cs edits e short room read =
     rw (
@@ -114,21 +115,21 @@ front_read number cs edits e short room read =
       not_commit (uncommented cs),
     ) (edit_line number (99 ∷ 111 ∷ 111 ∷ cs) edits e room read)
 
-comment_read : (number : ℕ) (cs : List ℕ) (r : Reading) → length (number_sign ∷ cs) ≤ most_line_bytes → with_line number (number_sign ∷ cs) r ≡ Ok r
+comment_read : (number : ℕ) (cs : List ℕ) (r : Reading) → length (number_sign ∷ cs) ≤ most_line_bytes → with_next with_line number (number_sign ∷ cs) r ≡ Ok r
 unfolding with_line
 comment_read number cs r short = rw (within (number_sign ∷ cs) short) refl
 
-empty_read : (number : ℕ) (r : Reading) → with_line number [] r ≡ Ok r
+empty_read : (number : ℕ) (r : Reading) → with_next with_line number [] r ≡ Ok r
 unfolding with_line
 empty_read number r = refl
 
 -- ---- all lines
 
-next_line : (number : ℕ) (line : List ℕ) (lines : List (List ℕ)) (r s : Reading) → with_line number line r ≡ Ok s → with_lines number (line ∷ lines) r ≡ with_lines (number + 1) lines s
+next_line : (number : ℕ) (line : List ℕ) (lines : List (List ℕ)) (r s : Reading) → with_next with_line number line r ≡ Ok s → with_lines with_line number (line ∷ lines) r ≡ with_lines with_line (number + 1) lines s
 unfolding with_lines
 next_line number line lines r s h = rw h refl
 
-no_line : (number : ℕ) (r : Reading) → with_lines number [] r ≡ Ok r
+no_line : (number : ℕ) (r : Reading) → with_lines with_line number [] r ≡ Ok r
 unfolding with_lines
 no_line number r = refl
 
@@ -144,10 +145,10 @@ module _ (counts : Rule → RuleCounts) where
   AreRead (r ∷ rules) = (edit_in (rule_text (counts r) r) ≡ Ok (added r)) × AreRead rules
 
   pub rules_read : (number : ℕ) (rules : List Rule) (edits : List Edit) (rest : List (List ℕ)) → AreRead rules → AreShort (texts rules) → length edits + length rules ≤ most_edits
-      → with_lines number (texts rules ++ rest) (reading edits) ≡ with_lines (number + length rules) rest (reading (edits ++ map added rules))
+      → with_lines with_line number (texts rules ++ rest) (reading edits) ≡ with_lines with_line (number + length rules) rest (reading (edits ++ map added rules))
   rules_read number [] edits rest read short few =
       let same : number ≡ number + 0 = omega arith in
-      ap (λ (n : ℕ). with_lines n rest (reading edits)) same ∙ ap (λ (es : List Edit). with_lines (number + 0) rest (reading es)) (sym (append-nil edits))
+      ap (λ (n : ℕ). with_lines with_line n rest (reading edits)) same ∙ ap (λ (es : List Edit). with_lines with_line (number + 0) rest (reading es)) (sym (append-nil edits))
   rules_read number (r ∷ rules) edits rest read short few =
       let line = rule_text (counts r) r in
       let same : number + 1 + length rules ≡ number + length (r ∷ rules) = omega arith in
@@ -156,18 +157,18 @@ module _ (counts : Rule → RuleCounts) where
       next_line number line (texts rules ++ rest) (reading edits) (reading (edits ++ added r ∷ []))
       (front_read number _ edits (added r) (All-head (λ t. length t ≤ most_line_bytes) line (texts rules) short) room read.0)
       ∙ rules_read (number + 1) rules (edits ++ added r ∷ []) rest read.1 (All-tail (λ t. length t ≤ most_line_bytes) line (texts rules) short) fewer
-      ∙ ap (λ (n : ℕ). with_lines n rest (reading ((edits ++ added r ∷ []) ++ map added rules))) same
-      ∙ ap (λ (es : List Edit). with_lines (number + length (r ∷ rules)) rest (reading es)) (append_assoc edits (added r ∷ []) (map added rules))
+      ∙ ap (λ (n : ℕ). with_lines with_line n rest (reading ((edits ++ added r ∷ []) ++ map added rules))) same
+      ∙ ap (λ (es : List Edit). with_lines with_line (number + length (r ∷ rules)) rest (reading es)) (append_assoc edits (added r ∷ []) (map added rules))
 
 -- comments, and the empty line after the last line feed
 pub comments_read : (comment : ℕ → List ℕ) (number : ℕ) (gone : List ℕ) (r : Reading) → AreShort (map (λ n. number_sign ∷ comment n) gone)
-    → with_lines number (map (λ n. number_sign ∷ comment n) gone ++ [] ∷ []) r ≡ Ok r
+    → with_lines with_line number (map (λ n. number_sign ∷ comment n) gone ++ [] ∷ []) r ≡ Ok r
 comments_read comment number [] r short = next_line number [] [] r r (empty_read number r) ∙ no_line (number + 1) r
 comments_read comment number (n ∷ gone) r short =
     next_line number (number_sign ∷ comment n) (map (λ k. number_sign ∷ comment k) gone ++ [] ∷ []) r r
     (comment_read number (comment n) r (All-head (λ t. length t ≤ most_line_bytes) (number_sign ∷ comment n) (map (λ k. number_sign ∷ comment k) gone) short))
     ∙ comments_read comment (number + 1) gone r (All-tail (λ t. length t ≤ most_line_bytes) (number_sign ∷ comment n) (map (λ k. number_sign ∷ comment k) gone) short)
 
-pub whole : (bytes : List ℕ) (edits : List Edit) → with_lines 1 (lines_of bytes) nothing_read ≡ Ok (reading edits) → script_of bytes ≡ Ok (reading edits).said
+pub whole : (bytes : List ℕ) (edits : List Edit) → with_lines with_line 1 (lines_of bytes) nothing_read ≡ Ok (reading edits) → script_of bytes ≡ Ok (reading edits).said
 unfolding script_of
 whole bytes edits h = rw h refl

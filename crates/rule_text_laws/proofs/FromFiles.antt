@@ -7,12 +7,13 @@ use Rattle.spec_tables.specs.Edits.{Edit}
 use Rattle.spec_tables.specs.Bundles.{edits_through}
 use Rattle.spec_flow_text.specs.declared.fault.TextFault.{TextFault}
 use Rattle.spec_flow_text.specs.Lines.{edit_in}
-use Rattle.spec_script.specs.declared.fault.ScriptFault.{ScriptFault}
-use Rattle.spec_script.specs.declared.fault.ScriptFault.TheVariants.{SyncOrder, LineTooLong, TooManyEdits, TooManySyncs}
-use Rattle.spec_script.specs.Script.{Script, Reading, Begun, nothing_read, reads, ◌>>=◌, unless, in_line, most_line_bytes, most_edits, most_syncs, sync_time, word_alone, last_time, sync_at, with_bundle, with_edit_in, with_edit, with_sync, with_begin, with_commit, is_blank, begins_with, with_line, with_lines, lines_of, read_whole, script_of}
+use Rattle.spec_script.specs.declared.fault.FileFault.{FileFault}
+use Rattle.spec_script.specs.declared.fault.FileFault.TheVariants.{SyncOrder, LineTooLong, TooManyEdits, TooManySyncs}
+use Rattle.spec_script.specs.Lines.{◌>>=◌, unless, in_line, most_line_bytes, is_blank, with_lines, lines_of, with_next}
+use Rattle.spec_script.specs.Script.{Script, Reading, Begun, nothing_read, reads, most_edits, most_syncs, sync_time, word_alone, last_time, sync_at, with_bundle, with_edit_in, with_edit, with_sync, with_begin, with_commit, begins_with, with_line, read_whole, script_of}
 use Rattle.rule_text_laws.specs.Lines.{WasRead}
 
-chained : {A B : Type 0} (r : Result A ScriptFault) (f : A → Result B ScriptFault) (b : B) → r >>= f ≡ Ok b → (a : A) × (r ≡ Ok a) × (f a ≡ Ok b)
+chained : {A B : Type 0} (r : Result A FileFault) (f : A → Result B FileFault) (b : B) → r >>= f ≡ Ok b → (a : A) × (r ≡ Ok a) × (f a ≡ Ok b)
 chained (Ok a) f b h = (a, refl, h)
 chained (Err e) f b h = cc h
 
@@ -68,7 +69,7 @@ commit_read number line r t h all =
     let is : record { said = with_bundle r.said; begun = None } ≡ t = cc (column.2) in
     subst AreRead is (bundle_read r.said all)
 
-line_read : (number : ℕ) (line : List ℕ) (r t : Reading) → with_line number line r ≡ Ok t → AreRead r → AreRead t
+line_read : (number : ℕ) (line : List ℕ) (r t : Reading) → with_next with_line number line r ≡ Ok t → AreRead r → AreRead t
 unfolding with_line
 line_read number line r t h all =
     by (nat_lt most_line_bytes (length line)) (is_blank line) (begins_with (codes "sync") line) (begins_with (codes "begin") line) (begins_with (codes "commit") line) h
@@ -87,11 +88,11 @@ line_read number line r t h all =
     by false false false false true h = commit_read number line r t h all
     by false false false false false h = edit_read number line r t h all
 
-lines_read : (number : ℕ) (lines : List (List ℕ)) (r t : Reading) → with_lines number lines r ≡ Ok t → AreRead r → AreRead t
+lines_read : (number : ℕ) (lines : List (List ℕ)) (r t : Reading) → with_lines with_line number lines r ≡ Ok t → AreRead r → AreRead t
 unfolding with_lines
 lines_read number [] r t h all = let is : r ≡ t = cc h in subst AreRead is all
 lines_read number (line ∷ lines) r t h all =
-    let first = chained (with_line number line r) (with_lines (number + 1) lines) t h in
+    let first = chained (with_next with_line number line r) (with_lines with_line (number + 1) lines) t h in
     lines_read (number + 1) lines first.0 t first.2 (line_read number line r first.0 first.1 all)
 
 whole_read : (begun : Option Begun) (s t : Script) → read_whole begun s ≡ Ok t → All WasRead s.edits → All WasRead t.edits
@@ -101,5 +102,5 @@ whole_read (Some b) s t h all = cc h
 pub script_read : (bytes : List ℕ) (s : Script) → script_of bytes ≡ Ok s → All WasRead s.edits
 unfolding script_of
 script_read bytes s h =
-    let r = chained (with_lines 1 (lines_of bytes) nothing_read) (λ x. read_whole x.begun x.said) s h in
+    let r = chained (with_lines with_line 1 (lines_of bytes) nothing_read) (λ x. read_whole x.begun x.said) s h in
     whole_read r.0.begun r.0.said s r.2 (lines_read 1 (lines_of bytes) nothing_read r.0 r.1 (λ k d within. absurd (omega (arith, within))))

@@ -3,15 +3,16 @@ use Rattle.std.specs.Prelude.{◌≡◌, ℕ, Bool, true, false, List, [], ◌�
 use Rattle.spec_numbers.specs.Numbers.{digits_upto, decimal_upto}
 use Rattle.spec_flow_text.specs.declared.fault.TextFault.TheVariants.{Syntax, UnknownName, BadValue, Repeated}
 use Rattle.spec_flow_text.specs.Items.{words}
-use Rattle.spec_mirrors.specs.declared.fault.MirrorFault.{MirrorFault}
-use Rattle.spec_mirrors.specs.declared.fault.MirrorFault.TheVariants.{Line, LineTooLong, TooManyMirrors}
-use Rattle.spec_mirrors.specs.Mirrors.{Mirror, nothing_selected, port_in, with_port, with_valued, with_bare, with_item, with_items, mirror_in, with_line, with_lines, mirrors_in}
+use Rattle.spec_script.specs.declared.fault.FileFault.{FileFault}
+use Rattle.spec_script.specs.declared.fault.FileFault.TheVariants.{Line, LineTooLong, TooManyMirrors}
+use Rattle.spec_script.specs.Lines.{with_next, with_lines}
+use Rattle.spec_mirrors.specs.Mirrors.{Mirror, nothing_selected, port_in, with_port, with_valued, with_bare, with_item, with_items, mirror_in, with_line, mirrors_in}
 
 -- of a switch with ports 1, 2 and 70
 abbrev says : List ℕ → List Mirror → Type 0
 says bytes mirrors = mirrors_in (1 ∷ 2 ∷ 70 ∷ []) bytes ≡ Ok mirrors
 
-abbrev fails : List ℕ → MirrorFault → Type 0
+abbrev fails : List ℕ → FileFault → Type 0
 fails bytes fault = mirrors_in (1 ∷ 2 ∷ 70 ∷ []) bytes ≡ Err fault
 
 abbrev selects : List ℕ → List ℕ → Bool → Mirror
@@ -96,8 +97,8 @@ in_a_line_the_first_item_with_a_fault_decides = (refl, refl)
 
 -- the length of a line is tested before all else, also of a blank one
 a_line_has_at_most_4096_bytes :
-    (with_line [] 1 (replicate 4096 32) [] ≡ Ok []) × ((with_line [] 1 (replicate 4097 32) [] ≡ Err LineTooLong)
-    × (with_line [] 1 (replicate 4097 120) (replicate 16 nothing_selected) ≡ Err LineTooLong))
+    (with_next (with_line []) 1 (replicate 4096 32) [] ≡ Ok []) × ((with_next (with_line []) 1 (replicate 4097 32) [] ≡ Err LineTooLong)
+    × (with_next (with_line []) 1 (replicate 4097 120) (replicate 16 nothing_selected) ≡ Err LineTooLong))
 unfolding with_line mirror_in with_items with_item with_bare words
 a_line_has_at_most_4096_bytes = (refl, (refl, refl))
 

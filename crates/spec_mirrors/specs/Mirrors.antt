@@ -13,11 +13,11 @@ use Rattle.spec_flow_text.specs.declared.fault.TextFault.TheVariants.{Syntax, Un
 use Rattle.spec_flow_text.specs.Names.{meaning_of}
 use Rattle.spec_flow_text.specs.Items.{Word, column, is_separator, words, ◌>>=◌, unless, given}
 use Rattle.spec_flow_text.specs.Matches.{uncommented, ascii_from}
-use Rattle.spec_script.specs.Script.{most_line_bytes, is_blank, lines_of}
+use Rattle.spec_script.specs.declared.fault.FileFault.{FileFault}
+use Rattle.spec_script.specs.declared.fault.FileFault.TheVariants.{TooManyMirrors}
+use Rattle.spec_script.specs.Lines.{is_blank, in_line, and_one, said_by}
 use Rattle.spec_mirrors.specs.declared.selector.Selector.{Selector}
 use Rattle.spec_mirrors.specs.declared.selector.Selector.TheVariants as select
-use Rattle.spec_mirrors.specs.declared.fault.MirrorFault.{MirrorFault}
-use Rattle.spec_mirrors.specs.declared.fault.MirrorFault.TheVariants.{Line, LineTooLong, TooManyMirrors}
 
 -- ---- limits
 
@@ -100,27 +100,12 @@ mirror_in ports line = ascii_from 0 (uncommented line) >>= (λ text. with_items 
 
 -- ---- files
 
--- a mirror more, or what is wrong with its line
-abbrev pub and_mirror : ℕ → List Mirror → Result Mirror TextFault → Result (List Mirror) MirrorFault
-and_mirror number mirrors (Ok m) = Ok (mirrors ++ m ∷ [])
-and_mirror number mirrors (Err why) = Err (Line number why)
-
--- The mirrors with that of one more line. Its length is tested first, then how many mirrors there are, then its items.
-unfoldable pub with_line : List ℕ → ℕ → List ℕ → List Mirror → Result (List Mirror) MirrorFault
+-- the mirrors with that of one more line; how many there are is tested before its items
+unfoldable pub with_line : List ℕ → ℕ → List ℕ → List Mirror → Result (List Mirror) FileFault
 with_line ports number line mirrors =
-    if nat_lt most_line_bytes (length line) then Err LineTooLong
-    else (if is_blank line then Ok mirrors
-    else (if nat_lt (length mirrors) most_mirrors then and_mirror number mirrors (mirror_in ports line) else Err TooManyMirrors))
-
--- the mirrors with those of the lines from this number on
-abbrev pub and_lines : (List Mirror → Result (List Mirror) MirrorFault) → Result (List Mirror) MirrorFault → Result (List Mirror) MirrorFault
-and_lines more (Ok mirrors) = more mirrors
-and_lines more (Err fault) = Err fault
-
-unfoldable pub with_lines : List ℕ → ℕ → List (List ℕ) → List Mirror → Result (List Mirror) MirrorFault
-with_lines ports number [] mirrors = Ok mirrors
-with_lines ports number (line ∷ lines) mirrors = and_lines (with_lines ports (number + 1) lines) (with_line ports number line mirrors)
+    if is_blank line then Ok mirrors
+    else (if nat_lt (length mirrors) most_mirrors then and_one mirrors (in_line number (mirror_in ports line)) else Err TooManyMirrors)
 
 -- what the bytes of a mirrors file say, for a switch of these ports
-unfoldable pub mirrors_in : List ℕ → List ℕ → Result (List Mirror) MirrorFault
-mirrors_in ports bytes = with_lines ports 1 (lines_of bytes) []
+unfoldable pub mirrors_in : List ℕ → List ℕ → Result (List Mirror) FileFault
+mirrors_in ports bytes = said_by (with_line ports) bytes []

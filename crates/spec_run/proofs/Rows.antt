@@ -23,8 +23,9 @@ use Rattle.spec_flow_text.specs.Matches.{kept, match_of, read_match}
 use Rattle.spec_flow_text.specs.Actions as actions
 use Rattle.spec_flow_text.specs.Actions.{up_to_end, items, is_closed, argument_of, port_of, drop_item, actions_of_item, read_items, read_actions}
 use Rattle.spec_flow_text.specs.Lines.{edit_from, edit_in}
-use Rattle.spec_script.specs.declared.fault.ScriptFault.TheVariants as script
-use Rattle.spec_script.specs.Script.{with_line, with_lines, script_of, with_edit, with_sync, sync_time, time_of, seconds_with_fraction, seconds_of, fraction_of}
+use Rattle.spec_script.specs.declared.fault.FileFault.TheVariants as fault
+use Rattle.spec_script.specs.Lines.{with_lines}
+use Rattle.spec_script.specs.Script.{with_line, script_of, with_edit, with_sync, sync_time, time_of, seconds_with_fraction, seconds_of, fraction_of}
 use Rattle.spec_frames.specs.Ethernet.{is_tag_at, tag_count, tci_at, carried, carried_by}
 use Rattle.spec_frames.specs.Network.{network_at}
 use Rattle.spec_frames.specs.Key.{with_network, key_of}
@@ -48,19 +49,17 @@ use Rattle.spec_board.specs.GivenSteps.{with_given_steps}
 use Rattle.spec_case.specs.declared.run_step.RunStep.{RunStep}
 use Rattle.spec_case.specs.declared.run_step.RunStep.TheVariants as step
 use Rattle.spec_dumps.specs.declared.ran.Ran.{Ran}
-use Rattle.spec_steps.specs.declared.fault.StepsFault.TheVariants as given
 use Rattle.spec_steps.specs.Steps as steps_file
 use Rattle.spec_steps.specs.Steps.{number_in, port_in, step_in, with_words, steps_of}
-use Rattle.spec_mirrors.specs.declared.fault.MirrorFault.TheVariants as mirroring
 use Rattle.spec_mirrors.specs.Mirrors as mirrors_file
 use Rattle.spec_run.specs.declared.quantity.Quantity.{Quantity}
-use Rattle.spec_run.specs.declared.quantity.Quantity.TheVariants.{EditsBytes, StepsBytes, MirrorsBytes, Line, Edits, Syncs, Actions, Steps as StepCount, Mirrors as MirrorCount, Changes, TraceBytes, Frames}
-use Rattle.spec_run.specs.Verdict.{Files, Refusal, Usage, Missing, Text, Steps, Mirrors, Trace, Limit, TraceFile, Accepted, command_in, script_in, file_in, traces_after, run_in, verdict, refused_mirrors, traces_opened, last_opened, later_opened, sources_opened, files_opened}
+use Rattle.spec_run.specs.declared.quantity.Quantity.TheVariants.{EditsBytes, StepsBytes, MirrorsBytes, Line, Edits, Syncs, Actions, Steps, Mirrors, Changes, TraceBytes, Frames}
+use Rattle.spec_run.specs.Verdict.{Files, Refusal, Usage, Missing, Text, Trace, Limit, TraceFile, Accepted, command_in, script_in, file_in, traces_after, run_in, verdict, refused_text, traces_opened, last_opened, later_opened, sources_opened, files_opened}
 use Rattle.spec_base.specs.Files.{File, IsPrefixOf}
 use Rattle.spec_run.specs.Journals.{scheduled_journals}
 use Rattle.spec_run.specs.Outputs.{outlets_of, output_of, has_steps, ran_of}
 use Rattle.spec_run.specs.CutShort.{IsCutShort}
-use Rattle.spec_run.specs.Statuses.{status_of, text_of, read_fault_text, script_text, mirrors_text, trace_text, limit_text, Prints}
+use Rattle.spec_run.specs.Statuses.{status_of, text_of, read_fault_text, file_text, trace_text, limit_text, Prints}
 
 abbrev said : List (List ℕ)
 said = codes "e" ∷ codes "o" ∷ codes "1=a" ∷ codes "2=" ∷ []
@@ -170,7 +169,7 @@ the_flows_and_then_the_copies_stand_after_the_journal :
     (names_in (outcome (codes "--netflow" ∷ mirrored) (Some []) (Some (codes "select_all\n\nselect_src_port=1\n")))
     ≡ codes "o.p1.pcap" ∷ codes "o.rules" ∷ codes "o.megaflows" ∷ codes "o.journal" ∷ codes "o.netflow" ∷ codes "o.m1.pcap" ∷ codes "o.m2.pcap" ∷ [])
     × (names_in (outcome mirrored (Some []) (Some [])) ≡ codes "o.p1.pcap" ∷ codes "o.rules" ∷ codes "o.megaflows" ∷ codes "o.journal" ∷ [])
-unfolding outcome mirrors_file.port_in mirrors_file.with_port mirrors_file.with_valued mirrors_file.with_bare mirrors_file.with_item mirrors_file.with_items mirrors_file.mirror_in mirrors_file.with_line mirrors_file.with_lines mirrors_file.mirrors_in
+unfolding outcome mirrors_file.port_in mirrors_file.with_port mirrors_file.with_valued mirrors_file.with_bare mirrors_file.with_item mirrors_file.with_items mirrors_file.mirror_in mirrors_file.with_line with_lines mirrors_file.mirrors_in
 the_flows_and_then_the_copies_stand_after_the_journal = (refl, refl)
 
 -- the file after the five of a run with two ports, where there is one
@@ -199,11 +198,11 @@ unfolding outcome
 workers_are_taken_but_not_with_steps = (refl, refl)
 
 the_steps_come_after_the_edits_and_before_the_traces :
-    (outcome stepped (Some (codes "actions")) None ≡ Err (Text (codes "e") (script.Line 1 (text.Syntax 1))))
+    (outcome stepped (Some (codes "actions")) None ≡ Err (Text (codes "e") (fault.Line 1 (text.Syntax 1))))
     × ((outcome stepped (Some []) None ≡ Err (Missing (codes "a")))
-    × ((outcome stepped (Some []) (Some (codes "edit\nrx 2")) ≡ Err (Steps (codes "a") (given.Line 2 (text.BadValue 4))))
+    × ((outcome stepped (Some []) (Some (codes "edit\nrx 2")) ≡ Err (Text (codes "a") (fault.Line 2 (text.BadValue 4))))
     × (outcome stepped (Some []) (Some (codes "edit\nrx 1")) ≡ Err (Missing (codes "b")))))
-unfolding outcome number_in port_in step_in with_words steps_file.with_line steps_file.with_lines steps_of
+unfolding outcome number_in port_in step_in with_words steps_file.with_line with_lines steps_of
 the_steps_come_after_the_edits_and_before_the_traces = (refl, (refl, (refl, refl)))
 
 -- a run whose steps file is `a`, and its mirrors file `m`
@@ -215,18 +214,18 @@ abbrev mirrored_trace : List (List ℕ)
 mirrored_trace = codes "--mirrors=a" ∷ codes "e" ∷ codes "o" ∷ codes "1=b" ∷ []
 
 the_mirrors_come_after_the_steps_and_before_the_traces :
-    (outcome mirrored_trace (Some (codes "actions")) None ≡ Err (Text (codes "e") (script.Line 1 (text.Syntax 1))))
-    × ((outcome stepped_and_mirrored (Some []) (Some (codes "rx 2")) ≡ Err (Steps (codes "a") (given.Line 1 (text.BadValue 4))))
+    (outcome mirrored_trace (Some (codes "actions")) None ≡ Err (Text (codes "e") (fault.Line 1 (text.Syntax 1))))
+    × ((outcome stepped_and_mirrored (Some []) (Some (codes "rx 2")) ≡ Err (Text (codes "a") (fault.Line 1 (text.BadValue 4))))
     × ((outcome stepped_and_mirrored (Some []) (Some (codes "rx 1")) ≡ Err (Missing (codes "m")))
     × ((outcome mirrored_trace (Some []) None ≡ Err (Missing (codes "a")))
-    × ((outcome mirrored_trace (Some []) (Some (codes "select_all\nselect_src_port=2")) ≡ Err (Mirrors (codes "a") (mirroring.Line 2 (text.BadValue 17))))
+    × ((outcome mirrored_trace (Some []) (Some (codes "select_all\nselect_src_port=2")) ≡ Err (Text (codes "a") (fault.Line 2 (text.BadValue 17))))
     × (outcome mirrored_trace (Some []) (Some (codes "select_all\nselect_src_port=1")) ≡ Err (Missing (codes "b")))))))
-unfolding outcome number_in port_in step_in with_words steps_file.with_line steps_file.with_lines steps_of mirrors_file.port_in mirrors_file.with_port mirrors_file.with_valued mirrors_file.with_bare mirrors_file.with_item mirrors_file.with_items mirrors_file.mirror_in mirrors_file.with_line mirrors_file.with_lines mirrors_file.mirrors_in
+unfolding outcome number_in port_in step_in with_words steps_file.with_line with_lines steps_of mirrors_file.port_in mirrors_file.with_port mirrors_file.with_valued mirrors_file.with_bare mirrors_file.with_item mirrors_file.with_items mirrors_file.mirror_in mirrors_file.with_line mirrors_file.mirrors_in
 the_mirrors_come_after_the_steps_and_before_the_traces = (refl, (refl, (refl, (refl, (refl, refl)))))
 
 a_mirrors_file_has_at_most_65536_bytes :
     (outcome mirrored_trace (Some []) (Some (replicate 65537 10)) ≡ Err (Limit MirrorsBytes))
-    × (map (refused_mirrors (codes "a")) (mirroring.LineTooLong ∷ mirroring.TooManyMirrors ∷ []) ≡ Limit Line ∷ Limit MirrorCount ∷ [])
+    × (map (refused_text (codes "a")) (fault.LineTooLong ∷ fault.TooManyMirrors ∷ []) ≡ Limit Line ∷ Limit Mirrors ∷ [])
 unfolding outcome
 a_mirrors_file_has_at_most_65536_bytes = (refl, refl)
 
@@ -240,11 +239,11 @@ run_by options = steps_and_ran (verdict (options ++ codes "e" ∷ codes "o" ∷ 
 
 steps_are_told_where_a_file_gives_them :
     (run_by [] ≡ Some ([], None)) × (run_by (codes "--steps=a" ∷ []) ≡ Some (step.Edit ∷ step.Rx 1 ∷ [], Some (record { steps = 2; unmet = 2 })))
-unfolding run_in verdict command_in script_in traces_after digits_upto decimal_upto port_number port_word new_port port_words command_of command_line.command_in command_line.files_in clap_on_literals words changes_to with_line with_lines script_of number_in port_in step_in with_words steps_file.with_line steps_file.with_lines steps_of finish finish_board least_block with_given_steps frames_in ends_after
+unfolding run_in verdict command_in script_in traces_after digits_upto decimal_upto port_number port_word new_port port_words command_of command_line.command_in command_line.files_in clap_on_literals words changes_to with_line with_lines script_of number_in port_in step_in with_words steps_file.with_line steps_of finish finish_board least_block with_given_steps frames_in ends_after
 steps_are_told_where_a_file_gives_them = (refl, refl)
 
 the_edits_come_before_the_traces :
-    (outcome said None None ≡ Err (Missing (codes "e"))) × (outcome said (Some (codes "actions")) None ≡ Err (Text (codes "e") (script.Line 1 (text.Syntax 1))))
+    (outcome said None None ≡ Err (Missing (codes "e"))) × (outcome said (Some (codes "actions")) None ≡ Err (Text (codes "e") (fault.Line 1 (text.Syntax 1))))
 unfolding outcome
 the_edits_come_before_the_traces = (refl, refl)
 
@@ -285,7 +284,7 @@ the_mirrors_are_opened_after_the_steps_and_before_the_traces :
     (opened_twice [] ≡ codes "e" ∷ codes "a" ∷ codes "a" ∷ codes "b" ∷ [])
     × ((opened_twice (codes "rx 1") ≡ codes "e" ∷ codes "a" ∷ codes "a" ∷ [])
     × (opened_twice (codes "select_all") ≡ codes "e" ∷ codes "a" ∷ []))
-unfolding files_opened sources_opened later_opened last_opened traces_opened command_in script_in file_in digits_upto decimal_upto port_number port_word new_port port_words command_of command_line.command_in command_line.files_in clap_on_literals words changes_to with_line with_lines script_of number_in port_in step_in with_words steps_file.with_line steps_file.with_lines steps_of mirrors_file.port_in mirrors_file.with_port mirrors_file.with_valued mirrors_file.with_bare mirrors_file.with_item mirrors_file.with_items mirrors_file.mirror_in mirrors_file.with_line mirrors_file.with_lines mirrors_file.mirrors_in
+unfolding files_opened sources_opened later_opened last_opened traces_opened command_in script_in file_in digits_upto decimal_upto port_number port_word new_port port_words command_of command_line.command_in command_line.files_in clap_on_literals words changes_to with_line with_lines script_of number_in port_in step_in with_words steps_file.with_line steps_of mirrors_file.port_in mirrors_file.with_port mirrors_file.with_valued mirrors_file.with_bare mirrors_file.with_item mirrors_file.with_items mirrors_file.mirror_in mirrors_file.with_line mirrors_file.mirrors_in
 the_mirrors_are_opened_after_the_steps_and_before_the_traces = (refl, (refl, refl))
 
 nothing_is_opened_for_what_a_number_makes : files_opened (codes "--generate=7" ∷ []) (files None None) ≡ []
@@ -318,8 +317,8 @@ the_texts_of_faulty_traces = (refl, (refl, (refl, (refl, (refl, (refl, refl)))))
 abbrev limits_and_their_texts : List (Quantity × List ℕ)
 limits_and_their_texts =
     (EditsBytes, codes "limit: edits-bytes 33554432\n") ∷ (StepsBytes, codes "limit: steps-bytes 4194304\n") ∷
-    (MirrorsBytes, codes "limit: mirrors-bytes 65536\n") ∷ (MirrorCount, codes "limit: mirrors 16\n") ∷
-    (StepCount, codes "limit: steps 131072\n") ∷ (Line, codes "limit: line 4096\n") ∷ (Edits, codes "limit: edits 32768\n") ∷
+    (MirrorsBytes, codes "limit: mirrors-bytes 65536\n") ∷ (Mirrors, codes "limit: mirrors 16\n") ∷
+    (Steps, codes "limit: steps 131072\n") ∷ (Line, codes "limit: line 4096\n") ∷ (Edits, codes "limit: edits 32768\n") ∷
     (Syncs, codes "limit: syncs 63\n") ∷ (Actions, codes "limit: actions 64\n") ∷ (Changes, codes "limit: changes 1048576\n") ∷
     (TraceBytes, codes "limit: trace-bytes 268435456\n") ∷ (Frames, codes "limit: frames 131072\n") ∷ []
 
@@ -328,21 +327,21 @@ unfolding digits
 the_texts_of_limits = refl
 
 the_texts_of_faulty_edits :
-    (script_text (codes "edits") (script.Line 3 (text.BadValue 11)) ≡ codes "edits:3:11: bad value\n")
-    × ((script_text (codes "edits") (script.Line 1 (text.UnknownName 1)) ≡ codes "edits:1:1: unknown name\n")
-    × ((script_text (codes "edits") (script.Line 1 (text.Unsupported 9)) ≡ codes "edits:1:9: unsupported\n")
-    × ((script_text (codes "edits") (script.Line 1 (text.Repeated 11)) ≡ codes "edits:1:11: repeated\n")
-    × ((script_text (codes "edits") (script.Line 1 (text.Syntax 10)) ≡ codes "edits:1:10: syntax\n")
-    × (script_text (codes "edits") (script.SyncOrder 2) ≡ codes "edits:2:1: sync order\n")))))
+    (file_text (codes "edits") (fault.Line 3 (text.BadValue 11)) ≡ codes "edits:3:11: bad value\n")
+    × ((file_text (codes "edits") (fault.Line 1 (text.UnknownName 1)) ≡ codes "edits:1:1: unknown name\n")
+    × ((file_text (codes "edits") (fault.Line 1 (text.Unsupported 9)) ≡ codes "edits:1:9: unsupported\n")
+    × ((file_text (codes "edits") (fault.Line 1 (text.Repeated 11)) ≡ codes "edits:1:11: repeated\n")
+    × ((file_text (codes "edits") (fault.Line 1 (text.Syntax 10)) ≡ codes "edits:1:10: syntax\n")
+    × (file_text (codes "edits") (fault.SyncOrder 2) ≡ codes "edits:2:1: sync order\n")))))
 unfolding digits
 the_texts_of_faulty_edits = (refl, (refl, (refl, (refl, (refl, refl)))))
 
 a_faulty_mirrors_file_ends_with_3 :
-    (status_of (Mirrors (codes "mirrors") (mirroring.Line 1 (text.BadValue 17))) ≡ 3)
-    × ((mirrors_text (codes "mirrors") (mirroring.Line 1 (text.BadValue 17)) ≡ codes "mirrors:1:17: bad value\n")
-    × ((mirrors_text (codes "m") (mirroring.Line 2 (text.Syntax 1)) ≡ codes "m:2:1: syntax\n")
-    × ((mirrors_text (codes "m") (mirroring.Line 3 (text.UnknownName 4)) ≡ codes "m:3:4: unknown name\n")
-    × (mirrors_text (codes "m") (mirroring.Line 16 (text.Repeated 19)) ≡ codes "m:16:19: repeated\n"))))
+    (status_of (Text (codes "mirrors") (fault.Line 1 (text.BadValue 17))) ≡ 3)
+    × ((file_text (codes "mirrors") (fault.Line 1 (text.BadValue 17)) ≡ codes "mirrors:1:17: bad value\n")
+    × ((file_text (codes "m") (fault.Line 2 (text.Syntax 1)) ≡ codes "m:2:1: syntax\n")
+    × ((file_text (codes "m") (fault.Line 3 (text.UnknownName 4)) ≡ codes "m:3:4: unknown name\n")
+    × (file_text (codes "m") (fault.Line 16 (text.Repeated 19)) ≡ codes "m:16:19: repeated\n"))))
 unfolding digits
 a_faulty_mirrors_file_ends_with_3 = (refl, (refl, (refl, (refl, refl))))
 

@@ -13,11 +13,12 @@ use Rattle.clap.proofs.OnLiterals.{clap_on_literals}
 use Rattle.spec_words.specs.Words as command_line
 use Rattle.spec_words.specs.Words.{PortWord, port_number, port_word, new_port, port_words, command_of}
 use Rattle.spec_flow_text.specs.declared.fault.TextFault.TheVariants as text
-use Rattle.spec_script.specs.declared.fault.ScriptFault.{ScriptFault}
-use Rattle.spec_script.specs.declared.fault.ScriptFault.TheVariants as script
-use Rattle.spec_script.specs.Script.{with_line, with_lines, script_of}
-use Rattle.spec_run.specs.declared.quantity.Quantity.TheVariants.{Line, Edits, Syncs, Actions, TraceBytes, Frames}
-use Rattle.spec_run.specs.Verdict.{Files, Refusal, Text, Trace, Limit, command_in, script_in, file_in, refused_script, refused_trace, traces_after, traces_in, traces_opened, last_opened, later_opened, sources_opened, files_opened, run_in, verdict}
+use Rattle.spec_script.specs.declared.fault.FileFault.{FileFault}
+use Rattle.spec_script.specs.declared.fault.FileFault.TheVariants as fault
+use Rattle.spec_script.specs.Lines.{with_lines}
+use Rattle.spec_script.specs.Script.{with_line, script_of}
+use Rattle.spec_run.specs.declared.quantity.Quantity.TheVariants.{Line, Edits, Syncs, Actions, Steps, Mirrors, TraceBytes, Frames}
+use Rattle.spec_run.specs.Verdict.{Files, Refusal, Text, Trace, Limit, command_in, script_in, file_in, refused_text, refused_trace, traces_after, traces_in, traces_opened, last_opened, later_opened, sources_opened, files_opened, run_in, verdict}
 
 -- 60 bytes from 00:00:00:00:00:01 to 00:00:00:00:00:02, of the type 0x88b5 for local experiments (IEEE 802)
 abbrev frame : Frame
@@ -110,21 +111,23 @@ a_board_keeps_as_many_megaflows_as_the_words_say_or_8192 = (refl, refl)
 -- ---- faults
 
 -- what is a fault of the text, and what is above a limit
-abbrev faults_and_their_refusals : List (ScriptFault × Refusal)
+abbrev faults_and_their_refusals : List (FileFault × Refusal)
 faults_and_their_refusals =
-    (script.Line 7 (text.Syntax 2), Text (codes "e") (script.Line 7 (text.Syntax 2))) ∷
-    (script.Line 7 (text.UnknownName 2), Text (codes "e") (script.Line 7 (text.UnknownName 2))) ∷
-    (script.Line 7 (text.Unsupported 2), Text (codes "e") (script.Line 7 (text.Unsupported 2))) ∷
-    (script.Line 7 (text.BadValue 2), Text (codes "e") (script.Line 7 (text.BadValue 2))) ∷
-    (script.Line 7 (text.Repeated 2), Text (codes "e") (script.Line 7 (text.Repeated 2))) ∷
-    (script.Line 7 text.TooManyActions, Limit Actions) ∷
-    (script.SyncOrder 7, Text (codes "e") (script.SyncOrder 7)) ∷
-    (script.LineTooLong, Limit Line) ∷
-    (script.TooManyEdits, Limit Edits) ∷
-    (script.TooManySyncs, Limit Syncs) ∷ []
+    (fault.Line 7 (text.Syntax 2), Text (codes "e") (fault.Line 7 (text.Syntax 2))) ∷
+    (fault.Line 7 (text.UnknownName 2), Text (codes "e") (fault.Line 7 (text.UnknownName 2))) ∷
+    (fault.Line 7 (text.Unsupported 2), Text (codes "e") (fault.Line 7 (text.Unsupported 2))) ∷
+    (fault.Line 7 (text.BadValue 2), Text (codes "e") (fault.Line 7 (text.BadValue 2))) ∷
+    (fault.Line 7 (text.Repeated 2), Text (codes "e") (fault.Line 7 (text.Repeated 2))) ∷
+    (fault.Line 7 text.TooManyActions, Limit Actions) ∷
+    (fault.SyncOrder 7, Text (codes "e") (fault.SyncOrder 7)) ∷
+    (fault.LineTooLong, Limit Line) ∷
+    (fault.TooManyEdits, Limit Edits) ∷
+    (fault.TooManySyncs, Limit Syncs) ∷
+    (fault.TooManySteps, Limit Steps) ∷
+    (fault.TooManyMirrors, Limit Mirrors) ∷ []
 
 what_is_above_a_limit_is_no_fault_of_the_text :
-    map (λ row. refused_script (codes "e") row.0) faults_and_their_refusals ≡ map (λ row. row.1) faults_and_their_refusals
+    map (λ row. refused_text (codes "e") row.0) faults_and_their_refusals ≡ map (λ row. row.1) faults_and_their_refusals
 what_is_above_a_limit_is_no_fault_of_the_text = refl
 
 abbrev faults_of_traces : List PcapFault

@@ -1,7 +1,8 @@
 -- The quantities that have a limit: their names and their greatest numbers (this profile).
 use Rattle.std.specs.Prelude.{ℕ, List, codes}
 use Rattle.spec_flow_text.specs.Actions.{most_actions}
-use Rattle.spec_script.specs.Script.{most_line_bytes, most_edits, most_syncs}
+use Rattle.spec_script.specs.Lines.{most_line_bytes}
+use Rattle.spec_script.specs.Script.{most_edits, most_syncs}
 use Rattle.spec_steps.specs.Steps.{most_steps}
 use Rattle.spec_mirrors.specs.Mirrors.{most_mirrors_bytes, most_mirrors}
 use Rattle.spec_run.specs.declared.quantity.Quantity.{Quantity}

@@ -8,16 +8,12 @@ use Rattle.spec_numbers.specs.Characters.{dot}
 use Rattle.spec_board.specs.Texts.{line_of}
 use Rattle.spec_flow_text.specs.declared.fault.TextFault.{TextFault}
 use Rattle.spec_flow_text.specs.declared.fault.TextFault.TheVariants as text
-use Rattle.spec_script.specs.declared.fault.ScriptFault.{ScriptFault}
-use Rattle.spec_script.specs.declared.fault.ScriptFault.TheVariants as script
-use Rattle.spec_steps.specs.declared.fault.StepsFault.{StepsFault}
-use Rattle.spec_steps.specs.declared.fault.StepsFault.TheVariants as given
-use Rattle.spec_mirrors.specs.declared.fault.MirrorFault.{MirrorFault}
-use Rattle.spec_mirrors.specs.declared.fault.MirrorFault.TheVariants as mirroring
+use Rattle.spec_script.specs.declared.fault.FileFault.{FileFault}
+use Rattle.spec_script.specs.declared.fault.FileFault.TheVariants as fault
 use Rattle.spec_run.specs.declared.quantity.Quantity.{Quantity}
-use Rattle.spec_run.specs.declared.quantity.Quantity.TheVariants.{Line, Edits, Syncs, Steps as StepCount, Mirrors as MirrorCount}
+use Rattle.spec_run.specs.declared.quantity.Quantity.TheVariants.{Line, Edits, Syncs, Steps, Mirrors}
 use Rattle.spec_run.specs.Limits.{limit_of, quantity_name}
-use Rattle.spec_run.specs.Verdict.{Files, Refusal, Usage, Missing, Text, Steps, Mirrors, Trace, Limit, verdict}
+use Rattle.spec_run.specs.Verdict.{Files, Refusal, Usage, Missing, Text, Trace, Limit, verdict}
 
 -- all is done
 abbrev pub done_status : ℕ
@@ -104,25 +100,16 @@ abbrev pub place_text : List ℕ → ℕ → ℕ → List ℕ → List ℕ
 place_text name line col reason =
     name ++ (codes ":" ++ (decimal line ++ (codes ":" ++ (decimal col ++ line_of (codes ": " ++ reason)))))
 
-abbrev pub script_text : List ℕ → ScriptFault → List ℕ
-script_text name (script.Line line why) = place_text name line (column_of why) (line_reason why)
-script_text name (script.SyncOrder line) = place_text name line 1 (codes "sync order")
-script_text name script.LineTooLong = limit_text Line
-script_text name script.TooManyEdits = limit_text Edits
-script_text name script.TooManySyncs = limit_text Syncs
-script_text name script.OutOfMemory = out_of_memory_text
-
-abbrev pub steps_text : List ℕ → StepsFault → List ℕ
-steps_text name (given.Line line why) = place_text name line (column_of why) (line_reason why)
-steps_text name given.LineTooLong = limit_text Line
-steps_text name given.TooManySteps = limit_text StepCount
-steps_text name given.OutOfMemory = out_of_memory_text
-
-abbrev pub mirrors_text : List ℕ → MirrorFault → List ℕ
-mirrors_text name (mirroring.Line line why) = place_text name line (column_of why) (line_reason why)
-mirrors_text name mirroring.LineTooLong = limit_text Line
-mirrors_text name mirroring.TooManyMirrors = limit_text MirrorCount
-mirrors_text name mirroring.OutOfMemory = out_of_memory_text
+-- what is wrong with a file of lines
+abbrev pub file_text : List ℕ → FileFault → List ℕ
+file_text name (fault.Line line why) = place_text name line (column_of why) (line_reason why)
+file_text name (fault.SyncOrder line) = place_text name line 1 (codes "sync order")
+file_text name fault.LineTooLong = limit_text Line
+file_text name fault.TooManyEdits = limit_text Edits
+file_text name fault.TooManySyncs = limit_text Syncs
+file_text name fault.TooManySteps = limit_text Steps
+file_text name fault.TooManyMirrors = limit_text Mirrors
+file_text name fault.OutOfMemory = out_of_memory_text
 
 abbrev pub trace_text : List ℕ → PcapFault → List ℕ
 trace_text name fault = name ++ line_of (codes ": " ++ reason fault)
@@ -133,9 +120,7 @@ trace_text name fault = name ++ line_of (codes ": " ++ reason fault)
 abbrev pub status_of : Refusal → ℕ
 status_of Usage = usage_status
 status_of (Missing name) = read_fault_status
-status_of (Text name fault) = text_status
-status_of (Steps name fault) = text_status
-status_of (Mirrors name fault) = text_status
+status_of (Text name why) = text_status
 status_of (Trace name fault) = trace_status
 status_of (Limit q) = limit_status
 
@@ -143,9 +128,7 @@ status_of (Limit q) = limit_status
 abbrev pub text_of : Refusal → List ℕ
 text_of Usage = usage_text
 text_of (Missing name) = read_fault_text name
-text_of (Text name fault) = script_text name fault
-text_of (Steps name fault) = steps_text name fault
-text_of (Mirrors name fault) = mirrors_text name fault
+text_of (Text name why) = file_text name why
 text_of (Trace name fault) = trace_text name fault
 text_of (Limit q) = limit_text q
 

@@ -11,33 +11,27 @@ use Rattle.spec_case.specs.Run.{Run}
 use Rattle.spec_words.specs.Words.{PortWord, Input, Files as Named, Made, Command, command_of, has_trace}
 use Rattle.spec_tables.specs.Changes.{changes_to}
 use Rattle.spec_flow_text.specs.declared.fault.TextFault.TheVariants as text
-use Rattle.spec_script.specs.declared.fault.ScriptFault.{ScriptFault}
-use Rattle.spec_script.specs.declared.fault.ScriptFault.TheVariants as script
+use Rattle.spec_script.specs.declared.fault.FileFault.{FileFault}
+use Rattle.spec_script.specs.declared.fault.FileFault.TheVariants as fault
 use Rattle.spec_script.specs.Script.{Script, script_of}
-use Rattle.spec_steps.specs.declared.fault.StepsFault.{StepsFault}
-use Rattle.spec_steps.specs.declared.fault.StepsFault.TheVariants as given
 use Rattle.spec_steps.specs.Steps as steps_file
-use Rattle.spec_mirrors.specs.declared.fault.MirrorFault.{MirrorFault}
-use Rattle.spec_mirrors.specs.declared.fault.MirrorFault.TheVariants as mirroring
 use Rattle.spec_mirrors.specs.Mirrors as mirrors_file
 use Rattle.spec_mirrors.specs.Mirrors.{Mirror, most_mirrors_bytes}
 use Rattle.spec_made.specs.Made.{edits_made, trace_made}
 use Rattle.spec_run.specs.declared.quantity.Quantity.{Quantity}
-use Rattle.spec_run.specs.declared.quantity.Quantity.TheVariants.{EditsBytes, StepsBytes, MirrorsBytes, Line, Edits, Syncs, Actions, Steps as StepCount, Mirrors as MirrorCount, Changes, TraceBytes, Frames}
+use Rattle.spec_run.specs.declared.quantity.Quantity.TheVariants.{EditsBytes, StepsBytes, MirrorsBytes, Line, Edits, Syncs, Actions, Steps, Mirrors, Changes, TraceBytes, Frames}
 use Rattle.spec_run.specs.Limits.{most_edits_bytes, most_steps_bytes, most_changes, most_trace_bytes, most_frames}
 
 -- the bytes of a file by its name, where there is one
 abbrev pub Files : Type 0
 Files = List ℕ → Option (List ℕ)
 
--- Why there is no run: words that the program doesn't take, a file that isn't there, the file of edits by its name and what
--- is wrong with it, the steps file, the mirrors file and a trace likewise, or a quantity that is above its limit.
+-- Why there is no run: words that the program doesn't take, a file that isn't there, the file of edits, the steps file or the
+-- mirrors file by its name and what is wrong with it, a trace likewise, or a quantity that is above its limit.
 pub data Refusal : Type 0 where
   Usage : Refusal
   Missing : List ℕ → Refusal
-  Text : List ℕ → ScriptFault → Refusal
-  Steps : List ℕ → StepsFault → Refusal
-  Mirrors : List ℕ → MirrorFault → Refusal
+  Text : List ℕ → FileFault → Refusal
   Trace : List ℕ → PcapFault → Refusal
   Limit : Quantity → Refusal
 
@@ -101,24 +95,27 @@ files_for files (Made number) = lookup_or_empty (made_list number)
 abbrev pub bytes_in : Files → List ℕ → Result (List ℕ) Refusal
 bytes_in files name = ok_or (files name) (Missing name)
 
+-- a file of lines with this fault is refused
+abbrev pub refused_text : List ℕ → FileFault → Refusal
+refused_text name (fault.Line line text.TooManyActions) = Limit Actions
+refused_text name fault.LineTooLong = Limit Line
+refused_text name fault.TooManyEdits = Limit Edits
+refused_text name fault.TooManySyncs = Limit Syncs
+refused_text name fault.TooManySteps = Limit Steps
+refused_text name fault.TooManyMirrors = Limit Mirrors
+refused_text name why = Text name why
+
+-- what a file of lines says, if it has no fault
+abbrev pub text_or_refusal : {A : Type 0} → List ℕ → Result A FileFault → Result A Refusal
+text_or_refusal name (Ok said) = Ok said
+text_or_refusal name (Err why) = Err (refused_text name why)
+
 -- ---- the edits
-
--- a file of edits with this fault is refused
-abbrev pub refused_script : List ℕ → ScriptFault → Refusal
-refused_script name (script.Line line text.TooManyActions) = Limit Actions
-refused_script name script.LineTooLong = Limit Line
-refused_script name script.TooManyEdits = Limit Edits
-refused_script name script.TooManySyncs = Limit Syncs
-refused_script name fault = Text name fault
-
-abbrev pub script_or_refusal : List ℕ → Result Script ScriptFault → Result Script Refusal
-script_or_refusal name (Ok s) = Ok s
-script_or_refusal name (Err fault) = Err (refused_script name fault)
 
 -- a file of so many bytes at most
 abbrev pub script_within : List ℕ → List ℕ → Result Script Refusal
 script_within name bytes =
-    if nat_lt most_edits_bytes (length bytes) then Err (Limit EditsBytes) else script_or_refusal name (script_of bytes)
+    if nat_lt most_edits_bytes (length bytes) then Err (Limit EditsBytes) else text_or_refusal name (script_of bytes)
 
 -- the edits change no more rules than they may
 abbrev pub with_few_changes : Script → Result Script Refusal
@@ -129,20 +126,10 @@ script_in files name = bytes_in files name >>= script_within name >>= with_few_c
 
 -- ---- the steps
 
--- a steps file with this fault is refused
-abbrev pub refused_steps : List ℕ → StepsFault → Refusal
-refused_steps name given.LineTooLong = Limit Line
-refused_steps name given.TooManySteps = Limit StepCount
-refused_steps name fault = Steps name fault
-
-abbrev pub steps_or_refusal : List ℕ → Result (List RunStep) StepsFault → Result (List RunStep) Refusal
-steps_or_refusal name (Ok steps) = Ok steps
-steps_or_refusal name (Err fault) = Err (refused_steps name fault)
-
 -- a file of so many bytes at most, for a switch of these ports
 abbrev pub steps_within : List ℕ → List ℕ → List ℕ → Result (List RunStep) Refusal
 steps_within ports name bytes =
-    if nat_lt most_steps_bytes (length bytes) then Err (Limit StepsBytes) else steps_or_refusal name (steps_file.steps_of ports bytes)
+    if nat_lt most_steps_bytes (length bytes) then Err (Limit StepsBytes) else text_or_refusal name (steps_file.steps_of ports bytes)
 
 -- no step is given where there is no file
 abbrev pub steps_in : Files → List ℕ → Option (List ℕ) → Result (List RunStep) Refusal
@@ -151,21 +138,11 @@ steps_in files ports (Some name) = bytes_in files name >>= steps_within ports na
 
 -- ---- the mirrors
 
--- a mirrors file with this fault is refused
-abbrev pub refused_mirrors : List ℕ → MirrorFault → Refusal
-refused_mirrors name mirroring.LineTooLong = Limit Line
-refused_mirrors name mirroring.TooManyMirrors = Limit MirrorCount
-refused_mirrors name fault = Mirrors name fault
-
-abbrev pub mirrors_or_refusal : List ℕ → Result (List Mirror) MirrorFault → Result (List Mirror) Refusal
-mirrors_or_refusal name (Ok mirrors) = Ok mirrors
-mirrors_or_refusal name (Err fault) = Err (refused_mirrors name fault)
-
 -- a file of so many bytes at most, for a switch of these ports
 abbrev pub mirrors_within : List ℕ → List ℕ → List ℕ → Result (List Mirror) Refusal
 mirrors_within ports name bytes =
     if nat_lt most_mirrors_bytes (length bytes) then Err (Limit MirrorsBytes)
-    else mirrors_or_refusal name (mirrors_file.mirrors_in ports bytes)
+    else text_or_refusal name (mirrors_file.mirrors_in ports bytes)
 
 -- there is no mirror where there is no file
 abbrev pub mirrors_in : Files → List ℕ → Option (List ℕ) → Result (List Mirror) Refusal

@@ -16,9 +16,10 @@ use Rattle.spec_flow_text.specs.Items.{words, with_part, with_shorthand, number_
 use Rattle.spec_flow_text.specs.Matches.{default_priority, kept, match_of, read_match}
 use Rattle.spec_flow_text.specs.Actions.{up_to_end, items, is_closed, argument_of, port_of, output, actions_of_item, read_items, read_actions}
 use Rattle.spec_flow_text.specs.Lines.{edit_from, edit_in}
-use Rattle.spec_script.specs.declared.fault.ScriptFault.{ScriptFault}
-use Rattle.spec_script.specs.declared.fault.ScriptFault.TheVariants.{Line, SyncOrder, LineTooLong, TooManyEdits, TooManySyncs}
-use Rattle.spec_script.specs.Script.{Script, seconds_of, fraction_of, seconds_with_fraction, time_of, sync_time, nothing_read, Reading, word_alone, with_begin, with_commit, with_edit, with_sync, with_line, with_lines, script_of}
+use Rattle.spec_script.specs.declared.fault.FileFault.{FileFault}
+use Rattle.spec_script.specs.declared.fault.FileFault.TheVariants.{Line, SyncOrder, LineTooLong, TooManyEdits, TooManySyncs}
+use Rattle.spec_script.specs.Lines.{with_next, with_lines}
+use Rattle.spec_script.specs.Script.{Script, seconds_of, fraction_of, seconds_with_fraction, time_of, sync_time, nothing_read, Reading, word_alone, with_begin, with_commit, with_edit, with_sync, with_line, script_of}
 
 -- ---- files
 
@@ -28,7 +29,7 @@ to_port port = record { word = Add; table = None; priority = default_priority; c
 abbrev says : List ℕ → List Edit → List SyncPoint → Type 0
 says bytes edits syncs = script_of bytes ≡ Ok (record { edits = edits; bundles = each_alone edits; syncs = syncs })
 
-abbrev fails : List ℕ → ScriptFault → Type 0
+abbrev fails : List ℕ → FileFault → Type 0
 fails bytes fault = script_of bytes ≡ Err fault
 
 lines_may_be_blank_and_the_last_may_lack_its_line_feed :
@@ -43,8 +44,9 @@ unfolding script_of with_lines with_line with_edit with_sync sync_time time_of s
 the_first_line_with_a_fault_decides = (refl, refl)
 
 a_line_has_at_most_4096_bytes :
-    (with_line 1 (replicate 4096 32) nothing_read ≡ Ok nothing_read)
-    × ((with_line 1 (replicate 4097 32) nothing_read ≡ Err LineTooLong) × (with_line 1 (replicate 4097 35) nothing_read ≡ Err LineTooLong))
+    (with_next with_line 1 (replicate 4096 32) nothing_read ≡ Ok nothing_read)
+    × ((with_next with_line 1 (replicate 4097 32) nothing_read ≡ Err LineTooLong)
+    × (with_next with_line 1 (replicate 4097 35) nothing_read ≡ Err LineTooLong))
 unfolding with_line
 a_line_has_at_most_4096_bytes = (refl, (refl, refl))
 
@@ -65,7 +67,7 @@ a_sync_time_is_in_seconds :
 unfolding script_of with_lines with_line with_sync sync_time time_of seconds_with_fraction seconds_of fraction_of words decimal_upto digits_upto
 a_sync_time_is_in_seconds = refl
 
-abbrev faults_of_sync_lines : List (List ℕ × ScriptFault)
+abbrev faults_of_sync_lines : List (List ℕ × FileFault)
 faults_of_sync_lines =
     (codes " sync", Line 1 (Syntax 2)) ∷ (codes "sync 1 2", Line 1 (Syntax 1)) ∷ (codes "sync 5. 3", Line 1 (Syntax 1)) ∷
     (codes "sync 01", Line 1 (BadValue 6)) ∷ (codes "sync 1.", Line 1 (BadValue 6)) ∷ (codes "sync  .5", Line 1 (BadValue 7)) ∷
@@ -123,7 +125,7 @@ a_bundle_without_an_edit_is_none :
 unfolding script_of with_lines with_line with_edit with_sync sync_time time_of seconds_with_fraction seconds_of fraction_of field_named is_field_left_out shorthand_named keyword_named item_named reserved_port_named is_action_left_out action_named value_in whole_value value_of bits_stated field_stated number_upto decimal_upto digits_upto words with_part with_shorthand number_once with_valued with_bare with_item items.read_items kept match_of none joined only_at read_match up_to_end items is_closed argument_of port_of output actions_of_item read_items read_actions edit_from edit_in with_begin with_commit word_alone
 a_bundle_without_an_edit_is_none = refl
 
-abbrev faults_of_bundles : List (List ℕ × ScriptFault)
+abbrev faults_of_bundles : List (List ℕ × FileFault)
 faults_of_bundles =
     (lines (codes "begin" ∷ codes "sync 1" ∷ []), Line 2 (Syntax 1)) ∷ (codes " begin", Line 1 (Syntax 2)) ∷ (codes "commit", Line 1 (Syntax 1)) ∷
     (lines (codes "begin" ∷ codes "  begin" ∷ []), Line 2 (Syntax 3)) ∷ (codes "begin x", Line 1 (Syntax 7)) ∷

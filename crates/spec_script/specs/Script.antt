@@ -6,10 +6,9 @@
 --
 -- A sync line gives a time: the edits after it begin a new block then. The edits between `begin` and `commit` are one
 -- bundle (ovs-ofctl(8), `bundle`), and each other edit is one by itself. From `#` on a line is comment.
-use Rattle.std.specs.Prelude.{ℕ, ◌+◌, ◌-◌, ◌*◌, ◌^◌, ◌==◌, nat_lt, nat_le, Bool, true, false, if◌then◌else◌, List, [], ◌∷◌, ◌++◌, length, slice_get, Option, Some, None, Result, Ok, Err, codes, bytes_eq, is_some}
-use Rattle.std.specs.List.{list_all, slice_split}
+use Rattle.std.specs.Prelude.{ℕ, ◌+◌, ◌-◌, ◌*◌, ◌^◌, nat_lt, nat_le, Bool, true, false, if◌then◌else◌, List, [], ◌∷◌, ◌++◌, length, slice_get, Option, Some, None, Result, Ok, Err, codes, bytes_eq, is_some}
 use Rattle.std.specs.Option.{ok_or, option_map, option_map_or, option_and_then, is_none}
-use Rattle.spec_numbers.specs.Characters.{line_feed, dot}
+use Rattle.spec_numbers.specs.Characters.{dot}
 use Rattle.spec_numbers.specs.Numbers.{where_found, split_once, digits_upto, decimal_upto}
 use Rattle.spec_tables.specs.declared.sync_point.SyncPoint.{SyncPoint}
 use Rattle.spec_tables.specs.Edits.{Edit}
@@ -19,14 +18,11 @@ use Rattle.spec_flow_text.specs.declared.fault.TextFault.TheVariants.{Syntax, Ba
 use Rattle.spec_flow_text.specs.Items.{Word, column, is_white, words}
 use Rattle.spec_flow_text.specs.Matches.{uncommented, ascii_from}
 use Rattle.spec_flow_text.specs.Lines.{first_word, edit_in}
-use Rattle.spec_script.specs.declared.fault.ScriptFault.{ScriptFault}
-use Rattle.spec_script.specs.declared.fault.ScriptFault.TheVariants.{Line, SyncOrder, LineTooLong, TooManyEdits, TooManySyncs}
+use Rattle.spec_script.specs.declared.fault.FileFault.{FileFault}
+use Rattle.spec_script.specs.declared.fault.FileFault.TheVariants.{Line, SyncOrder, TooManyEdits, TooManySyncs}
+use Rattle.spec_script.specs.Lines.{◌>>=◌, unless, in_line, is_blank, said_by}
 
 -- ---- limits
-
--- the most bytes of a line, without its line feed
-abbrev pub most_line_bytes : ℕ
-most_line_bytes = 4096
 
 abbrev pub most_edits : ℕ
 most_edits = 32768
@@ -113,20 +109,6 @@ column_in_words true (w ∷ next ∷ ws) = Err (Syntax (column next))
 column_in_words false (w ∷ ws) = Err (Syntax (column w))
 column_in_words may_stand [] = Err (Syntax 1)
 
-infixl 10 ◌>>=◌
-abbrev pub ◌>>=◌ : {A B E : Type 0} → Result A E → (A → Result B E) → Result B E
-(Ok a) >>= f = f a
-(Err e) >>= f = Err e
-
-abbrev pub unless : Bool → ScriptFault → Result Bool ScriptFault
-unless true e = Ok true
-unless false e = Err e
-
--- what is wrong with a line is told with its number
-abbrev pub in_line : {A : Type 0} → ℕ → Result A TextFault → Result A ScriptFault
-in_line number (Ok a) = Ok a
-in_line number (Err why) = Err (Line number why)
-
 -- the time of a sync line
 unfoldable pub sync_time : Option Begun → List ℕ → Result ℕ TextFault
 sync_time begun line = words_of line >>= time_in_words begun
@@ -146,7 +128,7 @@ with_edit_in None e s = with_bundle (record s { edits = s.edits ++ e ∷ [] })
 with_edit_in (Some b) e s = record s { edits = s.edits ++ e ∷ [] }
 
 -- the script with the edit of one more line
-unfoldable pub with_edit : ℕ → List ℕ → Reading → Result Reading ScriptFault
+unfoldable pub with_edit : ℕ → List ℕ → Reading → Result Reading FileFault
 with_edit number line r = do
   room ← unless (nat_lt (length r.said.edits) most_edits) TooManyEdits
   e ← in_line number (edit_in line)
@@ -161,7 +143,7 @@ abbrev pub sync_at : List ℕ → ℕ → SyncPoint
 sync_at bundles time = record { time = time; after = length bundles }
 
 -- the script with a sync point more, which is no earlier than the one before it
-unfoldable pub with_sync : ℕ → List ℕ → Reading → Result Reading ScriptFault
+unfoldable pub with_sync : ℕ → List ℕ → Reading → Result Reading FileFault
 with_sync number line r = do
   room ← unless (nat_lt (length r.said.syncs) most_syncs) TooManySyncs
   time ← in_line number (sync_time r.begun line)
@@ -169,49 +151,35 @@ with_sync number line r = do
   Ok (reads (record r.said { syncs = r.said.syncs ++ sync_at r.said.bundles time ∷ [] }) r)
 
 -- a bundle is begun
-unfoldable pub with_begin : ℕ → List ℕ → Reading → Result Reading ScriptFault
+unfoldable pub with_begin : ℕ → List ℕ → Reading → Result Reading FileFault
 with_begin number line r = do
   column ← in_line number (word_alone (is_none r.begun) line)
   Ok (record r { begun = Some (record { line = number; column = column }) })
 
 -- the bundle that was begun ends; without an edit in it there is none
-unfoldable pub with_commit : ℕ → List ℕ → Reading → Result Reading ScriptFault
+unfoldable pub with_commit : ℕ → List ℕ → Reading → Result Reading FileFault
 with_commit number line r = do
   column ← in_line number (word_alone (is_some r.begun) line)
   Ok (record { said = with_bundle r.said; begun = None })
-
--- whether a line has nothing but white space before its comment
-abbrev pub is_blank : List ℕ → Bool
-is_blank line = list_all is_white (uncommented line)
 
 -- whether this is a line's first word
 abbrev pub begins_with : List ℕ → List ℕ → Bool
 begins_with word line = bytes_eq word (first_word (uncommented line)).text
 
 -- the script with that of one more line
-unfoldable pub with_line : ℕ → List ℕ → Reading → Result Reading ScriptFault
+unfoldable pub with_line : ℕ → List ℕ → Reading → Result Reading FileFault
 with_line number line r =
-    if nat_lt most_line_bytes (length line) then Err LineTooLong
-    else (if is_blank line then Ok r
+    if is_blank line then Ok r
     else (if begins_with (codes "sync") line then with_sync number line r
     else (if begins_with (codes "begin") line then with_begin number line r
     else (if begins_with (codes "commit") line then with_commit number line r
-    else with_edit number line r))))
-
--- the lines from this number on
-unfoldable pub with_lines : ℕ → List (List ℕ) → Reading → Result Reading ScriptFault
-with_lines number [] r = Ok r
-with_lines number (line ∷ lines) r = with_line number line r >>= with_lines (number + 1) lines
+    else with_edit number line r)))
 
 -- what a whole file says; the bundle that was begun last is committed
-abbrev pub read_whole : Option Begun → Script → Result Script ScriptFault
+abbrev pub read_whole : Option Begun → Script → Result Script FileFault
 read_whole None s = Ok s
 read_whole (Some b) s = Err (Line b.line (Syntax b.column))
 
--- the lines of a text; the last may lack its line feed
-abbrev pub lines_of : List ℕ → List (List ℕ)
-lines_of text = slice_split (λ c. c == line_feed) text
-
 -- what the bytes of a file say
-unfoldable pub script_of : List ℕ → Result Script ScriptFault
-script_of bytes = with_lines 1 (lines_of bytes) nothing_read >>= λ r. read_whole r.begun r.said
+unfoldable pub script_of : List ℕ → Result Script FileFault
+script_of bytes = said_by with_line bytes nothing_read >>= λ r. read_whole r.begun r.said

@@ -1,13 +1,13 @@
 ghost use Rattle.std.specs.Prelude.{◌≡◌};
-ghost use Rattle.spec_script.specs.declared.fault.ScriptFault.TheVariants.{OutOfMemory};
+ghost use Rattle.spec_script.specs.declared.fault.FileFault.TheVariants.{OutOfMemory};
 
 use spec_flow_text::TextFault;
 use std::alloc::{AllocError, AllocFailed};
 
-/// What is wrong with a file of edits. Lines are counted from 1.
+/// What is wrong with a file of lines: the file of edits, a steps file or a mirrors file. Lines are counted from 1.
 #[derive(Clone, Copy, PartialEq, Eq)]
-pub enum ScriptFault {
-    /// A line is no edit, and no sync line either.
+pub enum FileFault {
+    /// A line is none of such a file. `why` is never `OutOfMemory`.
     Line { line: u32, why: TextFault },
     /// The time of a sync line is below that of the one before it.
     SyncOrder { line: u32 },
@@ -17,21 +17,25 @@ pub enum ScriptFault {
     TooManyEdits,
     /// The file has more than 63 sync lines.
     TooManySyncs,
+    /// The file has more than 131,072 steps.
+    TooManySteps,
+    /// The file has more than 16 mirrors.
+    TooManyMirrors,
     OutOfMemory,
 }
 
-impl From<AllocError> for ScriptFault {
+impl From<AllocError> for FileFault {
     ghost from_gives = { λ _ fault. fault ≡ OutOfMemory };
 
-    fn from(_: AllocError) -> ScriptFault {
-        ScriptFault::OutOfMemory
+    fn from(_: AllocError) -> FileFault {
+        FileFault::OutOfMemory
     }
 }
 
-impl<T: Drop> From<AllocFailed<T>> for ScriptFault {
+impl<T: Drop> From<AllocFailed<T>> for FileFault {
     ghost from_gives = { λ _ fault. fault ≡ OutOfMemory };
 
-    fn from(_: AllocFailed<T>) -> ScriptFault {
-        ScriptFault::OutOfMemory
+    fn from(_: AllocFailed<T>) -> FileFault {
+        FileFault::OutOfMemory
     }
 }

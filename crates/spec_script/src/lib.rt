@@ -1,11 +1,11 @@
-//! The file of edits: its lines, each an edit of the tables, a sync line, or the begin or the end of a
-//! bundle, and what the whole file says, or what is wrong
-//! with it first.
+//! Files of lines, and the file of edits: its lines, each an edit of the tables, a sync line, or the begin or the end of a
+//! bundle, and what the whole file says, or what is wrong with it first.
 //!
-//! - `Script`: sync lines, bundles, limits, and what the lines of a file say, one after the other.
-//! - `Given`: what is said of a function that reads such a file, beside what is defined.
+//! - `Lines`: a file that is read line by line, as a steps file and a mirrors file are too, and which fault of it decides.
+//! - `Script`: sync lines, bundles, limits, and what each line of a file of edits says.
+//! - `Given`: what is said of a function that reads a file of lines, beside what is defined.
 #![tactic(auto)]
 
 mod fault;
 
-pub use fault::ScriptFault;
+pub use fault::FileFault;

@@ -6,15 +6,16 @@ use Rattle.spec_numbers.specs.Numbers.{digits_upto, decimal_upto, number_upto}
 use Rattle.spec_flow_text.specs.declared.fault.TextFault.{TextFault}
 use Rattle.spec_flow_text.specs.declared.fault.TextFault.TheVariants.{Syntax, UnknownName, BadValue}
 use Rattle.spec_flow_text.specs.Items.{words}
-use Rattle.spec_steps.specs.declared.fault.StepsFault.{StepsFault}
-use Rattle.spec_steps.specs.declared.fault.StepsFault.TheVariants.{Line, LineTooLong, TooManySteps}
-use Rattle.spec_steps.specs.Steps.{number_in, port_in, step_in, with_words, with_line, with_lines, steps_of}
+use Rattle.spec_script.specs.declared.fault.FileFault.{FileFault}
+use Rattle.spec_script.specs.declared.fault.FileFault.TheVariants.{Line, LineTooLong, TooManySteps}
+use Rattle.spec_script.specs.Lines.{with_next, with_lines}
+use Rattle.spec_steps.specs.Steps.{number_in, port_in, step_in, with_words, with_line, steps_of}
 
 -- of a switch with ports 2 and 70
 abbrev says : List ℕ → List RunStep → Type 0
 says bytes steps = steps_of (2 ∷ 70 ∷ []) bytes ≡ Ok steps
 
-abbrev fails : List ℕ → StepsFault → Type 0
+abbrev fails : List ℕ → FileFault → Type 0
 fails bytes fault = steps_of (2 ∷ 70 ∷ []) bytes ≡ Err fault
 
 each_step_has_its_word :
@@ -54,8 +55,8 @@ values_are_read_from_left_to_right = (refl, (refl, (refl, (refl, (refl, (refl, (
 
 -- the length of a line is tested before its words
 a_line_has_at_most_4096_bytes :
-    (with_line [] 1 (replicate 4096 32) [] ≡ Ok []) × ((with_line [] 1 (replicate 4097 32) [] ≡ Err LineTooLong)
-    × (with_line [] 1 (replicate 4097 120) [] ≡ Err LineTooLong))
+    (with_next (with_line []) 1 (replicate 4096 32) [] ≡ Ok []) × ((with_next (with_line []) 1 (replicate 4097 32) [] ≡ Err LineTooLong)
+    × (with_next (with_line []) 1 (replicate 4097 120) [] ≡ Err LineTooLong))
 unfolding with_line with_words step_in words
 a_line_has_at_most_4096_bytes = (refl, (refl, refl))
 

@@ -4,7 +4,7 @@
 --     sweep PORT  check PORT ENTRY   put PORT ENTRY  swept PORT         open PORT
 --
 -- Spaces and tabs stand between words. From `#` on a line is comment. A carriage return is a byte like others.
-use Rattle.std.specs.Prelude.{ℕ, ◌+◌, ◌==◌, nat_lt, Bool, true, ◌||◌, if◌then◌else◌, List, [], ◌∷◌, ◌++◌, length, Option, Some, None, Result, Ok, Err, codes}
+use Rattle.std.specs.Prelude.{ℕ, ◌==◌, nat_lt, Bool, true, ◌||◌, if◌then◌else◌, List, [], ◌∷◌, length, Option, Some, None, Result, Ok, Err, codes}
 use Rattle.std.specs.List.{find}
 use Rattle.std.specs.Option.{ok_or, option_and_then}
 use Rattle.spec_numbers.specs.Characters.{tab, space}
@@ -16,11 +16,11 @@ use Rattle.spec_flow_text.specs.declared.fault.TextFault.TheVariants.{Syntax, Un
 use Rattle.spec_flow_text.specs.Names.{meaning_of}
 use Rattle.spec_flow_text.specs.Items.{Word, column, words, ◌>>=◌}
 use Rattle.spec_flow_text.specs.Matches.{uncommented}
-use Rattle.spec_script.specs.Script.{most_line_bytes, lines_of}
+use Rattle.spec_script.specs.declared.fault.FileFault.{FileFault}
+use Rattle.spec_script.specs.declared.fault.FileFault.TheVariants.{TooManySteps}
+use Rattle.spec_script.specs.Lines.{in_line, and_one, said_by}
 use Rattle.spec_steps.specs.declared.step_word.StepWord.{StepWord}
 use Rattle.spec_steps.specs.declared.step_word.StepWord.TheVariants as word
-use Rattle.spec_steps.specs.declared.fault.StepsFault.{StepsFault}
-use Rattle.spec_steps.specs.declared.fault.StepsFault.TheVariants.{Line, LineTooLong, TooManySteps}
 
 -- ---- limits
 
@@ -106,31 +106,16 @@ is_gap c = (c == space) || (c == tab)
 abbrev pub words_of : List ℕ → List Word
 words_of line = words is_gap true 0 (uncommented line)
 
--- a step more, or what is wrong with its line
-abbrev pub and_step : ℕ → List RunStep → Result RunStep TextFault → Result (List RunStep) StepsFault
-and_step number steps (Ok step) = Ok (steps ++ step ∷ [])
-and_step number steps (Err why) = Err (Line number why)
-
 -- the steps with that of a line's words, if there are any. How many there are is tested before the line is read.
-unfoldable pub with_words : List ℕ → ℕ → List Word → List RunStep → Result (List RunStep) StepsFault
+unfoldable pub with_words : List ℕ → ℕ → List Word → List RunStep → Result (List RunStep) FileFault
 with_words ports number [] steps = Ok steps
 with_words ports number (first ∷ ws) steps =
-    if nat_lt (length steps) most_steps then and_step number steps (step_in ports first ws) else Err TooManySteps
+    if nat_lt (length steps) most_steps then and_one steps (in_line number (step_in ports first ws)) else Err TooManySteps
 
 -- the steps with that of one more line
-unfoldable pub with_line : List ℕ → ℕ → List ℕ → List RunStep → Result (List RunStep) StepsFault
-with_line ports number line steps =
-    if nat_lt most_line_bytes (length line) then Err LineTooLong else with_words ports number (words_of line) steps
-
--- the steps with those of the lines from this number on
-abbrev pub and_lines : (List RunStep → Result (List RunStep) StepsFault) → Result (List RunStep) StepsFault → Result (List RunStep) StepsFault
-and_lines more (Ok steps) = more steps
-and_lines more (Err fault) = Err fault
-
-unfoldable pub with_lines : List ℕ → ℕ → List (List ℕ) → List RunStep → Result (List RunStep) StepsFault
-with_lines ports number [] steps = Ok steps
-with_lines ports number (line ∷ lines) steps = and_lines (with_lines ports (number + 1) lines) (with_line ports number line steps)
+unfoldable pub with_line : List ℕ → ℕ → List ℕ → List RunStep → Result (List RunStep) FileFault
+with_line ports number line steps = with_words ports number (words_of line) steps
 
 -- what the bytes of a steps file say, for a switch of these ports
-unfoldable pub steps_of : List ℕ → List ℕ → Result (List RunStep) StepsFault
-steps_of ports bytes = with_lines ports 1 (lines_of bytes) []
+unfoldable pub steps_of : List ℕ → List ℕ → Result (List RunStep) FileFault
+steps_of ports bytes = said_by (with_line ports) bytes []

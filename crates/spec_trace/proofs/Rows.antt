@@ -30,7 +30,8 @@ use Rattle.spec_flow_text.specs.Lines.{edit_from, edit_in}
 use Rattle.spec_flow_text.specs.Printed.{value_in_text, shorthand_of, shown, match_printed, actions_printed}
 use Rattle.spec_dp_text.specs.Printed.{dp_actions_printed}
 use Rattle.spec_dumps.specs.Megaflows.{megaflow_match_text}
-use Rattle.spec_script.specs.Script.{with_line, with_lines, script_of, with_edit, with_sync, with_begin, with_commit, word_alone, sync_time, time_of, seconds_with_fraction, seconds_of, fraction_of}
+use Rattle.spec_script.specs.Lines.{with_lines}
+use Rattle.spec_script.specs.Script.{with_line, script_of, with_edit, with_sync, with_begin, with_commit, word_alone, sync_time, time_of, seconds_with_fraction, seconds_of, fraction_of}
 use Rattle.spec_run.specs.Verdict.{Files, script_in}
 use Rattle.spec_trace.specs.Paths.{act_path, run_path, look_path, path_of, last_of}
 use Rattle.spec_trace.specs.Texts.{carried, traced_text}

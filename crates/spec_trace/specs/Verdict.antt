@@ -11,11 +11,12 @@ use Rattle.spec_xlate.specs.Translation.{in_port_of}
 use Rattle.spec_xlate.specs.Consulted.{without}
 use Rattle.spec_flow_text.specs.declared.fault.TextFault.{TextFault}
 use Rattle.spec_flow_text.specs.Matches.{MatchText, read_match}
-use Rattle.spec_script.specs.declared.fault.ScriptFault.TheVariants.{Line}
-use Rattle.spec_script.specs.Script.{Script, most_line_bytes}
+use Rattle.spec_script.specs.declared.fault.FileFault.TheVariants.{Line}
+use Rattle.spec_script.specs.Lines.{most_line_bytes}
+use Rattle.spec_script.specs.Script.{Script}
 use Rattle.spec_run.specs.declared.quantity.Quantity.TheVariants as quantity
 use Rattle.spec_run.specs.Verdict as run
-use Rattle.spec_run.specs.Verdict.{Files, refused_script, script_in}
+use Rattle.spec_run.specs.Verdict.{Files, refused_text, script_in}
 use Rattle.spec_trace.specs.Words.{Command, command_of}
 
 -- Why there is no trace: words that the program doesn't take; the file of edits or the flow, as the switch refuses such a
@@ -51,7 +52,7 @@ flow_name = codes "flow"
 
 abbrev pub match_or_refusal : Result MatchText TextFault → Result Match run.Refusal
 match_or_refusal (Ok m) = Ok m.matching
-match_or_refusal (Err why) = Err (refused_script flow_name (Line 1 why))
+match_or_refusal (Err why) = Err (refused_text flow_name (Line 1 why))
 
 -- The match of a flow, which is read as what follows the word `delete` is. Its table and its priority are ignored.
 unfoldable pub match_in : List ℕ → Result Match run.Refusal

@@ -20,9 +20,10 @@ use Rattle.spec_flow_text.specs.declared.fault.TextFault.{TextFault}
 use Rattle.spec_flow_text.specs.declared.fault.TextFault.TheVariants.{Syntax}
 use Rattle.spec_flow_text.specs.Items.{words}
 use Rattle.spec_flow_text.specs.Lines.{edit_in}
-use Rattle.spec_script.specs.declared.fault.ScriptFault.{ScriptFault}
-use Rattle.spec_script.specs.declared.fault.ScriptFault.TheVariants.{SyncOrder, TooManyEdits, TooManySyncs}
-use Rattle.spec_script.specs.Script.{seconds_of, fraction_of, seconds_with_fraction, time_of, Script, Begun, Reading, ◌>>=◌, unless, in_line, sync_time, with_bundle, with_edit_in, with_edit, last_time, sync_at, most_edits, most_syncs, word_alone, with_sync, with_begin, with_commit, most_line_bytes, is_blank, begins_with, with_line, with_lines, lines_of, nothing_read, read_whole, script_of}
+use Rattle.spec_script.specs.declared.fault.FileFault.{FileFault}
+use Rattle.spec_script.specs.declared.fault.FileFault.TheVariants.{SyncOrder, TooManyEdits, TooManySyncs}
+use Rattle.spec_script.specs.Lines.{◌>>=◌, unless, in_line, most_line_bytes, is_blank, with_lines, lines_of, with_next}
+use Rattle.spec_script.specs.Script.{seconds_of, fraction_of, seconds_with_fraction, time_of, Script, Begun, Reading, sync_time, with_bundle, with_edit_in, with_edit, last_time, sync_at, most_edits, most_syncs, word_alone, with_sync, with_begin, with_commit, begins_with, with_line, nothing_read, read_whole, script_of}
 
 -- ---- what follows where nothing was refused
 
@@ -121,7 +122,7 @@ module _ (number : ℕ) (line : List ℕ) (r : Reading) where
       at (Err e) is = absurd (cc is)
       at (Ok c) is = let same : committed ≡ now = cc is in sym (ap syncs_in same) ∙ bundle_syncs r.said
 
-  of_line : (now : Reading) → AreUpToLast (syncs_in r) → with_line number line r ≡ Ok now → AreUpToLast (syncs_in now)
+  of_line : (now : Reading) → AreUpToLast (syncs_in r) → with_next with_line number line r ≡ Ok now → AreUpToLast (syncs_in now)
   unfolding with_line
   of_line now are is =
       choose (nat_lt most_line_bytes (length line)) _ _ (λ refused. absurd (cc refused)) (λ other.
@@ -130,7 +131,7 @@ module _ (number : ℕ) (line : List ℕ) (r : Reading) where
       choose (begins_with (codes "begin") line) _ _ (λ begin. kept (of_begin now begin)) (λ other.
       choose (begins_with (codes "commit") line) _ _ (λ commit. kept (of_commit now commit)) (λ edit. kept (of_edit now edit)) other) other) other) other) is
     where
-      choose : (t : Bool) (a b : Result Reading ScriptFault) → (a ≡ Ok now → AreUpToLast (syncs_in now)) → (b ≡ Ok now → AreUpToLast (syncs_in now))
+      choose : (t : Bool) (a b : Result Reading FileFault) → (a ≡ Ok now → AreUpToLast (syncs_in now)) → (b ≡ Ok now → AreUpToLast (syncs_in now))
           → (if t then a else b) ≡ Ok now → AreUpToLast (syncs_in now)
       choose true a b first second is = first is
       choose false a b first second is = second is
@@ -138,12 +139,12 @@ module _ (number : ℕ) (line : List ℕ) (r : Reading) where
       kept : syncs_in now ≡ syncs_in r → AreUpToLast (syncs_in now)
       kept same = subst AreUpToLast (sym same) are
 
-of_lines : (number : ℕ) (lines : List (List ℕ)) (r now : Reading) → AreUpToLast (syncs_in r) → with_lines number lines r ≡ Ok now
+of_lines : (number : ℕ) (lines : List (List ℕ)) (r now : Reading) → AreUpToLast (syncs_in r) → with_lines with_line number lines r ≡ Ok now
     → AreUpToLast (syncs_in now)
 unfolding with_lines
 of_lines number [] r now are is = let same : r ≡ now = cc is in subst (λ x. AreUpToLast (syncs_in x)) same are
 of_lines number (line ∷ lines) r now are is =
-    let f = followed (with_line number line r) (with_lines (number + 1) lines) now is in
+    let f = followed (with_next with_line number line r) (with_lines with_line (number + 1) lines) now is in
     of_lines (number + 1) lines f.0 now (of_line number line r f.0 are f.1) f.2
 
 -- ---- the last lines
@@ -156,11 +157,11 @@ no_time : (b : Begun) → sync_time (Some b) (codes "sync 0") ≡ Err (Syntax 1)
 unfolding sync_time time_of seconds_with_fraction seconds_of fraction_of words decimal_upto digits_upto
 no_time b = refl
 
-is_sync : (number : ℕ) (r : Reading) → with_line number (codes "sync 0") r ≡ with_sync number (codes "sync 0") r
+is_sync : (number : ℕ) (r : Reading) → with_next with_line number (codes "sync 0") r ≡ with_sync number (codes "sync 0") r
 unfolding with_line
 is_sync number r = refl
 
-is_nothing : (number : ℕ) (r : Reading) → with_line number [] r ≡ Ok r
+is_nothing : (number : ℕ) (r : Reading) → with_next with_line number [] r ≡ Ok r
 unfolding with_line
 is_nothing number r = refl
 
@@ -188,7 +189,7 @@ of_zero number r now is = at (nat_lt (length (syncs_in r)) most_syncs) r.begun r
           begun = sym (ap (λ (x : Reading). x.begun) same) ∙ none;
         }
 
-    at_time : Result ℕ TextFault → Result Reading ScriptFault
+    at_time : Result ℕ TextFault → Result Reading FileFault
     at_time time =
         in_line number time >>= (λ at. unless (nat_le (last_time (syncs_in r)) at) (SyncOrder number)
         >>= (λ order. Ok (record r { said = record r.said { syncs = syncs_in r ++ sync_at r.said.bundles at ∷ [] } })))
@@ -199,24 +200,24 @@ of_zero number r now is = at (nat_lt (length (syncs_in r)) most_syncs) r.begun r
     at true (Some b) of_r is = let refused : at_time (Err (Syntax 1)) ≡ Ok now = ap at_time (sym (no_time b)) ∙ is in absurd (cc refused)
     at true None of_r is = in_order (nat_le (last_time (syncs_in r)) 0) refl of_r (ap at_time (sym zero_time) ∙ is)
 
-last_lines : (number : ℕ) (r now : Reading) → with_lines number (codes "sync 0" ∷ [] ∷ []) r ≡ Ok now → EndsAtZero r now
+last_lines : (number : ℕ) (r now : Reading) → with_lines with_line number (codes "sync 0" ∷ [] ∷ []) r ≡ Ok now → EndsAtZero r now
 unfolding with_lines
 last_lines number r now is =
-    let first = followed (with_line number (codes "sync 0") r) (with_lines (number + 1) ([] ∷ [])) now is in
-    let second = followed (with_line (number + 1) [] first.0) (with_lines (number + 1 + 1) []) now first.2 in
+    let first = followed (with_next with_line number (codes "sync 0") r) (with_lines with_line (number + 1) ([] ∷ [])) now is in
+    let second = followed (with_next with_line (number + 1) [] first.0) (with_lines with_line (number + 1 + 1) []) now first.2 in
     let nothing = is_nothing (number + 1) first.0 in
     let none : first.0 ≡ now = cc (nothing, second.1, second.2) in
     subst (EndsAtZero r) none (of_zero number r first.0 (sym (is_sync number r) ∙ first.1))
 
 -- lines before others
-split_lines : (number : ℕ) (lines more : List (List ℕ)) (r now : Reading) → with_lines number (lines ++ more) r ≡ Ok now
-    → (n : ℕ) × ((between : Reading) × (with_lines number lines r ≡ Ok between) × (with_lines n more between ≡ Ok now))
+split_lines : (number : ℕ) (lines more : List (List ℕ)) (r now : Reading) → with_lines with_line number (lines ++ more) r ≡ Ok now
+    → (n : ℕ) × ((between : Reading) × (with_lines with_line number lines r ≡ Ok between) × (with_lines with_line n more between ≡ Ok now))
 unfolding with_lines
 split_lines number [] more r now is = (number, (r, refl, is))
 split_lines number (line ∷ lines) more r now is =
-    let f = followed (with_line number line r) (with_lines (number + 1) (lines ++ more)) now is in
+    let f = followed (with_next with_line number line r) (with_lines with_line (number + 1) (lines ++ more)) now is in
     let rest = split_lines (number + 1) lines more f.0 now f.2 in
-    (rest.0, (rest.1.0, ap (λ m. m >>= with_lines (number + 1) lines) f.1 ∙ rest.1.1, rest.1.2))
+    (rest.0, (rest.1.0, ap (λ m. m >>= with_lines with_line (number + 1) lines) f.1 ∙ rest.1.1, rest.1.2))
 
 -- the lines of a text that ends with a line `sync 0`
 module _ {X : Type 0} (p : X → Bool) where
@@ -248,7 +249,7 @@ abbrev is_line_feed : ℕ → Bool
 is_line_feed c = c == line_feed
 
 -- by the lines before it, and what follows
-ends_from : (number : ℕ) (r now : Reading) (s : Script) → AreUpToLast (syncs_in r) → with_lines number (codes "sync 0" ∷ [] ∷ []) r ≡ Ok now
+ends_from : (number : ℕ) (r now : Reading) (s : Script) → AreUpToLast (syncs_in r) → with_lines with_line number (codes "sync 0" ∷ [] ∷ []) r ≡ Ok now
     → read_whole now.begun now.said ≡ Ok s → EndsWithSync s
 ends_from number r now s are is read =
     let last = last_lines number r now is in
@@ -266,8 +267,8 @@ pub script_ends : (text : List ℕ) (s : Script) → script_of (text ++ codes "\
 unfolding script_of
 script_ends text s is =
     let lines : lines_of (text ++ codes "\nsync 0\n") ≡ lines_of text ++ (codes "sync 0" ∷ [] ∷ []) = split_at is_line_feed text line_feed (codes "sync 0\n") refl in
-    let read = followed (with_lines 1 (lines_of (text ++ codes "\nsync 0\n")) nothing_read) (λ r. read_whole r.begun r.said) s is in
-    let between = split_lines 1 (lines_of text) (codes "sync 0" ∷ [] ∷ []) nothing_read read.0 (ap (λ l. with_lines 1 l nothing_read) (sym lines) ∙ read.1) in
+    let read = followed (with_lines with_line 1 (lines_of (text ++ codes "\nsync 0\n")) nothing_read) (λ r. read_whole r.begun r.said) s is in
+    let between = split_lines 1 (lines_of text) (codes "sync 0" ∷ [] ∷ []) nothing_read read.0 (ap (λ l. with_lines with_line 1 l nothing_read) (sym lines) ∙ read.1) in
     ends_from between.0 between.1.0 read.0 s (of_lines 1 (lines_of text) nothing_read between.1.0 (All-nil (λ (x : SyncPoint). x.time ≤ last_time [])) between.1.1) between.1.2 read.2
 
 -- ---- blocks

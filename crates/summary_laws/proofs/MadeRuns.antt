@@ -4,13 +4,13 @@ use Rattle.std.specs.Prelude.{nat_lt, Result, Ok, Err, codes}
 use Rattle.std.specs.Option.{ok_or}
 use Rattle.spec_tables.specs.Changes.{changes_to}
 use Rattle.spec_words.specs.Words.{Input, Made}
-use Rattle.spec_script.specs.declared.fault.ScriptFault.{ScriptFault}
+use Rattle.spec_script.specs.declared.fault.FileFault.{FileFault}
 use Rattle.spec_script.specs.Script.{Script, script_of}
 use Rattle.spec_made.specs.Made.{subnets, subnet_lines, register_values, register_lines, edits_made}
 use Rattle.spec_run.specs.Limits.{most_edits_bytes, most_changes}
 use Rattle.spec_run.specs.declared.quantity.Quantity.TheVariants.{EditsBytes, Changes}
 use Rattle.spec_run.specs.Journals.{HasEditsApart}
-use Rattle.spec_run.specs.Verdict.{Files, Refusal, Missing, Limit, MirroredRun, Accepted, Sources, ◌>>=◌, command_in, files_for, sources_of, ports_said, script_or_refusal, script_within, with_few_changes, script_in, steps_in, mirrors_in, traces_in, run_of, run_in, verdict}
+use Rattle.spec_run.specs.Verdict.{Files, Refusal, Missing, Limit, MirroredRun, Accepted, Sources, ◌>>=◌, command_in, files_for, sources_of, ports_said, text_or_refusal, script_within, with_few_changes, script_in, steps_in, mirrors_in, traces_in, run_of, run_in, verdict}
 use Rattle.summary_laws.proofs.MadeApart.{script_ends, apart_by_script}
 
 module _ {A B : Type 0} where
@@ -31,8 +31,8 @@ few s t is = at (nat_lt most_changes (changes_to s.edits (length s.edits))) is
 within : (name bytes : List ℕ) (s : Script) → script_within name bytes ≡ Ok s → script_of bytes ≡ Ok s
 within name bytes s is = at (nat_lt most_edits_bytes (length bytes)) (script_of bytes) refl is
   where
-    at : (b : Bool) (read : Result Script ScriptFault) → script_of bytes ≡ read
-        → (if b then Err (Limit EditsBytes) else script_or_refusal name read) ≡ Ok s → script_of bytes ≡ Ok s
+    at : (b : Bool) (read : Result Script FileFault) → script_of bytes ≡ read
+        → (if b then Err (Limit EditsBytes) else text_or_refusal name read) ≡ Ok s → script_of bytes ≡ Ok s
     at true read was is = absurd (cc is)
     at false (Ok t) was is = let same : t ≡ s = cc is in was ∙ ap Ok same
     at false (Err e) was is = absurd (cc is)

@@ -7,51 +7,29 @@ ghost use Rattle.edge_io.specs.declared.outside.InUse.TheVariants.{Nothing};
 ghost use Rattle.edge_io.specs.ReadAll.{OnlyRead};
 ghost use Rattle.spec_case.specs.Blocks.{AreInOrder};
 ghost use Rattle.spec_script.specs.Script.{most_edits, most_syncs};
-ghost use Rattle.spec_script.specs.declared.fault.ScriptFault.TheVariants as script;
 ghost use Rattle.spec_run.specs.Limits.{most_edits_bytes};
-ghost use Rattle.spec_run.specs.Verdict.{refused_script, script_within, with_few_changes, script_in};
+ghost use Rattle.spec_run.specs.Verdict.{script_within, with_few_changes, script_in};
 ghost use Rattle.spec_tables.specs.Bundles.{AreBundles};
 ghost use Rattle.spec_tables.specs.Edits.{has_sound_actions};
 ghost use Rattle.rule_tables.specs.History.{history_of};
 ghost use Rattle.edit_script.specs.ScriptViews.{script_view};
 ghost use Rattle.switch_input.specs.EditsViews.{script_in_bytes};
-ghost use Rattle.switch_refusals.specs.Refused.{fault_view, IfInput, IfReadFault, Explains, HasReadCause, OpensInTurn};
+ghost use Rattle.switch_refusals.specs.Refused.{IfReadFault, Explains, HasReadCause, OpensInTurn};
 
 use crate::reading::read_file;
 use crate::rules::rules_of;
 use edge_io::Shelf;
-use edit_script::{Script, ScriptFault, read_script};
+use edit_script::{Script, read_script};
 use rule_tables::VersionedRules;
-use spec_flow_text::TextFault;
 use spec_run::Quantity;
 use std::alloc::Global;
-use switch_refusals::{InputFault, InputRefusal, MOST_EDITS_BYTES};
+use switch_refusals::{InputFault, InputRefusal, MOST_EDITS_BYTES, refused_text};
 
 /// The script of a file of edits, and the rules of all versions that its edits make.
 #[derive(Drop)]
 pub struct EditsFile {
     pub script: Script,
     pub rules: VersionedRules,
-}
-
-// What becomes of a run whose file of edits has this fault.
-fn refused(name: &str, fault: ScriptFault) -> InputRefusal<'_>
-    ensures input { IfInput result (λ told. fault_view told ≡ refused_script name.now fault) }
-    ensures no_fault { IfReadFault result (λ _. ⊥) }
-    ensures no_memory { fault ≡ script.OutOfMemory → result ≡ InputRefusal.OutOfMemory }
-{
-    let limit = match fault {
-        ScriptFault::OutOfMemory => return InputRefusal::OutOfMemory,
-        ScriptFault::Line {
-            why: TextFault::TooManyActions,
-            ..
-        } => Quantity::Actions,
-        ScriptFault::LineTooLong => Quantity::Line,
-        ScriptFault::TooManyEdits => Quantity::Edits,
-        ScriptFault::TooManySyncs => Quantity::Syncs,
-        fault => return InputRefusal::Input(InputFault::Text { name, fault }),
-    };
-    InputRefusal::Input(InputFault::Limit(limit))
 }
 
 // The script of the bytes of a file.
@@ -68,7 +46,7 @@ fn script_of<'a>(alloc: Global, name: &'a str, bytes: &[u8]) -> Result<Script, I
 {
     match read_script(alloc, bytes) {
         Ok(script) => Ok(script),
-        Err(fault) => Err(refused(name, fault)),
+        Err(fault) => Err(refused_text(name, fault)),
     }
 }
 

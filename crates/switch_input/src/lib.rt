@@ -40,10 +40,10 @@
 //!
 //! # What is left to others
 //!
-//! What the words say to `command_words`, scripts to `edit_script`, what an edit does to `rule_tables`, steps files to
-//! `step_script`, mirrors files to `mirror_script`, capture files to `pcap_reader`, what a number makes to `trace_gen`, and all that touches the system to
-//! `edge_io`. What refusals are told as is for `switch_refusals`, and what becomes of the run for `switch_app`. No board is
-//! known here, so that reading and deciding are proved side by side.
+//! What the words say to `command_words`, scripts to `edit_script`, what an edit does to `rule_tables`, steps files and
+//! mirrors files to `port_scripts`, capture files to `pcap_reader`, what a number makes to `trace_gen`, and all that
+//! touches the system to `edge_io`. What refusals are told as is for `switch_refusals`, and what becomes of the run for
+//! `switch_app`. No board is known here, so that reading and deciding are proved side by side.
 #![tactic(auto)]
 
 mod command;
@@ -59,5 +59,5 @@ mod steps;
 pub use command_words::{Command, FilesNamed, Input, PortWord};
 pub use edits::{EditsFile, read_edits};
 pub use inputs::{Inputs, read_inputs};
-pub use mirror_script::Mirror;
+pub use port_scripts::Mirror;
 pub use switch_refusals::{InputFault, InputRefusal};

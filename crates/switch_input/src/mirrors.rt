@@ -2,33 +2,17 @@
 ghost use Rattle.std.specs.Prelude.{◌≡◌, ◌≤◌, [], ◌∷◌, length, Ok, IsTrue, OnOk, IfOk, IfErr, Some};
 ghost use Rattle.edge_io.specs.declared.outside.InUse.TheVariants.{Nothing};
 ghost use Rattle.edge_io.specs.ReadAll.{OnlyRead};
-ghost use Rattle.spec_run.specs.Verdict.{refused_mirrors, mirrors_within, mirrors_in, given_names};
+ghost use Rattle.spec_run.specs.Verdict.{mirrors_within, mirrors_in, given_names};
 ghost use Rattle.spec_mirrors.specs.Mirrors.{most_mirrors_bytes, most_mirrors};
-ghost use Rattle.spec_mirrors.specs.declared.fault.MirrorFault.TheVariants as mirroring;
 ghost use Rattle.command_words.specs.CommandViews.{text_view};
-ghost use Rattle.switch_refusals.specs.Refused.{fault_view, IfInput, IfReadFault, Explains, HasReadCause, OpensInTurn};
+ghost use Rattle.switch_refusals.specs.Refused.{IfReadFault, Explains, HasReadCause, OpensInTurn};
 
 use crate::reading::read_file;
 use edge_io::Shelf;
-use mirror_script::{Mirror, MirrorFault, read_mirrors as read_mirror_script};
+use port_scripts::{Mirror, read_mirrors as read_mirror_script};
 use spec_run::Quantity;
 use std::alloc::Global;
-use switch_refusals::{InputFault, InputRefusal, MOST_MIRRORS_BYTES};
-
-// What becomes of a run whose mirrors file has this fault.
-fn refused(name: &str, fault: MirrorFault) -> InputRefusal<'_>
-    ensures input { IfInput result (λ told. fault_view told ≡ refused_mirrors name.now fault) }
-    ensures no_fault { IfReadFault result (λ _. ⊥) }
-    ensures no_memory { fault ≡ mirroring.OutOfMemory → result ≡ InputRefusal.OutOfMemory }
-{
-    let limit = match fault {
-        MirrorFault::OutOfMemory => return InputRefusal::OutOfMemory,
-        MirrorFault::LineTooLong => Quantity::Line,
-        MirrorFault::TooManyMirrors => Quantity::Mirrors,
-        fault => return InputRefusal::Input(InputFault::Mirrors { name, fault }),
-    };
-    InputRefusal::Input(InputFault::Limit(limit))
-}
+use switch_refusals::{InputFault, InputRefusal, MOST_MIRRORS_BYTES, refused_text};
 
 // The mirrors of the bytes of a file, for a switch of these ports.
 fn mirrors_of<'a>(
@@ -45,7 +29,7 @@ fn mirrors_of<'a>(
 {
     match read_mirror_script(alloc, bytes, ports) {
         Ok(mirrors) => Ok(mirrors),
-        Err(fault) => Err(refused(name, fault)),
+        Err(fault) => Err(refused_text(name, fault)),
     }
 }
 

@@ -3,33 +3,17 @@ ghost use Rattle.std.specs.Prelude.{◌≡◌, ◌≤◌, [], ◌∷◌, length,
 ghost use Rattle.edge_io.specs.declared.outside.InUse.TheVariants.{Nothing};
 ghost use Rattle.edge_io.specs.ReadAll.{OnlyRead};
 ghost use Rattle.spec_run.specs.Limits.{most_steps_bytes};
-ghost use Rattle.spec_run.specs.Verdict.{refused_steps, steps_within, steps_in, given_names};
+ghost use Rattle.spec_run.specs.Verdict.{steps_within, steps_in, given_names};
 ghost use Rattle.spec_steps.specs.Steps.{most_steps};
-ghost use Rattle.spec_steps.specs.declared.fault.StepsFault.TheVariants as given;
 ghost use Rattle.command_words.specs.CommandViews.{text_view};
-ghost use Rattle.switch_refusals.specs.Refused.{fault_view, IfInput, IfReadFault, Explains, HasReadCause, OpensInTurn};
+ghost use Rattle.switch_refusals.specs.Refused.{IfReadFault, Explains, HasReadCause, OpensInTurn};
 
 use crate::reading::read_file;
 use edge_io::Shelf;
+use port_scripts::{RunStep, read_steps as read_step_script};
 use spec_run::Quantity;
 use std::alloc::Global;
-use step_script::{RunStep, StepsFault, read_steps as read_step_script};
-use switch_refusals::{InputFault, InputRefusal, MOST_STEPS_BYTES};
-
-// What becomes of a run whose steps file has this fault.
-fn refused(name: &str, fault: StepsFault) -> InputRefusal<'_>
-    ensures input { IfInput result (λ told. fault_view told ≡ refused_steps name.now fault) }
-    ensures no_fault { IfReadFault result (λ _. ⊥) }
-    ensures no_memory { fault ≡ given.OutOfMemory → result ≡ InputRefusal.OutOfMemory }
-{
-    let limit = match fault {
-        StepsFault::OutOfMemory => return InputRefusal::OutOfMemory,
-        StepsFault::LineTooLong => Quantity::Line,
-        StepsFault::TooManySteps => Quantity::Steps,
-        fault => return InputRefusal::Input(InputFault::Steps { name, fault }),
-    };
-    InputRefusal::Input(InputFault::Limit(limit))
-}
+use switch_refusals::{InputFault, InputRefusal, MOST_STEPS_BYTES, refused_text};
 
 // The steps of the bytes of a file, for a switch of these ports.
 fn steps_of<'a>(
@@ -46,7 +30,7 @@ fn steps_of<'a>(
 {
     match read_step_script(alloc, bytes, ports) {
         Ok(steps) => Ok(steps),
-        Err(fault) => Err(refused(name, fault)),
+        Err(fault) => Err(refused_text(name, fault)),
     }
 }
 

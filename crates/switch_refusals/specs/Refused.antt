@@ -5,7 +5,7 @@ use Rattle.edge_io.specs.Shelf.{Told}
 use Rattle.edge_io.specs.Opened.{HasOpened, HasOpenedPrefix, HasOpenedUpTo}
 use Rattle.spec_run.specs.Verdict as verdicts
 use Rattle.switch_refusals.specs.declared.refusal.InputFault.{InputFault}
-use Rattle.switch_refusals.specs.declared.refusal.InputFault.TheVariants.{Usage, Text, Steps, Mirrors, Trace, Limit}
+use Rattle.switch_refusals.specs.declared.refusal.InputFault.TheVariants.{Usage, Text, Trace, Limit}
 use Rattle.switch_refusals.specs.declared.refusal.InputRefusal.{InputRefusal}
 use Rattle.switch_refusals.specs.declared.refusal.InputRefusal.TheVariants.{Input, ReadFault, OutOfMemory}
 
@@ -13,8 +13,6 @@ use Rattle.switch_refusals.specs.declared.refusal.InputRefusal.TheVariants.{Inpu
 abbrev pub fault_view : InputFault → verdicts.Refusal
 fault_view Usage = verdicts.Usage
 fault_view (Text name fault) = verdicts.Text name.now fault
-fault_view (Steps name fault) = verdicts.Steps name.now fault
-fault_view (Mirrors name fault) = verdicts.Mirrors name.now fault
 fault_view (Trace name fault) = verdicts.Trace name.now fault
 fault_view (Limit q) = verdicts.Limit q
 

@@ -19,14 +19,15 @@
 //!
 //! # What is left to others
 //!
-//! Which refusal it is (`switch_input`, `switch_output`), and what ends with the status. No file is known here, so that
-//! what is told is proved beside what is read.
+//! Which refusal it is (`switch_input`, `switch_output`; of a file of lines `refused_text` tells), and what ends with
+//! the status. No file is known here, so that what is told is proved beside what is read.
 #![tactic(auto)]
 
 mod limits;
 mod refusal;
 mod say;
 mod status;
+mod text_refusal;
 
 pub use limits::{
     MOST_CHANGES, MOST_EDITS_BYTES, MOST_FRAMES, MOST_MIRRORS_BYTES, MOST_STEPS_BYTES,
@@ -37,3 +38,4 @@ pub use say::{say_input_refusal, say_out_of_memory, say_pieces, say_write_fault}
 pub use status::{
     DONE, LIMIT, OUT_OF_MEMORY, READ_FAULT, TEXT, TRACE, USAGE, WRITE_FAULT, input_status,
 };
+pub use text_refusal::refused_text;

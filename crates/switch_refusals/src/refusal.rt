@@ -1,11 +1,9 @@
 ghost use Rattle.std.specs.Prelude.{◌≡◌};
 ghost use Rattle.switch_refusals.specs.declared.refusal.InputRefusal.TheVariants.{OutOfMemory};
 
-use spec_mirrors::MirrorFault;
 use spec_pcap::PcapFault;
 use spec_run::Quantity;
-use spec_script::ScriptFault;
-use spec_steps::StepsFault;
+use spec_script::FileFault;
 use std::alloc::{AllocError, AllocFailed};
 
 /// What is wrong with an input. Names are those of the words.
@@ -13,12 +11,8 @@ use std::alloc::{AllocError, AllocFailed};
 pub enum InputFault<'a> {
     /// The words are none that the program takes.
     Usage,
-    /// The file of edits has a line that is wrong.
-    Text { name: &'a str, fault: ScriptFault },
-    /// The steps file has a line that is wrong.
-    Steps { name: &'a str, fault: StepsFault },
-    /// The mirrors file has a line that is wrong.
-    Mirrors { name: &'a str, fault: MirrorFault },
+    /// The file of edits, the steps file or the mirrors file has a line that is wrong.
+    Text { name: &'a str, fault: FileFault },
     /// A trace is no capture file that is read.
     Trace { name: &'a str, fault: PcapFault },
     /// A quantity is above its limit.

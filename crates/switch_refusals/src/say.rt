@@ -1,7 +1,7 @@
 //! The texts of refusals. They are printed piece by piece, so that none takes memory.
 ghost use Rattle.std.specs.Prelude.{◌≡◌, ◌++◌, IsTrue, codes};
 ghost use Rattle.std.specs.Fmt.{decimal};
-ghost use Rattle.spec_run.specs.Statuses.{Prints, line_reason, column_of, place_text, script_text, steps_text, mirrors_text, trace_text, limit_text, text_of as refusal_text, usage_text, write_fault_text, out_of_memory_text};
+ghost use Rattle.spec_run.specs.Statuses.{Prints, line_reason, column_of, place_text, file_text, trace_text, limit_text, text_of as refusal_text, usage_text, write_fault_text, out_of_memory_text};
 ghost use Rattle.switch_refusals.specs.Refused.{fault_view};
 ghost use Rattle.switch_refusals.specs.Pieces.{joined};
 ghost use Rattle.switch_refusals.specs.Texts.{input_text};
@@ -11,11 +11,9 @@ use crate::refusal::{InputFault, InputRefusal};
 use edge_io::{Sink, say_all};
 use itoa::Buffer;
 use spec_flow_text::TextFault;
-use spec_mirrors::MirrorFault;
 use spec_pcap::PcapFault;
 use spec_run::Quantity;
-use spec_script::ScriptFault;
-use spec_steps::StepsFault;
+use spec_script::FileFault;
 
 /// Prints texts, one after the other, up to the first at which the sink fails. It takes no memory.
 pub fn say_pieces<K: Sink>(say: &mut K, pieces: &[&str])
@@ -149,41 +147,20 @@ fn say_line<K: Sink>(say: &mut K, name: &str, line: u32, why: TextFault)
     say_place(say, name, line, column_of(why), line_reason(why));
 }
 
-fn say_script<K: Sink>(say: &mut K, name: &str, fault: ScriptFault)
+// Prints what is wrong with a file of lines.
+fn say_text<K: Sink>(say: &mut K, name: &str, fault: FileFault)
     ensures { IsTrue K.tells → Prints K.needs_memory (K.faults say.old) (K.faults say.new) (K.written say.old)
-        (K.written say.new) (script_text name.now fault) }
+        (K.written say.new) (file_text name.now fault) }
 {
     match fault {
-        ScriptFault::Line { line, why } => say_line(say, name, line, why),
-        ScriptFault::SyncOrder { line } => say_place(say, name, line, 1, "sync order"),
-        ScriptFault::LineTooLong => say_limit(say, Quantity::Line),
-        ScriptFault::TooManyEdits => say_limit(say, Quantity::Edits),
-        ScriptFault::TooManySyncs => say_limit(say, Quantity::Syncs),
-        ScriptFault::OutOfMemory => say_out_of_memory(say),
-    }
-}
-
-fn say_steps<K: Sink>(say: &mut K, name: &str, fault: StepsFault)
-    ensures { IsTrue K.tells → Prints K.needs_memory (K.faults say.old) (K.faults say.new) (K.written say.old)
-        (K.written say.new) (steps_text name.now fault) }
-{
-    match fault {
-        StepsFault::Line { line, why } => say_line(say, name, line, why),
-        StepsFault::LineTooLong => say_limit(say, Quantity::Line),
-        StepsFault::TooManySteps => say_limit(say, Quantity::Steps),
-        StepsFault::OutOfMemory => say_out_of_memory(say),
-    }
-}
-
-fn say_mirrors<K: Sink>(say: &mut K, name: &str, fault: MirrorFault)
-    ensures { IsTrue K.tells → Prints K.needs_memory (K.faults say.old) (K.faults say.new) (K.written say.old)
-        (K.written say.new) (mirrors_text name.now fault) }
-{
-    match fault {
-        MirrorFault::Line { line, why } => say_line(say, name, line, why),
-        MirrorFault::LineTooLong => say_limit(say, Quantity::Line),
-        MirrorFault::TooManyMirrors => say_limit(say, Quantity::Mirrors),
-        MirrorFault::OutOfMemory => say_out_of_memory(say),
+        FileFault::Line { line, why } => say_line(say, name, line, why),
+        FileFault::SyncOrder { line } => say_place(say, name, line, 1, "sync order"),
+        FileFault::LineTooLong => say_limit(say, Quantity::Line),
+        FileFault::TooManyEdits => say_limit(say, Quantity::Edits),
+        FileFault::TooManySyncs => say_limit(say, Quantity::Syncs),
+        FileFault::TooManySteps => say_limit(say, Quantity::Steps),
+        FileFault::TooManyMirrors => say_limit(say, Quantity::Mirrors),
+        FileFault::OutOfMemory => say_out_of_memory(say),
     }
 }
 
@@ -205,9 +182,7 @@ fn say_fault<K: Sink>(say: &mut K, fault: &InputFault<'_>)
 {
     match fault {
         InputFault::Usage => say_usage(say),
-        InputFault::Text { name, fault } => say_script(say, name, *fault),
-        InputFault::Steps { name, fault } => say_steps(say, name, *fault),
-        InputFault::Mirrors { name, fault } => say_mirrors(say, name, *fault),
+        InputFault::Text { name, fault } => say_text(say, name, *fault),
         InputFault::Trace { name, fault } => say_trace(say, name, *fault),
         InputFault::Limit(quantity) => say_limit(say, *quantity),
     }

@@ -34,9 +34,7 @@ pub fn input_status(refusal: &InputRefusal<'_>) -> u8
 {
     match refusal {
         InputRefusal::Input(InputFault::Usage) => USAGE,
-        InputRefusal::Input(
-            InputFault::Text { .. } | InputFault::Steps { .. } | InputFault::Mirrors { .. },
-        ) => TEXT,
+        InputRefusal::Input(InputFault::Text { .. }) => TEXT,
         InputRefusal::Input(InputFault::Trace { .. }) => TRACE,
         InputRefusal::Input(InputFault::Limit(_)) => LIMIT,
         InputRefusal::ReadFault { .. } => READ_FAULT,

@@ -13,6 +13,8 @@ mod matches;
 #[cfg(test)]
 mod megaflows;
 #[cfg(test)]
+mod mirrors;
+#[cfg(test)]
 mod scripts;
 #[cfg(test)]
 mod values;

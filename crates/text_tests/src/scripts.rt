@@ -1,4 +1,4 @@
-use edit_script::{Script, ScriptFault, read_script};
+use edit_script::{FileFault, Script, read_script};
 use field_text::TextFault;
 use ovs_fields::FieldId;
 use rule_tables::{EditWord, OfAction, SyncPoint};
@@ -46,7 +46,7 @@ fn edits_between_begin_and_commit_are_one_bundle(rt: HostRuntime) -> Result<(), 
     Ok(())
 }
 
-fn fault_of(script: Result<Script, ScriptFault>) -> Option<ScriptFault> {
+fn fault_of(script: Result<Script, FileFault>) -> Option<FileFault> {
     script.err()
 }
 
@@ -55,7 +55,7 @@ fn a_fault_has_its_line_and_column(rt: HostRuntime) {
     let list_of_a_delete = read_script(rt.alloc(), b"actions=2\ndelete in_port=1,actions=2\n");
     assert!(rt;
         fault_of(list_of_a_delete)
-            == Some(ScriptFault::Line {
+            == Some(FileFault::Line {
                 line: 2,
                 why: TextFault::Syntax { col: 18 }
             })
@@ -63,17 +63,17 @@ fn a_fault_has_its_line_and_column(rt: HostRuntime) {
     let late_time = read_script(rt.alloc(), b"\nsync 4294967296\n");
     assert!(rt;
         fault_of(late_time)
-            == Some(ScriptFault::Line {
+            == Some(FileFault::Line {
                 line: 2,
                 why: TextFault::BadValue { col: 6 }
             })
     );
     let falling_time = read_script(rt.alloc(), b"sync 2\nsync 1.999\n");
-    assert!(rt; fault_of(falling_time) == Some(ScriptFault::SyncOrder { line: 2 }));
+    assert!(rt; fault_of(falling_time) == Some(FileFault::SyncOrder { line: 2 }));
     let left_open = read_script(rt.alloc(), b"actions=1\n  begin\nactions=2\n");
     assert!(rt;
         fault_of(left_open)
-            == Some(ScriptFault::Line {
+            == Some(FileFault::Line {
                 line: 2,
                 why: TextFault::Syntax { col: 3 }
             })

@@ -3,8 +3,8 @@ ghost use Rattle.std.specs.Prelude.{◌≡◌, Ok, IfOk, IfErr};
 ghost use Rattle.spec_keys.specs.Fields.{register_fields};
 ghost use Rattle.spec_xlate.specs.Consulted.{without};
 ghost use Rattle.spec_flow_text.specs.declared.fault.TextFault.TheVariants as text;
-ghost use Rattle.spec_script.specs.declared.fault.ScriptFault.TheVariants as script;
-ghost use Rattle.spec_run.specs.Verdict.{refused_script};
+ghost use Rattle.spec_script.specs.declared.fault.FileFault.TheVariants as script;
+ghost use Rattle.spec_run.specs.Verdict.{refused_text};
 ghost use Rattle.ovs_fields.specs.Packed.{numbers};
 ghost use Rattle.rule_tables.specs.Views.{match_view};
 ghost use Rattle.switch_refusals.specs.Refused.{fault_view, IfInput, IfReadFault, Explains};
@@ -15,7 +15,7 @@ use ovs_fields::{FieldId, Key};
 use rule_tables::{EditWord, Match};
 use spec_flow_text::TextFault;
 use spec_run::Quantity;
-use spec_script::ScriptFault;
+use spec_script::FileFault;
 use std::alloc::Global;
 use switch_refusals::{InputFault, InputRefusal};
 
@@ -48,7 +48,7 @@ static REGISTER_FIELDS: [FieldId; 17] = [
 
 // What becomes of a trace whose flow has this fault.
 fn refused(why: TextFault) -> InputRefusal<'static>
-    ensures input { IfInput result (λ told. fault_view told ≡ refused_script flow_name (script.Line 1 why)) }
+    ensures input { IfInput result (λ told. fault_view told ≡ refused_text flow_name (script.Line 1 why)) }
     ensures no_fault { IfReadFault result (λ _. ⊥) }
     ensures no_memory { why ≡ text.OutOfMemory → result ≡ InputRefusal.OutOfMemory }
 {
@@ -57,7 +57,7 @@ fn refused(why: TextFault) -> InputRefusal<'static>
         TextFault::TooManyActions => InputRefusal::Input(InputFault::Limit(Quantity::Actions)),
         why => InputRefusal::Input(InputFault::Text {
             name: FLOW_NAME,
-            fault: ScriptFault::Line { line: 1, why },
+            fault: FileFault::Line { line: 1, why },
         }),
     }
 }

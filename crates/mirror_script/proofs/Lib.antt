@@ -1,2 +1,0 @@
-mod ItemSteps
-mod LineTexts
