@@ -8,3 +8,4 @@ pub mod OpenLaws
 pub mod ApartLaws
 pub mod WholeLaws
 pub mod JudgeLaws
+pub mod OrderLaws

@@ -11,6 +11,7 @@ use crate::class::Class;
 use crate::cube::Cube;
 use crate::error::CompareError;
 use crate::judging::judge;
+use crate::order::put_in_order;
 use crate::settling::settle;
 use ovs_fields::{FieldId, Key, Mask};
 use rule_changes::changes_of;
@@ -42,9 +43,8 @@ fn first(alloc: Global, ports: &[u16]) -> Result<Vec<Cube>, AllocError>
     Ok(cubes)
 }
 
-/// The classes of the packets that two versions of the tables treat differently, whatever port of these they come in
-/// by.
-pub fn compare(
+/// The classes as they are found.
+fn find_classes(
     alloc: Global,
     old: &VersionedRules,
     new: &VersionedRules,
@@ -76,4 +76,27 @@ pub fn compare(
         return Ok(classes);
     }
     Err(CompareError::TooMany)
+}
+
+/// The classes of the packets that two versions of the tables treat differently, whatever port of these they come in
+/// by. Those of one pair of actions stand together, the widest first.
+pub fn compare(
+    alloc: Global,
+    old: &VersionedRules,
+    new: &VersionedRules,
+    ports: &[u16],
+) -> Result<Vec<Class>, CompareError>
+    requires old_edits { IsOfEdits old.now }
+    requires new_edits { IsOfEdits new.now }
+    requires old_runnable { AreRunnable (live_in old.now) }
+    requires new_runnable { AreRunnable (live_in new.now) }
+    ensures ok { IfOk result (λ v.
+        IsDifference (switch_of (live_in old.now) ports.now) (switch_of (live_in new.now) ports.now)
+        ports.now (classes_view v.items)) }
+    ensures too_many { IfErr result (λ e. e ≡ CompareError.TooMany →
+        IsUnfinished (switch_of (live_in old.now) ports.now) (switch_of (live_in new.now) ports.now) ports.now cube_limit) }
+{
+    let mut classes = find_classes(alloc, old, new, ports)?;
+    put_in_order(&mut classes);
+    Ok(classes)
 }

@@ -34,6 +34,9 @@
 //! Where bits don't pass, all bits of the packet are taken, which always decide. A megaflow's bits would serve too,
 //! and are far too many: of a packet that isn't of an address they have all of that address, and one bit is enough.
 //!
+//! At the end the classes are put in order: those of one pair of actions stand together, the widest first (`order`).
+//! In any order they tell the same (`proofs/OrderLaws`).
+//!
 //! # What is left to others
 //!
 //! The text of classes (`diff_lines`). A class says datapath actions, which depend on the bits that are written over:
@@ -50,6 +53,7 @@ mod cube;
 mod error;
 mod judging;
 mod laws;
+mod order;
 mod proposing;
 mod settling;
 mod splitting;
