@@ -1,9 +1,11 @@
 -- How a call ends, from what a refusal leaves and what is printed of it; and what follows from how it ends.
-use Rattle.std.proofs.Common.{◌≡◌, ℕ, List, refl, sym, subst, inl, inr, arith}
+use Rattle.std.proofs.Common.{◌≡◌, ◌≢◌, ℕ, List, refl, sym, subst, inl, inr, arith}
 use Rattle.std.specs.Prelude.{◌⊎◌, IsTrue, IsOk, IfErr, Result, Ok, Err}
 use Rattle.spec_base.specs.Counts.{Rose}
 use Rattle.spec_run.specs.Statuses.{done_status, limit_status, read_fault_status, out_of_memory_status, read_fault_text, status_of as run_status, Prints}
 use Rattle.edge_io.specs.declared.outside.Failed.TheVariants as failed
+use Rattle.edge_io.specs.declared.outside.InUse.{InUse}
+use Rattle.edge_io.specs.declared.outside.InUse.TheVariants.{Nothing}
 use Rattle.edge_io.specs.declared.outside.Shelf as shelf
 use Rattle.edge_io.specs.declared.outside.Sink as sink
 use Rattle.edge_io.specs.Counts.{with_fault}
@@ -11,7 +13,7 @@ use Rattle.edge_io.specs.Opened.{HasOpenedUpTo}
 use Rattle.switch_refusals.specs.declared.refusal.InputFault.{InputFault}
 use Rattle.switch_refusals.specs.declared.refusal.InputFault.TheVariants as fault
 use Rattle.switch_refusals.specs.declared.refusal.InputRefusal.TheVariants as input
-use Rattle.switch_refusals.specs.Refused.{fault_view}
+use Rattle.switch_refusals.specs.Refused.{fault_view, IsClosedAt}
 use Rattle.spec_diff_run.specs.Verdict.{Accepted, Refusal as Refused, Usage as UsageOf, Input as InputOf, verdict, files_opened}
 use Rattle.spec_diff_run.specs.Outputs.{IsCut}
 use Rattle.spec_diff_run.specs.Statuses.{differ_status, is_refusal, status_of as refusal_status}
@@ -24,10 +26,15 @@ use Rattle.diff_app.specs.Leaving.{Leaves}
 is_turned_down : (f : InputFault) → IsTrue (is_refusal (run_status (fault_view f)))
 is_turned_down fault.Usage = refl
 is_turned_down (fault.Text name why) = refl
-is_turned_down (fault.Steps name why) = refl
-is_turned_down (fault.Mirrors name why) = refl
 is_turned_down (fault.Trace name why) = refl
 is_turned_down (fault.Limit q) = refl
+
+-- no file is in use where it is no limit that is told
+closed_but : (now : InUse) (f : InputFault) → IsClosedAt now f → run_status (fault_view f) ≢ limit_status → now ≡ Nothing
+closed_but now fault.Usage closed other = closed
+closed_but now (fault.Text name why) closed other = closed
+closed_but now (fault.Trace name why) closed other = closed
+closed_but now (fault.Limit q) closed other = absurd (other refl)
 
 -- The sink is as `mid` before the refusal is printed.
 module _ {S K : Type 0} (g : shelf.Ghosts S) (h : sink.Ghosts K) (words : List (List ℕ)) (old new : S) (said mid saying : K) where
@@ -41,50 +48,55 @@ module _ {S K : Type 0} (g : shelf.Ghosts S) (h : sink.Ghosts K) (words : List (
       → (IsSilent r → saying ≡ mid) → Ends g h words old new said saying (status_of r)
   ended Usage left is silent = TurnedDown refl (record {
     verdict = λ t. record { refusal = UsageOf; is_verdict = left.verdict t; is_status = refl };
-    opened = left.opened;
-    unwritten = left.unwritten;
-    counts = left.cause;
+    opened = left.reads.opened;
+    unwritten = left.reads.only_read;
+    no_file = λ _. left.closed;
+    counts = left.reads.counts;
     printed = λ t k. record { refusal = UsageOf; is_verdict = left.verdict t; printed = printed (text_of Usage) left.unsaid is k };
   })
   ended (Reading (input.Input f)) left is silent = TurnedDown (is_turned_down f) (record {
     verdict = λ t. record { refusal = InputOf (fault_view f); is_verdict = left.verdict t; is_status = refl };
-    opened = left.opened;
-    unwritten = left.unwritten;
-    counts = left.cause;
+    opened = left.reads.opened;
+    unwritten = left.reads.only_read;
+    no_file = closed_but (g.in_use new) f left.closed;
+    counts = left.reads.counts;
     printed = λ t k. record { refusal = InputOf (fault_view f); is_verdict = left.verdict t; printed = printed (text_of (Reading (input.Input f))) left.unsaid is k };
   })
   ended (Reading (input.ReadFault name)) left is silent = ReadingFailed refl (record {
-    counts = left.cause;
-    opened = λ t. subst (λ n. HasOpenedUpTo (g.told old) (g.told new) (files_opened words (g.told old).holds) n) (sym (left.named t)) (left.opened t);
-    unwritten = left.unwritten;
-    printed = λ t k. subst (λ n. Printed said (read_fault_text n)) (sym (left.named t)) (printed (read_fault_text name.now) left.unsaid is k);
+    counts = left.reads.counts;
+    since = left.reads.since;
+    opened = λ t. subst (λ n. HasOpenedUpTo (g.told old) (g.told new) (files_opened words (g.told old).holds) n) (sym (left.reads.named t)) (left.reads.opened t);
+    unwritten = left.reads.only_read;
+    no_file = left.closed;
+    printed = λ t k. subst (λ n. Printed said (read_fault_text n)) (sym (left.reads.named t)) (printed (read_fault_text name.now) left.unsaid is k);
   })
   ended (Reading input.OutOfMemory) left is silent = RunOut refl (record {
-    counts = left.cause;
-    opened = left.opened;
-    unwritten = left.unwritten;
+    counts = left.reads.counts;
+    opened = left.reads.opened;
+    unwritten = left.reads.only_read;
+    no_file = left.closed;
     printed = printed (text_of (Reading input.OutOfMemory)) left.unsaid is;
   })
   ended TooManyCubes left is silent = GivenUp refl (record {
     run = left.run;
-    counts = left.counts;
-    opened = left.opened;
-    unwritten = left.unwritten;
+    counts = left.reads.counts;
+    opened = left.reads.opened;
+    unwritten = left.reads.only_read;
     no_file = left.no_file;
     printed = printed (text_of TooManyCubes) left.unsaid is;
   })
   ended (Printing failed.Fault) left is silent = PrintingFailed refl (record {
-    counts = left.counts;
+    counts = left.reads.counts;
     faults = subst (λ (s : K). h.faults s ≡ with_fault (h.faults said)) (sym (silent refl)) (left.cause.fault refl);
-    opened = left.opened;
-    unwritten = left.unwritten;
+    opened = left.reads.opened;
+    unwritten = left.reads.only_read;
     no_file = left.no_file;
     run = λ t. subst (λ (s : K). IsCut words (g.told old).holds h.tells (h.written said) (h.written s)) (sym (silent refl)) (left.run t);
   })
   ended (Printing failed.OutOfMemory) left is silent = RunOutLate refl (record {
-    counts = left.counts;
-    opened = left.opened;
-    unwritten = left.unwritten;
+    counts = left.reads.counts;
+    opened = left.reads.opened;
+    unwritten = left.reads.only_read;
     no_file = left.no_file;
     run = λ t. record {
       broken = h.written mid;

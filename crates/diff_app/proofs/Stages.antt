@@ -1,7 +1,6 @@
 -- The stages of the verdict, from what was read.
-use Rattle.std.proofs.Common.{◌≡◌, ℕ, List, [], ◌∷◌, ◌++◌, length, refl, sym, ap, ap₂, ◌∙◌, subst, arith, append_assoc}
-use Rattle.std.specs.Prelude.{IfErr, Some, None, Result, Ok, Err}
-use Rattle.std.proofs.lemmas.List.{append-nil}
+use Rattle.std.proofs.Common.{◌≡◌, ℕ, List, [], ◌∷◌, ◌++◌, length, refl, sym, ap, ap₂, ◌∙◌, subst, arith}
+use Rattle.std.specs.Prelude.{Some, None, Result, Ok, Err}
 use Rattle.spec_tables.specs.Rules.{Rule}
 use Rattle.spec_tables.specs.Bundles.{edits_through, version}
 use Rattle.spec_script.specs.Script.{Script}
@@ -15,18 +14,19 @@ use Rattle.rule_lines.specs.Live.{IsOfEdits, live_in}
 use Rattle.edit_script.specs.ScriptViews.{script_view}
 use Rattle.switch_input.specs.declared.edits.EditsFile.{EditsFile}
 use Rattle.edge_io.specs.Shelf.{Told}
-use Rattle.edge_io.specs.Opened.{HasOpened, HasOpenedPrefix}
-use Rattle.switch_input.proofs.Opened.{all_left, left_later, none_left, opened_until}
+use Rattle.edge_io.specs.Opened.{HasOpened}
+use Rattle.switch_input.proofs.Opened.{all_left, opened_until}
 use Rattle.switch_refusals.specs.declared.refusal.InputRefusal.{InputRefusal}
 use Rattle.switch_refusals.specs.declared.refusal.InputRefusal.TheVariants as input
+use Rattle.switch_refusals.specs.Reading.{Ending, HasOpenedUntil}
 use Rattle.switch_refusals.specs.Refused as reading
 use Rattle.switch_refusals.specs.Refused.{fault_view}
+use Rattle.switch_refusals.proofs.Reading.{opened_then}
 use Rattle.spec_diff_run.specs.Words.{Command, command_of}
 use Rattle.spec_diff_run.specs.Verdict.{Input, Accepted, rules_of, accepted, case_of, verdict_of, verdict, command_in, opened_for, opened_after, files_opened, Usage as UsageOf}
 use Rattle.diff_app.specs.InputViews.{IsEditsFile}
-use Rattle.diff_app.specs.declared.refusal.Refusal.{Refusal}
-use Rattle.diff_app.specs.declared.refusal.Refusal.TheVariants.{Usage, Reading, TooManyCubes, Printing}
-use Rattle.diff_app.specs.Refused.{Explains, IfReadFault, IsUntold, HasReadCause, HasOpenedUntil, OpensInTurn}
+use Rattle.diff_app.specs.declared.refusal.Refusal.TheVariants.{Reading}
+use Rattle.diff_app.specs.Refused.{Explains}
 
 -- ---- after the file OLD
 
@@ -75,8 +75,8 @@ module _ (files : Files) (c : Command) where
   opened-split = refl
 
   -- a refusal of OLD
-  pub old_opened : (before now : Told) (r : InputRefusal) → reading.Explains (script_in files c.old) r → reading.HasOpenedUntil before now (c.old ∷ []) r
-      → HasOpenedUntil before now (opened_for files c) (Reading r)
+  pub old_opened : (before now : Told) (r : InputRefusal) → reading.Explains (script_in files c.old) r → HasOpenedUntil before now (c.old ∷ []) (reading.stop_of r)
+      → HasOpenedUntil before now (opened_for files c) (reading.stop_of r)
   old_opened before now (input.Input f) e until = subst (λ (names : List (List ℕ)). HasOpened before now names) (sym (opened-first (fault_view f) e)) until
   old_opened before now (input.ReadFault name) e until =
       opened_until before before now (opened_for files c) (opened_for files c) (all_left before (opened_for files c)) (c.old ∷ [])
@@ -85,34 +85,11 @@ module _ (files : Files) (c : Command) where
       opened_until before before now (opened_for files c) (opened_for files c) (all_left before (opened_for files c)) (c.old ∷ [])
       (opened_after (script_in files c.old) c.new) opened-split input.OutOfMemory tt until
 
-  module _ (before mid now : Told) (first : HasOpened before mid (c.old ∷ [])) where
-    -- both files, or a refusal of NEW
-    new_until : (r : InputRefusal) → reading.HasOpenedUntil mid now (c.new ∷ []) r → reading.HasOpenedUntil before now (c.old ∷ c.new ∷ []) r
-    new_until r until =
-        let so_far = left_later before before mid (c.old ∷ c.new ∷ []) (c.old ∷ c.new ∷ []) (all_left before (c.old ∷ c.new ∷ [])) (c.old ∷ []) (c.new ∷ []) refl first in
-        opened_until before mid now (c.new ∷ []) (c.old ∷ c.new ∷ []) so_far (c.new ∷ []) [] refl r (none_later r) until
-      where
-        none_later : (r : InputRefusal) → reading.IfInput r (λ _. ◌≡◌ {A = List (List ℕ)} [] [])
-        none_later (input.Input f) = refl
-        none_later (input.ReadFault name) = tt
-        none_later input.OutOfMemory = tt
-
-    new_all : HasOpened mid now (c.new ∷ []) → HasOpened before now (c.old ∷ c.new ∷ [])
-    new_all second =
-        second ∙ ap (λ (ns : List (List ℕ)). ns ++ c.new ∷ []) first ∙ append_assoc before.opened (c.old ∷ []) (c.new ∷ [])
-
-    in_turn : {A : Type 0} (result : Result A Refusal) → IfErr result IsUntold → OpensInTurn mid now (c.new ∷ []) result
-        → OpensInTurn before now (c.old ∷ c.new ∷ []) result
-    in_turn (Ok a) untold opened = new_all opened
-    in_turn (Err Usage) untold opened = new_all opened
-    in_turn (Err (Reading r)) untold opened = new_until r opened
-    in_turn (Err TooManyCubes) untold opened = absurd untold
-    in_turn (Err (Printing f)) untold opened = absurd untold
-
-    pub new_opened : {A : Type 0} (s : Script) → script_in files c.old ≡ Ok s → (result : Result A Refusal) → IfErr result IsUntold
-        → OpensInTurn mid now (c.new ∷ []) result → OpensInTurn before now (opened_for files c) result
-    new_opened s e result untold opened =
-        subst (λ (names : List (List ℕ)). OpensInTurn before now names result) (sym (opened-both s e)) (in_turn result untold opened)
+  -- NEW after it
+  pub new_opened : (before mid now : Told) → HasOpened before mid (c.old ∷ []) → (s : Script) → script_in files c.old ≡ Ok s → (e : Ending)
+      → HasOpenedUntil mid now (c.new ∷ []) e → HasOpenedUntil before now (opened_for files c) e
+  new_opened before mid now first s is e until =
+      subst (λ (names : List (List ℕ)). HasOpenedUntil before now names e) (sym (opened-both s is)) (opened_then before mid now (c.old ∷ []) (c.new ∷ []) e first until)
 
 -- ---- the rules
 
@@ -148,12 +125,3 @@ module _ (words : List (List ℕ)) (files : Files) where
   pub opened-some : (c : Command) → command_of words ≡ Some c → files_opened words files ≡ opened_for files c
   unfolding command_in
   opened-some c e = rw e refl
-
-pub none_opened : (t : Told) → HasOpened t t []
-none_opened t = sym (append-nil t.opened)
-
-pub none_yet : (t : Told) (names : List (List ℕ)) → HasOpenedPrefix t t names
-none_yet t names = record { opened = []; left = names; are_names = refl; has_opened = none_opened t }
-
-pub all_is_prefix : (before now : Told) (names : List (List ℕ)) → HasOpened before now names → HasOpenedPrefix before now names
-all_is_prefix before now names opened = record { opened = names; left = []; are_names = sym (append-nil names); has_opened = opened }

@@ -1,6 +1,6 @@
 -- How a comparison ends: with which status, what is printed then, and which calls of the outside failed. Nothing is
 -- written to the shelf.
-use Rattle.std.specs.Prelude.{◌≡◌, ◌⊎◌, ℕ, List, IsTrue}
+use Rattle.std.specs.Prelude.{◌≡◌, ◌≢◌, ◌⊎◌, ℕ, List, IsTrue}
 use Rattle.spec_run.specs.Verdict.{Files}
 use Rattle.spec_run.specs.Statuses.{done_status, limit_status, read_fault_status, write_fault_status, out_of_memory_status, read_fault_text, out_of_memory_text, Prints}
 use Rattle.edge_io.specs.declared.outside.InUse.TheVariants.{Nothing}
@@ -42,20 +42,23 @@ module _ {S K : Type 0} (g : shelf.Ghosts S) (h : sink.Ghosts K) (words : List (
     pub faults : h.faults saying ≡ h.faults said
 
   -- The words or a file of edits are refused: the verdict is a refusal of this status, which is the first in the
-  -- order of reading. Nothing failed.
+  -- order of reading. Nothing failed, and no file is left in use but one that is too long.
   pub record IsTurnedDown (status : ℕ) : Type 0 where
     pub verdict : IsTrue g.tells → IsRefused words held status
     pub opened : OpensAll
     pub unwritten : WritesNothing
+    pub no_file : status ≢ limit_status → g.in_use new ≡ Nothing
     pub counts : g.counts new ≡ g.counts old
     pub printed : IsTrue g.tells → IsTrue h.tells
         → PrintsRefusal words held h.needs_memory (h.faults said) (h.faults saying) (h.written said) (h.written saying)
 
-  -- Reading failed, in the last file that was opened.
+  -- Reading failed, in the last file that was opened, before which no call failed. No file is left in use.
   pub record HasReadFailed : Type 0 where
     pub counts : ReadFailed (g.counts old) (g.counts new)
+    pub since : IsTrue g.tells → g.counts_at_last new ≡ g.counts old
     pub opened : IsTrue g.tells → HasOpenedUpTo (g.told old) (g.told new) (files_opened words held) (g.told new).last
     pub unwritten : WritesNothing
+    pub no_file : g.in_use new ≡ Nothing
     pub printed : IsTrue g.tells → Says (read_fault_text (g.told new).last)
 
   -- One call of printing failed: a prefix of the text of a difference is printed, and nothing after it.
@@ -76,11 +79,12 @@ module _ {S K : Type 0} (g : shelf.Ghosts S) (h : sink.Ghosts K) (words : List (
     pub no_file : g.in_use new ≡ Nothing
     pub printed : Says cubes_text
 
-  -- Memory ran out before anything was printed. Nothing failed.
+  -- Memory ran out before anything was printed. Nothing failed, and no file is left in use.
   pub record HasRunOut : Type 0 where
     pub counts : g.counts new ≡ g.counts old
     pub opened : IsTrue g.tells → HasOpenedPrefix (g.told old) (g.told new) (files_opened words held)
     pub unwritten : WritesNothing
+    pub no_file : g.in_use new ≡ Nothing
     pub printed : Says out_of_memory_text
 
   -- Of the text a prefix is printed, and then that memory ran out.

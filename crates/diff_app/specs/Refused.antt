@@ -2,10 +2,10 @@
 use Rattle.std.specs.Prelude.{◌≡◌, ℕ, List, [], Result, Ok, Err}
 use Rattle.spec_run.specs.Statuses.{usage_status, limit_status, write_fault_status, out_of_memory_status, out_of_memory_text}
 use Rattle.edge_io.specs.declared.outside.Failed.TheVariants as failed
-use Rattle.edge_io.specs.Counts.{Counts}
-use Rattle.edge_io.specs.Shelf.{Told}
-use Rattle.edge_io.specs.Opened.{HasOpened}
+use Rattle.edge_io.specs.declared.outside.InUse.{InUse}
+use Rattle.edge_io.specs.declared.outside.InUse.TheVariants.{Nothing}
 use Rattle.switch_refusals.specs.declared.refusal.InputRefusal.{InputRefusal}
+use Rattle.switch_refusals.specs.Reading.{Ending, Read}
 use Rattle.switch_refusals.specs.Refused as reading
 use Rattle.switch_refusals.specs.Refused.{fault_view}
 use Rattle.switch_refusals.specs.Texts.{input_status, input_text}
@@ -53,30 +53,23 @@ Explains stage (Reading r) = ExplainsReading stage r
 Explains stage TooManyCubes = Unit {0}
 Explains stage (Printing f) = Unit {0}
 
--- This holds of the file's name, where it tells that reading failed.
-abbrev pub IfReadFault : Refusal → (List ℕ → Type 0) → Type 0
-IfReadFault Usage P = Unit {0}
-IfReadFault (Reading r) P = reading.IfReadFault r P
-IfReadFault TooManyCubes P = Unit {0}
-IfReadFault (Printing f) P = Unit {0}
+-- No file is in use, but where a quantity is above its limit: a file that is too long is open still.
+abbrev pub IsClosed : InUse → Refusal → Type 0
+IsClosed now Usage = now ≡ Nothing
+IsClosed now (Reading r) = reading.IsClosed now r
+IsClosed now TooManyCubes = now ≡ Nothing
+IsClosed now (Printing f) = now ≡ Nothing
 
--- Only a fault in reading changes the counts of the shelf, and it comes only where the one of reading rose.
-abbrev pub HasReadCause : Counts → Counts → Refusal → Type 0
-HasReadCause before now Usage = now ≡ before
-HasReadCause before now (Reading r) = reading.HasReadCause before now r
-HasReadCause before now TooManyCubes = now ≡ before
-HasReadCause before now (Printing f) = now ≡ before
+-- how reading ended at a refusal, and with an answer
+abbrev pub stop_of : Refusal → Ending
+stop_of Usage = Read
+stop_of (Reading r) = reading.stop_of r
+stop_of TooManyCubes = Read
+stop_of (Printing f) = Read
 
--- These files are opened, one after the other, up to the one at which reading failed, or, out of memory, a prefix.
-abbrev pub HasOpenedUntil : Told → Told → List (List ℕ) → Refusal → Type 0
-HasOpenedUntil before now names Usage = HasOpened before now names
-HasOpenedUntil before now names (Reading r) = reading.HasOpenedUntil before now names r
-HasOpenedUntil before now names TooManyCubes = HasOpened before now names
-HasOpenedUntil before now names (Printing f) = HasOpened before now names
-
-abbrev pub OpensInTurn : {T : Type 0} → Told → Told → List (List ℕ) → Result T Refusal → Type 0
-OpensInTurn before now names (Ok a) = HasOpened before now names
-OpensInTurn before now names (Err r) = HasOpenedUntil before now names r
+abbrev pub ending_of : {T : Type 0} → Result T Refusal → Ending
+ending_of (Ok a) = Read
+ending_of (Err r) = stop_of r
 
 -- the refusal of a comparison that is given up
 abbrev pub refusal_of : CompareError → Refusal

@@ -1,13 +1,13 @@
 //! What is compared: the words and both files of edits, read up to the first that is refused.
 ghost use Rattle.std.specs.Prelude.{◌≡◌, ◌∷◌, [], Ok, IsTrue, OnOk, IfOk, IfErr};
 ghost use Rattle.edge_io.specs.declared.outside.InUse.TheVariants.{Nothing};
-ghost use Rattle.edge_io.specs.ReadAll.{OnlyRead};
 ghost use Rattle.command_words.specs.CommandViews.{texts};
 ghost use Rattle.edit_script.specs.ScriptViews.{script_view};
 ghost use Rattle.spec_diff_run.specs.Verdict.{case_of, verdict_of, verdict, opened_for, files_opened};
 ghost use Rattle.diff_app.specs.Commands.{command_view};
 ghost use Rattle.diff_app.specs.InputViews.{accepted_view, accepted_of, AreComparable, IsEditsFile};
-ghost use Rattle.diff_app.specs.Refused.{Explains, IfReadFault, IsUntold, HasReadCause, OpensInTurn};
+ghost use Rattle.switch_refusals.specs.Reading.{ReadsFiles};
+ghost use Rattle.diff_app.specs.Refused.{Explains, IsUntold, IsClosed, ending_of};
 
 use crate::refusal::Refusal;
 use crate::words::{Command, read_command};
@@ -54,18 +54,15 @@ fn read_new<'a, S: Shelf>(
     requires in_use { S.in_use shelf.old ≡ Nothing }
     requires old { IsEditsFile old }
     ensures in_use { OnOk result (S.in_use shelf.new ≡ Nothing) }
+    ensures closed { IfErr result (IsClosed (S.in_use shelf.new)) }
     ensures ok { IsTrue S.tells → IfOk result (λ inputs.
         case_of (S.told shelf.old).holds (command_view command.entry) (script_view old.script) ≡ Ok (accepted_view inputs)) }
     ensures comparable { IfOk result AreComparable }
     ensures err { IsTrue S.tells → IfErr result
         (Explains (case_of (S.told shelf.old).holds (command_view command.entry) (script_view old.script))) }
     ensures unsaid { IfErr result IsUntold }
-    ensures named { IsTrue S.tells → IfErr result (λ r. IfReadFault r (λ n. (S.told shelf.new).last ≡ n)) }
-    ensures told { IsTrue S.tells → OnlyRead (S.told shelf.old) (S.told shelf.new) }
-    ensures opened { IsTrue S.tells →
-        OpensInTurn (S.told shelf.old) (S.told shelf.new) ((command_view command.entry).new ∷ []) result }
-    ensures counts { OnOk result (S.counts shelf.new ≡ S.counts shelf.old) }
-    ensures cause { IfErr result (HasReadCause (S.counts shelf.old) (S.counts shelf.new)) }
+    ensures reads { let names = (command_view command.entry).new ∷ [] in
+        ReadsFiles S.Shelf shelf.old shelf.new names (ending_of result) }
 {
     let new = read_edits(alloc, shelf, command.new)?;
     Ok(inputs_of(old, new, command.ports, command.brief))
@@ -79,18 +76,15 @@ fn read_sources<'a, S: Shelf>(
 ) -> Result<Inputs, Refusal<'a>>
     requires { S.in_use shelf.old ≡ Nothing }
     ensures in_use { OnOk result (S.in_use shelf.new ≡ Nothing) }
+    ensures closed { IfErr result (IsClosed (S.in_use shelf.new)) }
     ensures ok { IsTrue S.tells → IfOk result (λ inputs.
         verdict_of (S.told shelf.old).holds (command_view command.entry) ≡ Ok (accepted_view inputs)) }
     ensures comparable { IfOk result AreComparable }
     ensures err { IsTrue S.tells → IfErr result
         (Explains (verdict_of (S.told shelf.old).holds (command_view command.entry))) }
     ensures unsaid { IfErr result IsUntold }
-    ensures named { IsTrue S.tells → IfErr result (λ r. IfReadFault r (λ n. (S.told shelf.new).last ≡ n)) }
-    ensures told { IsTrue S.tells → OnlyRead (S.told shelf.old) (S.told shelf.new) }
-    ensures opened { IsTrue S.tells → OpensInTurn (S.told shelf.old) (S.told shelf.new)
-        (opened_for (S.told shelf.old).holds (command_view command.entry)) result }
-    ensures counts { OnOk result (S.counts shelf.new ≡ S.counts shelf.old) }
-    ensures cause { IfErr result (HasReadCause (S.counts shelf.old) (S.counts shelf.new)) }
+    ensures reads { let names = opened_for (S.told shelf.old).holds (command_view command.entry) in
+        ReadsFiles S.Shelf shelf.old shelf.new names (ending_of result) }
 {
     let old = read_edits(alloc, shelf, command.old)?;
     read_new(alloc, shelf, command, old)
@@ -104,18 +98,15 @@ pub fn read_inputs<'a, S: Shelf>(
 ) -> Result<Inputs, Refusal<'a>>
     requires { S.in_use shelf.old ≡ Nothing }
     ensures in_use { OnOk result (S.in_use shelf.new ≡ Nothing) }
+    ensures closed { IfErr result (IsClosed (S.in_use shelf.new)) }
     ensures ok { IsTrue S.tells → IfOk result (λ inputs.
         verdict (texts words.now) (S.told shelf.old).holds ≡ Ok (accepted_view inputs)) }
     ensures comparable { IfOk result AreComparable }
     ensures err { IsTrue S.tells → IfErr result
         (Explains (verdict (texts words.now) (S.told shelf.old).holds)) }
     ensures unsaid { IfErr result IsUntold }
-    ensures named { IsTrue S.tells → IfErr result (λ r. IfReadFault r (λ n. (S.told shelf.new).last ≡ n)) }
-    ensures told { IsTrue S.tells → OnlyRead (S.told shelf.old) (S.told shelf.new) }
-    ensures opened { IsTrue S.tells → OpensInTurn (S.told shelf.old) (S.told shelf.new)
-        (files_opened (texts words.now) (S.told shelf.old).holds) result }
-    ensures counts { OnOk result (S.counts shelf.new ≡ S.counts shelf.old) }
-    ensures cause { IfErr result (HasReadCause (S.counts shelf.old) (S.counts shelf.new)) }
+    ensures reads { let names = files_opened (texts words.now) (S.told shelf.old).holds in
+        ReadsFiles S.Shelf shelf.old shelf.new names (ending_of result) }
 {
     match read_command(alloc, words)? {
         None => Err(Refusal::Usage),

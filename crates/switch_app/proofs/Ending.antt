@@ -1,21 +1,26 @@
 -- How a call ends, from what a refused run leaves and what is printed of it; and what follows from how it ends.
-use Rattle.std.proofs.Common.{◌≡◌, ℕ, List, [], refl, sym, ap, subst, inl, inr, arith}
+use Rattle.std.proofs.Common.{◌≡◌, ◌≢◌, ℕ, List, [], ◌∷◌, ◌++◌, Option, Some, None, refl, sym, ap, subst, ◌∙◌, inl, inr, arith}
 use Rattle.std.specs.Prelude.{◌⊎◌, IsTrue, IsOk, IfErr, Result, Ok, Err, string_bytes}
+use Rattle.std.specs.Option.{ok_or}
 use Rattle.std.proofs.lemmas.List.{append-nil}
 use Rattle.spec_base.specs.Counts.{Rose}
-use Rattle.spec_run.specs.Verdict.{Accepted, Refusal as Refused, verdict, files_opened}
+use Rattle.spec_words.specs.Words.{Command, command_of}
+use Rattle.spec_run.specs.Verdict.{Files as Shelved, Accepted, Refusal as Refused, Usage, command_in, verdict, files_opened}
 use Rattle.spec_run.specs.CutShort.{IsCutSummary}
-use Rattle.spec_run.specs.Statuses.{done_status, read_fault_status, out_of_memory_status, read_fault_text, write_fault_text, is_refusal, status_of as refusal_status, Prints}
+use Rattle.spec_run.specs.Statuses.{done_status, usage_status, read_fault_status, write_fault_status, limit_status, out_of_memory_status, read_fault_text, write_fault_text, is_refusal, status_of as refusal_status, Prints}
 use Rattle.edge_io.specs.declared.outside.Failed.TheVariants as failed
+use Rattle.edge_io.specs.declared.outside.InUse.{InUse}
+use Rattle.edge_io.specs.declared.outside.InUse.TheVariants.{Nothing}
 use Rattle.edge_io.specs.declared.outside.Shelf as shelf
 use Rattle.edge_io.specs.declared.outside.Sink as sink
 use Rattle.edge_io.specs.Counts.{Counts, with_fault, with_write_fault}
 use Rattle.edge_io.specs.Opened.{HasOpened, HasOpenedPrefix, HasOpenedUpTo}
 use Rattle.edge_io.specs.Shelf.{Told}
+use Rattle.switch_input.specs.Known.{IsKnownCommand, IsKnown}
 use Rattle.switch_refusals.specs.declared.refusal.InputFault.{InputFault}
 use Rattle.switch_refusals.specs.declared.refusal.InputFault.TheVariants as fault
 use Rattle.switch_refusals.specs.declared.refusal.InputRefusal.TheVariants as input
-use Rattle.switch_refusals.specs.Refused.{fault_view}
+use Rattle.switch_refusals.specs.Refused.{fault_view, IsClosedAt}
 use Rattle.switch_output.specs.declared.refusal.WriteRefusal.TheVariants.{WriteFault, OutOfMemory}
 use Rattle.switch_output.specs.declared.refusal.OutputRefusal.TheVariants.{Files, Summary}
 use Rattle.switch_app.specs.declared.refusal.Refusal.{Refusal}
@@ -27,10 +32,22 @@ use Rattle.switch_app.specs.RunViews.{Leaves}
 is_turned_down : (f : InputFault) → IsTrue (is_refusal (refusal_status (fault_view f)))
 is_turned_down fault.Usage = refl
 is_turned_down (fault.Text name why) = refl
-is_turned_down (fault.Steps name why) = refl
-is_turned_down (fault.Mirrors name why) = refl
 is_turned_down (fault.Trace name why) = refl
 is_turned_down (fault.Limit q) = refl
+
+-- no file is refused with the status of words
+only_words : (f : InputFault) → refusal_status (fault_view f) ≡ usage_status → input.Input f ≡ input.Input fault.Usage
+only_words fault.Usage is = refl
+only_words (fault.Text name why) is = cc is
+only_words (fault.Trace name why) is = cc is
+only_words (fault.Limit q) is = cc is
+
+-- no file is in use where it is no limit that is told
+closed_but : (now : InUse) (f : InputFault) → IsClosedAt now f → refusal_status (fault_view f) ≢ limit_status → now ≡ Nothing
+closed_but now fault.Usage closed other = closed
+closed_but now (fault.Text name why) closed other = closed
+closed_but now (fault.Trace name why) closed other = closed
+closed_but now (fault.Limit q) closed other = absurd (other refl)
 
 all_is_prefix : (before now : Told) (names : List (List ℕ)) → HasOpened before now names → HasOpenedPrefix before now names
 all_is_prefix before now names opened = record { opened = names; left = []; are_names = sym (append-nil names); has_opened = opened }
@@ -47,22 +64,25 @@ module _ {S K : Type 0} (g : shelf.Ghosts S) (h : sink.Ghosts K) (words : List (
       → (IsSilent r → saying ≡ mid) → Ends g h words old new said saying (status_of r)
   ended (Reading (input.Input f)) left is silent = TurnedDown (is_turned_down f) (record {
     verdict = λ t. record { refusal = fault_view f; is_verdict = left.verdict t; is_status = refl };
-    opened = left.opened;
-    unwritten = left.unwritten;
-    counts = left.cause;
+    usage = λ is. left.usage (only_words f is);
+    opened = left.reads.opened;
+    unwritten = left.reads.only_read;
+    no_file = closed_but (g.in_use new) f left.closed;
+    counts = left.reads.counts;
     printed = λ t k. record { refusal = fault_view f; is_verdict = left.verdict t; printed = printed (text_of (Reading (input.Input f))) left.unsaid is k };
   })
   ended (Reading (input.ReadFault name)) left is silent = ReadingFailed refl (record {
-    counts = left.cause;
-    since = left.since;
-    opened = λ t. subst (λ n. HasOpenedUpTo (g.told old) (g.told new) (files_opened words (g.told old).holds) n) (sym (left.named t)) (left.opened t);
-    unwritten = left.unwritten;
-    printed = λ t k. subst (λ n. Printed said (read_fault_text n)) (sym (left.named t)) (printed (read_fault_text name.now) left.unsaid is k);
+    counts = left.reads.counts;
+    since = left.reads.since;
+    opened = λ t. subst (λ n. HasOpenedUpTo (g.told old) (g.told new) (files_opened words (g.told old).holds) n) (sym (left.reads.named t)) (left.reads.opened t);
+    unwritten = left.reads.only_read;
+    no_file = left.closed;
+    printed = λ t k. subst (λ n. Printed said (read_fault_text n)) (sym (left.reads.named t)) (printed (read_fault_text name.now) left.unsaid is k);
   })
   ended (Reading input.OutOfMemory) left is silent = RunOut refl (record {
-    counts = left.cause;
-    opened = left.opened;
-    run = λ t. inl (left.unwritten t);
+    counts = left.reads.counts;
+    opened = left.reads.opened;
+    run = λ t. inl (left.reads.only_read t);
     printed = printed (text_of (Reading input.OutOfMemory)) left.unsaid is;
   })
   ended (Output (Files (WriteFault name))) left is silent = FileFailed refl (record {
@@ -101,8 +121,33 @@ module _ {S K : Type 0} (g : shelf.Ghosts S) (h : sink.Ghosts K) (words : List (
 rose_by : (old new : Counts) → new ≡ with_write_fault old → Rose old.writing new.writing
 rose_by old new e = let is : new.writing ≡ with_fault old.writing = ap (λ (c : Counts). c.writing) e in omega (arith, is)
 
+-- words are refused as words, and then no file is opened
+module _ (words : List (List ℕ)) where
+  refused_by_words : (r : Refused) → command_in words ≡ Err r → command_in words ≡ Err Usage
+  unfolding command_in
+  refused_by_words r e = at (command_of words) refl e
+    where
+      at : (o : Option Command) → command_of words ≡ o → ok_or o Usage ≡ Err r → ok_or (command_of words) Usage ≡ Err Usage
+      at None is e = rw is refl
+      at (Some c) is e = cc e
+
+  words_refuse : (files : Shelved) → command_in words ≡ Err Usage → verdict words files ≡ Err Usage
+  unfolding verdict
+  words_refuse files e = rw e refl
+
+  none_named : (files : Shelved) → command_in words ≡ Err Usage → files_opened words files ≡ []
+  unfolding files_opened
+  none_named files e = rw e refl
+
+  none_up_to : {before now : Told} {name : List ℕ} (files : Shelved) → command_in words ≡ Err Usage → HasOpenedUpTo before now (files_opened words files) name → ⊥
+  none_up_to {name = name} files e up = at up.earlier (sym (none_named files e) ∙ up.are_names)
+    where
+      at : (earlier : List (List ℕ)) → [] ≡ earlier ++ name ∷ up.later → ⊥
+      at [] is = cc is
+      at (x ∷ earlier) is = cc is
+
 module _ {S K : Type 0} (g : shelf.Ghosts S) (h : sink.Ghosts K) (words : List (List ℕ)) (old new : S) (said saying : K) (status : ℕ) where
-  refused_is : (r : Refused) → verdict words (g.told old).holds ≡ Err r → IsTrue g.tells → Ends g h words old new said saying status
+  refused_is : (r : Refused) → verdict words (g.told old).holds ≡ Err r → IsKnown g.tells words → Ends g h words old new said saying status
       → (status ≡ refusal_status r) ⊎ ((status ≡ read_fault_status) ⊎ (status ≡ out_of_memory_status))
   refused_is r e t (AllDone is done) = cc (e, (done.run t).decided.is_verdict)
   refused_is r e t (TurnedDown is down) = inl (cc (e, (down.verdict t).is_verdict, (down.verdict t).is_status))
@@ -112,7 +157,7 @@ module _ {S K : Type 0} (g : shelf.Ghosts S) (h : sink.Ghosts K) (words : List (
   refused_is r e t (RunOut is out) = inr (inr is)
   refused_is r e t (RunOutLate is out) = inr (inr is)
 
-  pub refused_ends : IsTrue g.tells → Ends g h words old new said saying status
+  pub refused_ends : IsKnown g.tells words → Ends g h words old new said saying status
       → IfErr (verdict words (g.told old).holds) (λ r. (status ≡ refusal_status r) ⊎ ((status ≡ read_fault_status) ⊎ (status ≡ out_of_memory_status)))
   refused_ends t ends = at (verdict words (g.told old).holds) refl
     where
@@ -120,7 +165,7 @@ module _ {S K : Type 0} (g : shelf.Ghosts S) (h : sink.Ghosts K) (words : List (
       at (Ok accepted) e = tt
       at (Err r) e = refused_is r e t ends
 
-  accepted_is : (accepted : Accepted) → verdict words (g.told old).holds ≡ Ok accepted → IsTrue g.tells → Ends g h words old new said saying status
+  accepted_is : (accepted : Accepted) → verdict words (g.told old).holds ≡ Ok accepted → IsKnown g.tells words → Ends g h words old new said saying status
       → ¬ Rose (g.counts old).reading (g.counts new).reading → ¬ Rose (g.counts old).writing (g.counts new).writing → ¬ Rose (h.faults said) (h.faults saying)
       → (status ≡ done_status) ⊎ (status ≡ out_of_memory_status)
   accepted_is accepted e t (AllDone is done) reading writing printing = inl is
@@ -131,7 +176,7 @@ module _ {S K : Type 0} (g : shelf.Ghosts S) (h : sink.Ghosts K) (words : List (
   accepted_is accepted e t (RunOut is out) reading writing printing = inr is
   accepted_is accepted e t (RunOutLate is out) reading writing printing = inr is
 
-  pub accepted_ends : IsTrue g.tells → Ends g h words old new said saying status → IsOk (verdict words (g.told old).holds)
+  pub accepted_ends : IsKnown g.tells words → Ends g h words old new said saying status → IsOk (verdict words (g.told old).holds)
       → ¬ Rose (g.counts old).reading (g.counts new).reading → ¬ Rose (g.counts old).writing (g.counts new).writing → ¬ Rose (h.faults said) (h.faults saying)
       → (status ≡ done_status) ⊎ (status ≡ out_of_memory_status)
   accepted_ends t ends = at (verdict words (g.told old).holds) refl
@@ -141,3 +186,35 @@ module _ {S K : Type 0} (g : shelf.Ghosts S) (h : sink.Ghosts K) (words : List (
           → (status ≡ done_status) ⊎ (status ≡ out_of_memory_status)
       at (Ok accepted) e ok = accepted_is accepted e t ends
       at (Err r) e ok = cc ok
+
+  -- ---- the words alone
+
+  usage_is : command_in words ≡ Err Usage → Ends g h words old new said saying status → (status ≡ usage_status) ⊎ (status ≡ out_of_memory_status)
+  usage_is e ends =
+      let known : IsKnown g.tells words = subst (λ (r : Result Command Refused). IsKnownCommand g.tells r) (sym e) tt in
+      by known (words_refuse words (g.told old).holds e) ends
+    where
+      by : IsKnown g.tells words → verdict words (g.told old).holds ≡ Err Usage → Ends g h words old new said saying status → (status ≡ usage_status) ⊎ (status ≡ out_of_memory_status)
+      by t v (AllDone is done) = cc (v, (done.run t).decided.is_verdict)
+      by t v (TurnedDown is down) = inl (cc (v, (down.verdict t).is_verdict, (down.verdict t).is_status))
+      by t v (ReadingFailed is failed) = absurd (none_up_to words (g.told old).holds e (failed.opened t))
+      by t v (FileFailed is failed) = cc (v, (failed.run t).decided.is_verdict)
+      by t v (SummaryFailed is failed) = cc (v, (failed.run t).decided.is_verdict)
+      by t v (RunOut is out) = inr is
+      by t v (RunOutLate is out) = inr is
+
+  pub usage_ends : Ends g h words old new said saying status → IfErr (command_in words) (λ _. (status ≡ usage_status) ⊎ (status ≡ out_of_memory_status))
+  usage_ends ends = at (command_in words) refl
+    where
+      at : (r : Result Command Refused) → command_in words ≡ r → IfErr r (λ _. (status ≡ usage_status) ⊎ (status ≡ out_of_memory_status))
+      at (Ok c) e = tt
+      at (Err r) e = usage_is (refused_by_words words r e) ends
+
+  pub taken_ends : Ends g h words old new said saying status → IsOk (command_in words) → status ≢ usage_status
+  taken_ends (AllDone is done) ok two = cc (is, two)
+  taken_ends (TurnedDown is down) ok two = cc (rw (down.usage two) at ok)
+  taken_ends (ReadingFailed is failed) ok two = cc (is, two)
+  taken_ends (FileFailed is failed) ok two = cc (is, two)
+  taken_ends (SummaryFailed is failed) ok two = cc (is, two)
+  taken_ends (RunOut is out) ok two = cc (is, two)
+  taken_ends (RunOutLate is out) ok two = cc (is, two)

@@ -3,7 +3,7 @@ use Rattle.std.specs.Prelude.{◌≡◌, ℕ, ◌⊎◌, Bool, true, false, List
 use Rattle.spec_case.specs.Run.{Run}
 use Rattle.spec_board.specs.Texts.{Journal}
 use Rattle.spec_dumps.specs.declared.ran.Ran.{Ran}
-use Rattle.spec_run.specs.Verdict.{files_opened, verdict}
+use Rattle.spec_run.specs.Verdict.{Usage, command_in, files_opened, verdict}
 use Rattle.spec_run.specs.Journals.{AreJournals}
 use Rattle.spec_run.specs.CutShort.{IsCutRun, IsPartOfRun, IsCutSummary}
 use Rattle.edge_io.specs.declared.outside.Failed.{Failed}
@@ -14,8 +14,10 @@ use Rattle.edge_io.specs.Counts.{HasCause, with_fault}
 use Rattle.edge_io.specs.Opened.{HasOpened}
 use Rattle.edge_io.specs.ReadAll.{OnlyRead}
 use Rattle.edge_io.specs.Written.{written}
+use Rattle.switch_input.specs.Known.{IsKnown}
 use Rattle.switch_refusals.specs.declared.refusal.InputRefusal.{InputRefusal}
-use Rattle.switch_refusals.specs.Refused.{Explains, IfReadFault, HasReadCause, HasOpenedUntil}
+use Rattle.switch_refusals.specs.Reading.{Ending, ReadsWhere}
+use Rattle.switch_refusals.specs.Refused.{TellsUsage, IsClosed, Explains, stop_of}
 use Rattle.switch_output.specs.declared.refusal.WriteRefusal.{WriteRefusal}
 use Rattle.switch_output.specs.declared.refusal.WriteRefusal.TheVariants.{WriteFault, OutOfMemory}
 use Rattle.switch_output.specs.declared.refusal.OutputRefusal.TheVariants.{Files, Summary}
@@ -42,19 +44,21 @@ module _ {S K : Type 0} (g : shelf.Ghosts S) (h : sink.Ghosts K) (old new : S) (
     pub unsaid : saying ≡ said
 
 module _ {S K : Type 0} (g : shelf.Ghosts S) (h : sink.Ghosts K) (words : List (List ℕ)) (old new : S) (said saying : K) where
+  -- The files of the words were read.
+  abbrev pub HasRead : Ending → Type 0
+  HasRead ending = ReadsWhere (IsKnown g.tells words) g old new (files_opened words (g.told old).holds) ending
+
   -- The words and the files were not read, and nothing was written or printed.
   pub record LeavesUnread (r : InputRefusal) : Type 0 where
-    pub verdict : IsTrue g.tells → Explains (verdict words (g.told old).holds) r
-    pub named : IsTrue g.tells → IfReadFault r (λ name. (g.told new).last ≡ name)
-    pub since : IsTrue g.tells → IfReadFault r (λ _. g.counts_at_last new ≡ g.counts old)
-    pub unwritten : IsTrue g.tells → OnlyRead (g.told old) (g.told new)
-    pub opened : IsTrue g.tells → HasOpenedUntil (g.told old) (g.told new) (files_opened words (g.told old).holds) r
-    pub cause : HasReadCause (g.counts old) (g.counts new) r
+    pub verdict : IsKnown g.tells words → Explains (verdict words (g.told old).holds) r
+    pub usage : TellsUsage r → command_in words ≡ Err Usage
+    pub reads : HasRead (stop_of r)
+    pub closed : IsClosed (g.in_use new) r
     pub unsaid : saying ≡ said
 
   -- The files that are opened in reading were opened.
-  abbrev pub HasRead : Type 0
-  HasRead = IsTrue g.tells → HasOpened (g.told old) (g.told new) (files_opened words (g.told old).holds)
+  abbrev pub OpensAll : Type 0
+  OpensAll = IsKnown g.tells words → HasOpened (g.told old) (g.told new) (files_opened words (g.told old).holds)
 
   -- how far the files of the run were written
   abbrev pub IsWritten : WriteRefusal → Type 0
@@ -67,17 +71,17 @@ module _ {S K : Type 0} (g : shelf.Ghosts S) (h : sink.Ghosts K) (words : List (
 
   -- The files were not written whole, and nothing was printed.
   pub record LeavesUnwritten (r : WriteRefusal) : Type 0 where
-    pub run : IsTrue g.tells → IsWritten r
-    pub since : IsTrue g.tells → IfWriteFault r (λ _. g.counts_at_last new ≡ g.counts old)
-    pub opened : HasRead
+    pub run : IsKnown g.tells words → IsWritten r
+    pub since : IsKnown g.tells words → IfWriteFault r (λ _. g.counts_at_last new ≡ g.counts old)
+    pub opened : OpensAll
     pub cause : HasWriteCause (g.counts old) (g.counts new) r
     pub unsaid : saying ≡ said
 
   -- They were, and the summary was not printed whole.
   pub record LeavesUnsaid (f : Failed) : Type 0 where
-    pub run : IsTrue g.tells
+    pub run : IsKnown g.tells words
         → IsCutSummary words (g.told old).holds (g.told old).done (g.told new).done h.tells (h.written said) (h.written saying)
-    pub opened : HasRead
+    pub opened : OpensAll
     pub no_file : g.in_use new ≡ Nothing
     pub counts : g.counts new ≡ g.counts old
     pub cause : HasCause {T = Unit {0}} with_fault (h.faults said) (h.faults saying) (Err f)

@@ -9,8 +9,9 @@
 //! # What is promised
 //!
 //! The contract of `run_switch` is one definition, `Ends` (specs/Ends.antt): the ways to end, by the status, and what
-//! holds with each, in the words of the specification crates, chiefly `spec_run`. What is said of names and bytes holds
-//! where the shelf, or the sink, tells them.
+//! holds with each, in the words of the specification crates, chiefly `spec_run`. What is said of names, bytes and the
+//! verdict holds where they are known: the shelf, or the sink, tells them, or no file is read, since the words are refused or
+//! have a number.
 //!
 //! - Where all is done, the verdict accepts the words and the files, and the files written are exactly those of the
 //!   run: one for each port, in the order of the words, after them its rules, its megaflows and its journals, then its flows,
@@ -39,7 +40,10 @@
 //!   one has a prefix of its bytes, and none after it is written.
 //! - The text of the status is printed, and nothing else: all of it where the sink needs no memory and didn't fail, and
 //!   else a prefix. Nothing is printed after a fault in printing the summary.
-//! - A run that is accepted and meets no fault is done, unless memory runs out.
+//! - A run that is accepted and meets no fault is done, unless memory runs out. Words that are refused end with their status,
+//!   and others never do, with every shelf.
+//! - No file is in use after a run that is done, a refusal, or a fault in reading or in printing, but one that is too long.
+//!   One in which writing failed may be.
 //!
 //! # How
 //!

@@ -1,20 +1,21 @@
-ghost use Rattle.std.specs.Prelude.{◌≡◌, ◌≤◌, ◌⊎◌, length, IsTrue, IsOk, OnOk, IfOk, IfErr};
+ghost use Rattle.std.specs.Prelude.{◌≡◌, ◌≢◌, ◌≤◌, ◌⊎◌, length, None, IsTrue, IsOk, OnOk, IfOk, IfErr};
 ghost use Rattle.std.specs.List.{list_all};
 ghost use Rattle.spec_base.specs.Counts.{Rose};
 ghost use Rattle.spec_tables.specs.Edits.{has_sound_actions};
 ghost use Rattle.spec_steps.specs.Steps.{most_steps};
 ghost use Rattle.spec_dumps.specs.Summary.{summary};
-ghost use Rattle.spec_run.specs.Verdict.{verdict};
+ghost use Rattle.spec_run.specs.Verdict.{command_in, verdict};
 ghost use Rattle.spec_run.specs.Journals.{AreJournals};
 ghost use Rattle.spec_run.specs.Outputs.{outlets_of, output_of, has_steps, ran_of};
-ghost use Rattle.spec_run.specs.Statuses.{done_status, read_fault_status, out_of_memory_status, status_of as refusal_status};
+ghost use Rattle.spec_run.specs.Statuses.{done_status, usage_status, read_fault_status, out_of_memory_status, status_of as refusal_status};
 ghost use Rattle.edge_io.specs.declared.outside.InUse.TheVariants.{Nothing};
 ghost use Rattle.command_words.specs.CommandViews.{texts, input_view, HasWorkers};
+ghost use Rattle.switch_input.specs.Known.{IsKnown};
 ghost use Rattle.switch_input.specs.InputViews.{run_view, IsWithinLimits};
 ghost use Rattle.switch_output.specs.declared.refusal.OutputRefusal.TheVariants.{Files};
 ghost use Rattle.switch_output.specs.declared.refusal.WriteRefusal.TheVariants.{OutOfMemory};
 ghost use Rattle.switch_output.specs.OutletViews.{outlets_in};
-ghost use Rattle.switch_output.specs.Put.{PutsWhole, CutsOut};
+ghost use Rattle.switch_output.specs.Put.{NamesNoFile, PutsWhole, CutsOut};
 ghost use Rattle.switch_app.specs.Ends.{Ends, IsAllDone};
 ghost use Rattle.switch_app.specs.RunViews.{told_if, ByJournals, IsUntouched, Leaves};
 
@@ -139,6 +140,10 @@ fn decide_and_tell<
         (output_of (outlets_of input inputs.entry.mirrors.items) C.run journals)
         (summary C.run journals (ran_of (has_steps input) C.run)) r)) }
     ensures opened { IsTrue S.tells → (S.told shelf.new).opened ≡ (S.told shelf.old).opened }
+
+    // Where nothing is written, the shelf isn't touched.
+    ensures untouched { outlets_of (input_view inputs.entry.command.input) inputs.entry.mirrors.items ≡ None
+        → (shelf.new ≡ shelf.old) × IfErr result NamesNoFile }
 {
     let Inputs {
         command,
@@ -253,12 +258,17 @@ pub fn run_switch<R: Threads + Wait + Sync, S: Shelf, K: Sink, G: Gate + Sync>(
     ensures ends { let words = texts words.now in
         Ends S.Shelf K.Sink words shelf.old shelf.new say.old say.new result }
 
+    // Words that are refused end with their status, whatever the shelf is, unless memory runs out; others never do.
+    ensures usage { IfErr (command_in (texts words.now))
+        (λ _. (result ≡ usage_status) ⊎ (result ≡ out_of_memory_status)) }
+    ensures taken { IsOk (command_in (texts words.now)) → result ≢ usage_status }
+
     // What is refused ends with the status of its refusal, and what is accepted is done, unless a count rises or memory runs
     // out.
-    ensures refusal { IsTrue S.tells → IfErr (verdict (texts words.now) (S.told shelf.old).holds)
+    ensures refusal { IsKnown S.tells (texts words.now) → IfErr (verdict (texts words.now) (S.told shelf.old).holds)
         (λ r. (result ≡ refusal_status r)
         ⊎ ((result ≡ read_fault_status) ⊎ (result ≡ out_of_memory_status))) }
-    ensures accepted { IsTrue S.tells → IsOk (verdict (texts words.now) (S.told shelf.old).holds)
+    ensures accepted { IsKnown S.tells (texts words.now) → IsOk (verdict (texts words.now) (S.told shelf.old).holds)
         → ¬ Rose (S.counts shelf.old).reading (S.counts shelf.new).reading
         → ¬ Rose (S.counts shelf.old).writing (S.counts shelf.new).writing
         → ¬ Rose (K.faults say.old) (K.faults say.new)

@@ -6,4 +6,5 @@ pub mod Opened
 pub mod Walk
 pub mod MadeFiles
 pub mod Untouched
+pub mod Known
 pub mod Verdicts

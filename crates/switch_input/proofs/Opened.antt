@@ -5,10 +5,9 @@ use Rattle.edge_io.specs.Shelf.{Told}
 use Rattle.edge_io.specs.Opened.{HasOpened, HasOpenedPrefix}
 use Rattle.switch_refusals.specs.declared.refusal.InputRefusal.{InputRefusal}
 use Rattle.switch_refusals.specs.declared.refusal.InputRefusal.TheVariants.{Input, ReadFault, OutOfMemory}
-use Rattle.switch_refusals.specs.Refused.{IfInput, HasOpenedUntil}
-
-pub opened_none : (t : Told) → HasOpened t t []
-opened_none t = sym (append-nil t.opened)
+use Rattle.switch_refusals.specs.Reading.{HasOpenedUntil}
+use Rattle.switch_refusals.specs.Refused.{IfInput, stop_of}
+use Rattle.switch_refusals.proofs.Reading.{opened_none, opened_both}
 
 -- A prefix of all was opened, and these are left.
 abbrev pub HasLeft : Told → Told → List (List ℕ) → List (List ℕ) → Type 0
@@ -23,11 +22,6 @@ none_left before now all left =
     let are : all ≡ opened = left.0.are_names ∙ ap (λ ns. opened ++ ns) left.1 ∙ append-nil opened in
     left.0.has_opened ∙ ap (λ ns. before.opened ++ ns) (sym are)
 
--- those opened before, and then these
-both : (before mid now : Told) (done next : List (List ℕ)) → HasOpened before mid done → HasOpened mid now next → HasOpened before now (done ++ next)
-both before mid now done next first second =
-    second ∙ ap (λ ns. ns ++ next) first ∙ append_assoc before.opened done next
-
 module _ (before mid now : Told) (left all : List (List ℕ)) (so_far : HasLeft before mid left all) (next later : List (List ℕ)) (split : left ≡ next ++ later) where
   are_all : all ≡ so_far.0.opened ++ (next ++ later)
   are_all = so_far.0.are_names ∙ ap (λ ns. so_far.0.opened ++ ns) (so_far.1 ∙ split)
@@ -39,13 +33,13 @@ module _ (before mid now : Told) (left all : List (List ℕ)) (so_far : HasLeft 
       opened = so_far.0.opened ++ next;
       left = later;
       are_names = are_all ∙ sym (append_assoc so_far.0.opened next later);
-      has_opened = both before mid now so_far.0.opened next so_far.0.has_opened opened;
+      has_opened = opened_both before mid now so_far.0.opened next so_far.0.has_opened opened;
     },
     refl,
   )
 
   -- a refusal among the next; one of an input is the last that is opened
-  pub opened_until : (r : InputRefusal) → IfInput r (λ _. later ≡ []) → HasOpenedUntil mid now next r → HasOpenedUntil before now all r
+  pub opened_until : (r : InputRefusal) → IfInput r (λ _. later ≡ []) → HasOpenedUntil mid now next (stop_of r) → HasOpenedUntil before now all (stop_of r)
   opened_until (Input fault) last until =
       let more = left_later until in
       none_left before now all (more.0, more.1 ∙ last)
@@ -55,7 +49,7 @@ module _ (before mid now : Told) (left all : List (List ℕ)) (so_far : HasLeft 
         later = until.later ++ later;
         are_names = are_all ∙ ap (λ ns. done ++ (ns ++ later)) until.are_names ∙ ap (λ ns. done ++ ns) (append_assoc until.earlier (name.now ∷ until.later) later)
             ∙ sym (append_assoc done until.earlier (name.now ∷ (until.later ++ later)));
-        has_opened = both before mid now done (until.earlier ++ name.now ∷ []) so_far.0.has_opened until.has_opened ∙ ap (λ ns. before.opened ++ ns) (sym (append_assoc done until.earlier (name.now ∷ [])));
+        has_opened = opened_both before mid now done (until.earlier ++ name.now ∷ []) so_far.0.has_opened until.has_opened ∙ ap (λ ns. before.opened ++ ns) (sym (append_assoc done until.earlier (name.now ∷ [])));
       }
   opened_until OutOfMemory last until =
       let done = so_far.0.opened in record {
@@ -63,5 +57,5 @@ module _ (before mid now : Told) (left all : List (List ℕ)) (so_far : HasLeft 
         left = until.left ++ later;
         are_names = are_all ∙ ap (λ ns. done ++ (ns ++ later)) until.are_names ∙ ap (λ ns. done ++ ns) (append_assoc until.opened until.left later)
             ∙ sym (append_assoc done until.opened (until.left ++ later));
-        has_opened = both before mid now done until.opened so_far.0.has_opened until.has_opened;
+        has_opened = opened_both before mid now done until.opened so_far.0.has_opened until.has_opened;
       }

@@ -14,14 +14,13 @@ use Rattle.switch_input.specs.declared.inputs.Inputs.{Inputs}
 use Rattle.switch_input.specs.InputViews.{sources_for, mirrored_view, accepted_view}
 use Rattle.switch_refusals.specs.declared.refusal.InputRefusal.{InputRefusal}
 use Rattle.switch_refusals.specs.declared.refusal.InputRefusal.TheVariants.{Input, ReadFault, OutOfMemory}
-use Rattle.switch_refusals.specs.Refused.{IfInput, IfReadFault, Explains, HasOpenedUntil}
+use Rattle.switch_refusals.specs.Reading.{HasOpenedUntil, ReadsWhere}
+use Rattle.switch_refusals.specs.Refused.{IfInput, TellsNoFault, Explains, stop_of}
+use Rattle.switch_refusals.proofs.Reading.{opened_none, none_yet, reads_unbegun}
+use Rattle.edge_io.specs.declared.outside.Shelf as shelf
 use Rattle.edge_io.specs.Shelf.{Told}
 use Rattle.edge_io.specs.Opened.{HasOpened, HasOpenedPrefix}
-use Rattle.switch_input.proofs.Opened.{HasLeft, opened_none, all_left, none_left, left_later, opened_until}
-
--- nothing was opened yet
-pub none_yet : (t : Told) (names : List (List ℕ)) → HasOpenedPrefix t t names
-none_yet t names = (all_left t names).0
+use Rattle.switch_input.proofs.Opened.{HasLeft, all_left, none_left, left_later, opened_until}
 
 -- what is read
 
@@ -47,8 +46,8 @@ module _ (files : Files) (flow_limit : ℕ) (s : Sources) where
   none_later (ReadFault name) why = tt
   none_later OutOfMemory why = tt
 
-  pub edits_opened : (old now : Told) (r : InputRefusal) → Explains (script_in files s.edits) r → HasOpenedUntil old now (s.edits ∷ []) r
-      → HasOpenedUntil old now (sources_opened files s) r
+  pub edits_opened : (old now : Told) (r : InputRefusal) → Explains (script_in files s.edits) r → HasOpenedUntil old now (s.edits ∷ []) (stop_of r)
+      → HasOpenedUntil old now (sources_opened files s) (stop_of r)
   edits_opened old now r why until =
       opened_until old old now _ _ (all_left old (sources_opened files s)) (s.edits ∷ []) later edits_first r (none_later r why) until
 
@@ -78,8 +77,8 @@ module _ (files : Files) (flow_limit : ℕ) (s : Sources) where
       edits_done : HasLeft old mid (given_names s.steps ++ after_steps) (sources_opened files s)
       edits_done = left_later old old mid _ _ (all_left old (sources_opened files s)) (s.edits ∷ []) (given_names s.steps ++ after_steps) steps_next first
 
-      pub steps_opened : (now : Told) (r : InputRefusal) → Explains (steps_in files (ports_said s.ports) s.steps) r → HasOpenedUntil mid now (given_names s.steps) r
-          → HasOpenedUntil old now (sources_opened files s) r
+      pub steps_opened : (now : Told) (r : InputRefusal) → Explains (steps_in files (ports_said s.ports) s.steps) r → HasOpenedUntil mid now (given_names s.steps) (stop_of r)
+          → HasOpenedUntil old now (sources_opened files s) (stop_of r)
       steps_opened now r why until = opened_until old mid now _ _ edits_done (given_names s.steps) after_steps refl r (none_after_steps r why) until
 
     module _ (steps : List RunStep) (are_steps : steps_in files (ports_said s.ports) s.steps ≡ Ok steps) where
@@ -110,8 +109,8 @@ module _ (files : Files) (flow_limit : ℕ) (s : Sources) where
             let left : HasLeft old late after_steps (sources_opened files s) = left_later old mid late _ _ (edits_done old mid first) (given_names s.steps) after_steps refl second in
             rw mirrors_next at left
 
-        pub mirrors_opened : (now : Told) (r : InputRefusal) → Explains (mirrors_in files (ports_said s.ports) s.mirrors) r → HasOpenedUntil late now (given_names s.mirrors) r
-            → HasOpenedUntil old now (sources_opened files s) r
+        pub mirrors_opened : (now : Told) (r : InputRefusal) → Explains (mirrors_in files (ports_said s.ports) s.mirrors) r → HasOpenedUntil late now (given_names s.mirrors) (stop_of r)
+            → HasOpenedUntil old now (sources_opened files s) (stop_of r)
         mirrors_opened now r why until = opened_until old late now _ _ steps_done (given_names s.mirrors) after_mirrors refl r (none_after_mirrors r why) until
 
       module _ (mirrors : List Mirror) (are_mirrors : mirrors_in files (ports_said s.ports) s.mirrors ≡ Ok mirrors) where
@@ -137,7 +136,7 @@ module _ (files : Files) (flow_limit : ℕ) (s : Sources) where
               let left : HasLeft old last after_mirrors (sources_opened files s) = left_later old late last _ _ (steps_done old mid late first second) (given_names s.mirrors) after_mirrors refl third in
               rw are_mirrors at left
 
-          pub traces_until : (now : Told) (r : InputRefusal) → HasOpenedUntil last now traces r → HasOpenedUntil old now (sources_opened files s) r
+          pub traces_until : (now : Told) (r : InputRefusal) → HasOpenedUntil last now traces (stop_of r) → HasOpenedUntil old now (sources_opened files s) (stop_of r)
           traces_until now r until = opened_until old last now _ _ mirrors_done traces [] (sym (append-nil traces)) r (none_after r) until
 
           pub all_opened : (now : Told) → HasOpened last now traces → HasOpened old now (sources_opened files s)
@@ -164,11 +163,23 @@ module _ (words : List (List ℕ)) (files : Files) where
   command_explains (ReadFault name) why = tt
   command_explains OutOfMemory why = tt
 
-  pub words_opened : (t : Told) (r : InputRefusal) → Explains (command_in words) r → IfReadFault r (λ _. ⊥) → HasOpenedUntil t t (files_opened words files) r
+  pub words_opened : (t : Told) (r : InputRefusal) → Explains (command_in words) r → TellsNoFault r → HasOpenedUntil t t (files_opened words files) (stop_of r)
   unfolding files_opened
   words_opened t (Input fault) why never = rw why (opened_none t)
   words_opened t (ReadFault name) why never = absurd never
   words_opened t OutOfMemory why never = none_yet t (files_opened words files)
+
+  pub words_read : (knows : Type 0) {S : Type 0} (g : shelf.Ghosts S) (s : S) (r : InputRefusal) → Explains (command_in words) r → TellsNoFault r
+      → ReadsWhere knows g s s (files_opened words files) (stop_of r)
+  words_read knows g s (Input fault) why never = record {
+    counts = refl;
+    since = λ k. tt;
+    named = λ k. tt;
+    only_read = λ k. refl;
+    opened = λ k. words_opened (g.told s) (Input fault) why never;
+  }
+  words_read knows g s (ReadFault name) why never = absurd never
+  words_read knows g s OutOfMemory why never = reads_unbegun knows g s (files_opened words files)
 
   module _ (command : Command) (is_command : command_in words ≡ Ok (command_view command)) where
     -- what is read for the command

@@ -10,7 +10,8 @@ use Rattle.edge_io.specs.Opened.{HasOpened}
 use Rattle.command_words.specs.declared.ports.PortWord.{PortWord}
 use Rattle.switch_refusals.specs.declared.refusal.InputRefusal.{InputRefusal}
 use Rattle.switch_refusals.specs.declared.refusal.InputRefusal.TheVariants.{Input, ReadFault, OutOfMemory}
-use Rattle.switch_refusals.specs.Refused.{IfInput, Explains, HasOpenedUntil}
+use Rattle.switch_refusals.specs.Reading.{HasOpenedUntil}
+use Rattle.switch_refusals.specs.Refused.{IfInput, Explains, stop_of}
 use Rattle.command_words.specs.PortViews.{port_view, ports_view}
 use Rattle.switch_input.proofs.Opened.{HasLeft, none_left, left_later, opened_until}
 
@@ -58,7 +59,7 @@ module _ (files : Files) (bytes_left frames_left : ℕ) (ports : List PortWord) 
     module _ (before mid now : Told) (all : List (List ℕ)) (left : HasLeft before mid (traces_opened files bytes_left frames_left (ports_view (drop i ports))) all) where
       -- this port's trace is refused
       pub opened_here : (r : InputRefusal) → Explains (trace_in files bytes_left frames_left (port_view (get_or ports i d))) r
-          → HasOpenedUntil mid now (trace_names (port_view (get_or ports i d))) r → HasOpenedUntil before now all r
+          → HasOpenedUntil mid now (trace_names (port_view (get_or ports i d))) (stop_of r) → HasOpenedUntil before now all (stop_of r)
       opened_here r why until = opened_until before mid now _ all left (trace_names (port_view (get_or ports i d))) later names_here r (none_later r why) until
 
       -- it is read
@@ -82,9 +83,6 @@ module _ (files : Files) (bytes_left frames_left : ℕ) (ports : List PortWord) 
   explained before d all OutOfMemory lt why so_far = tt
 
 -- ---- what was read so far
-
-pub only_read-trans : (a b c : Told) → OnlyRead a b → OnlyRead b c → OnlyRead a c
-only_read-trans a b c first second = second ∙ ap (λ (w : Told). let x : Told = record w { left = c.left; last = c.last; opened = c.opened } in x) first
 
 pub holds_kept : (a b : Told) → OnlyRead a b → b.holds ≡ a.holds
 holds_kept a b told = ap (λ (w : Told). w.holds) told

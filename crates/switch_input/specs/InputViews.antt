@@ -1,5 +1,5 @@
 -- What was read, as the definitions see it.
-use Rattle.std.specs.Prelude.{◌≡◌, ◌≤◌, All, IsTrue, length}
+use Rattle.std.specs.Prelude.{◌≡◌, ◌≤◌, All, IsTrue, length, Result, Ok}
 use Rattle.std.specs.List.{list_all}
 use Rattle.spec_pcap.specs.Pcap.{Capture}
 use Rattle.spec_case.specs.Run.{Run}
@@ -25,6 +25,10 @@ trace_view t = record { size = t.size; capture = t.trace }
 abbrev pub sources_for : Command → verdicts.Sources
 sources_for c = verdicts.sources_of (input_view c.input)
 
+-- what files give for a command: a run and its mirrors, or the first refusal
+abbrev pub run_for : verdicts.Files → Command → Result verdicts.MirroredRun verdicts.Refusal
+run_for files c = verdicts.run_in files c.flow_limit (sources_for c)
+
 -- the run that was read
 abbrev pub run_view : Inputs → Run
 run_view i = verdicts.run_of i.command.flow_limit (sources_for i.command) (script_view i.script) i.steps.items i.traces.items
@@ -32,6 +36,10 @@ run_view i = verdicts.run_of i.command.flow_limit (sources_for i.command) (scrip
 -- and its mirrors
 abbrev pub mirrored_view : Inputs → verdicts.MirroredRun
 mirrored_view i = record { run = run_view i; mirrors = i.mirrors.items }
+
+-- The stage of the verdict gives what was read.
+abbrev pub Gives : Result verdicts.MirroredRun verdicts.Refusal → Inputs → Type 0
+Gives stage i = stage ≡ Ok (mirrored_view i)
 
 -- the command, and what is given by what it reads
 abbrev pub accepted_view : Inputs → verdicts.Accepted

@@ -3,7 +3,7 @@ ghost use Rattle.std.specs.Prelude.{◌≡◌, Ok, IfOk, IfErr};
 ghost use Rattle.spec_run.specs.Verdict.{command_in};
 ghost use Rattle.command_words.specs.PortViews.{ArePorts};
 ghost use Rattle.command_words.specs.CommandViews.{texts, command_view, IfFiles, HasWorkers};
-ghost use Rattle.switch_refusals.specs.Refused.{Explains, IfReadFault};
+ghost use Rattle.switch_refusals.specs.Refused.{Explains, TellsNoFault};
 
 use command_words::Command;
 use std::alloc::Global;
@@ -14,7 +14,7 @@ use switch_refusals::{InputFault, InputRefusal};
 pub fn read_command(alloc: Global, words: &[String]) -> Result<Command<'_>, InputRefusal<'_>>
     ensures ok { IfOk result (λ c. command_in (texts words.now) ≡ Ok (command_view c)) }
     ensures err { IfErr result (Explains (command_in (texts words.now))) }
-    ensures no_fault { IfErr result (λ r. IfReadFault r (λ _. ⊥)) }
+    ensures no_fault { IfErr result TellsNoFault }
     ensures ports { IfOk result (λ c. IfFiles c.input ArePorts) }
     ensures workers { IfOk result HasWorkers }
 {

@@ -4,7 +4,6 @@
 ghost use Rattle.std.specs.Prelude.{◌≡◌, ◌<◌, ◌≤◌, ◌^◌, [], ◌∷◌, length, Ok, IsTrue, OnOk, IfOk, IfErr};
 ghost use Rattle.std.specs.List.{list_all};
 ghost use Rattle.edge_io.specs.declared.outside.InUse.TheVariants.{Nothing};
-ghost use Rattle.edge_io.specs.ReadAll.{OnlyRead};
 ghost use Rattle.spec_case.specs.Blocks.{AreInOrder};
 ghost use Rattle.spec_script.specs.Script.{most_edits, most_syncs};
 ghost use Rattle.spec_run.specs.Limits.{most_edits_bytes};
@@ -14,7 +13,8 @@ ghost use Rattle.spec_tables.specs.Edits.{has_sound_actions};
 ghost use Rattle.rule_tables.specs.History.{history_of};
 ghost use Rattle.edit_script.specs.ScriptViews.{script_view};
 ghost use Rattle.switch_input.specs.EditsViews.{script_in_bytes};
-ghost use Rattle.switch_refusals.specs.Refused.{IfReadFault, Explains, HasReadCause, OpensInTurn};
+ghost use Rattle.switch_refusals.specs.Reading.{ReadsFiles};
+ghost use Rattle.switch_refusals.specs.Refused.{IfReadFault, TakesWords, TellsNoFault, IsClosed, Explains, ending_of};
 
 use crate::reading::read_file;
 use crate::rules::rules_of;
@@ -42,7 +42,8 @@ fn script_of<'a>(alloc: Global, name: &'a str, bytes: &[u8]) -> Result<Script, I
     ensures in_order { IfOk result (λ s. AreInOrder s.syncs.items (length s.bundles.items)) }
     ensures bundles { IfOk result (λ s. AreBundles s.bundles.items (length s.edits.items)) }
     ensures err { IfErr result (Explains (script_within name.now bytes.now)) }
-    ensures no_fault { IfErr result (λ r. IfReadFault r (λ _. ⊥)) }
+    ensures no_fault { IfErr result TellsNoFault }
+    ensures taken { IfErr result TakesWords }
 {
     match read_script(alloc, bytes) {
         Ok(script) => Ok(script),
@@ -58,7 +59,8 @@ fn few_rules_of<'a>(alloc: Global, script: &Script) -> Result<VersionedRules, In
     ensures ok { OnOk result (with_few_changes (script_view script.now) ≡ Ok (script_view script.now)) }
     ensures rules { IfOk result (λ rules. rules ≡ history_of script.now.edits.items script.now.bundles.items) }
     ensures err { IfErr result (Explains (with_few_changes (script_view script.now))) }
-    ensures no_fault { IfErr result (λ r. IfReadFault r (λ _. ⊥)) }
+    ensures no_fault { IfErr result TellsNoFault }
+    ensures taken { IfErr result TakesWords }
 {
     match rules_of(alloc, &script.edits, &script.bundles)? {
         Some(rules) => Ok(rules),
@@ -79,7 +81,8 @@ fn edits_in<'a>(alloc: Global, name: &'a str, bytes: &[u8]) -> Result<EditsFile,
     ensures bundles { IfOk result
         (λ e. AreBundles e.script.bundles.items (length e.script.edits.items)) }
     ensures err { IfErr result (Explains (script_in_bytes name.now bytes.now)) }
-    ensures no_fault { IfErr result (λ r. IfReadFault r (λ _. ⊥)) }
+    ensures no_fault { IfErr result TellsNoFault }
+    ensures taken { IfErr result TakesWords }
 {
     let script = script_of(alloc, name, bytes)?;
     let rules = few_rules_of(alloc, &script)?;
@@ -94,6 +97,8 @@ pub fn read_edits<'a, S: Shelf>(
 ) -> Result<EditsFile, InputRefusal<'a>>
     requires { S.in_use shelf.old ≡ Nothing }
     ensures in_use { OnOk result (S.in_use shelf.new ≡ Nothing) }
+    ensures closed { IfErr result (IsClosed (S.in_use shelf.new)) }
+    ensures reads { ReadsFiles S.Shelf shelf.old shelf.new (name.now ∷ []) (ending_of result) }
     ensures ok { IsTrue S.tells
         → IfOk result (λ e. script_in (S.told shelf.old).holds name.now ≡ Ok (script_view e.script)) }
     ensures rules { IfOk result (λ e. e.rules ≡ history_of e.script.edits.items e.script.bundles.items) }
@@ -106,16 +111,8 @@ pub fn read_edits<'a, S: Shelf>(
         (λ e. AreBundles e.script.bundles.items (length e.script.edits.items)) }
     ensures err { IsTrue S.tells → IfErr result (Explains (script_in (S.told shelf.old).holds name.now)) }
     ensures fault { IfErr result (λ r. IfReadFault r (λ n. n ≡ name.now)) }
-    ensures named { IsTrue S.tells → IfErr result (λ r. IfReadFault r (λ n. (S.told shelf.new).last ≡ n)) }
-    ensures since { IsTrue S.tells →
-        IfErr result (λ r. IfReadFault r (λ _. S.counts_at_last shelf.new ≡ S.counts shelf.old)) }
-    ensures told { IsTrue S.tells → OnlyRead (S.told shelf.old) (S.told shelf.new) }
-    ensures opened { IsTrue S.tells →
-        OpensInTurn (S.told shelf.old) (S.told shelf.new) (name.now ∷ []) result }
-    ensures counts { OnOk result (S.counts shelf.new ≡ S.counts shelf.old) }
-    ensures cause { IfErr result (HasReadCause (S.counts shelf.old) (S.counts shelf.new)) }
+    ensures taken { IfErr result TakesWords }
 {
-    let too_long = InputFault::Limit(Quantity::EditsBytes);
-    let bytes = read_file(alloc, shelf, name, MOST_EDITS_BYTES, too_long)?;
+    let bytes = read_file(alloc, shelf, name, MOST_EDITS_BYTES, Quantity::EditsBytes)?;
     edits_in(alloc, name, &bytes)
 }

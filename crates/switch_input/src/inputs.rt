@@ -1,12 +1,13 @@
-ghost use Rattle.std.specs.Prelude.{◌≡◌, Ok, IsTrue, OnOk, IfOk, IfErr};
+ghost use Rattle.std.specs.Prelude.{◌≡◌, false, Ok, Err, IsTrue, OnOk, IfOk, IfErr};
 ghost use Rattle.edge_io.specs.declared.outside.InUse.TheVariants.{Nothing};
-ghost use Rattle.edge_io.specs.ReadAll.{OnlyRead};
 ghost use Rattle.spec_base.specs.Files.{lookup_or_empty};
-ghost use Rattle.spec_run.specs.Verdict.{verdict, run_in, files_for, made_list, sources_opened, opened_for, files_opened};
+ghost use Rattle.spec_run.specs.Verdict.{Usage, verdict, command_in, files_for, made_list, sources_opened, opened_for, files_opened};
 ghost use Rattle.command_words.specs.PortViews.{ArePorts};
-ghost use Rattle.command_words.specs.CommandViews.{texts, input_view, IfFiles, HasWorkers};
-ghost use Rattle.switch_input.specs.InputViews.{sources_for, mirrored_view, accepted_view, IsWithinLimits};
-ghost use Rattle.switch_refusals.specs.Refused.{IfReadFault, Explains, HasReadCause, OpensInTurn};
+ghost use Rattle.command_words.specs.CommandViews.{texts, command_view, input_view, IfFiles, HasWorkers};
+ghost use Rattle.switch_input.specs.InputViews.{sources_for, run_for, Gives, accepted_view, IsWithinLimits};
+ghost use Rattle.switch_input.specs.Known.{IsKnownInput, IsKnown, NeedNoFile};
+ghost use Rattle.switch_refusals.specs.Reading.{ReadsFiles, ReadsWhere};
+ghost use Rattle.switch_refusals.specs.Refused.{TakesWords, TellsUsage, TellsNoFault, IsClosed, Explains, ending_of};
 
 use crate::command::read_command;
 use crate::edits::read_edits;
@@ -54,20 +55,14 @@ fn read_sources<'a, S: Shelf>(
     requires ports { IfFiles command.input ArePorts }
     requires workers { HasWorkers command }
     ensures in_use { OnOk result (S.in_use shelf.new ≡ Nothing) }
+    ensures closed { IfErr result (IsClosed (S.in_use shelf.new)) }
+    ensures reads { let names = sources_opened (S.told shelf.old).holds (sources_for command.entry) in
+        ReadsFiles S.Shelf shelf.old shelf.new names (ending_of result) }
     ensures command { IfOk result (λ inputs. inputs.command ≡ command.entry) }
-    ensures ok { let sources = sources_for command.entry in IsTrue S.tells → IfOk result
-        (λ inputs. run_in (S.told shelf.old).holds command.entry.flow_limit sources ≡ Ok (mirrored_view inputs)) }
+    ensures ok { IsTrue S.tells → IfOk result (Gives (run_for (S.told shelf.old).holds command.entry)) }
     ensures within { IfOk result IsWithinLimits }
-    ensures err { let sources = sources_for command.entry in IsTrue S.tells → IfErr result
-        (Explains (run_in (S.told shelf.old).holds command.entry.flow_limit sources)) }
-    ensures named { IsTrue S.tells → IfErr result (λ r. IfReadFault r (λ n. (S.told shelf.new).last ≡ n)) }
-    ensures since { IsTrue S.tells →
-        IfErr result (λ r. IfReadFault r (λ _. S.counts_at_last shelf.new ≡ S.counts shelf.old)) }
-    ensures told { IsTrue S.tells → OnlyRead (S.told shelf.old) (S.told shelf.new) }
-    ensures opened { let names = sources_opened (S.told shelf.old).holds (sources_for command.entry) in
-        IsTrue S.tells → OpensInTurn (S.told shelf.old) (S.told shelf.new) names result }
-    ensures counts { OnOk result (S.counts shelf.new ≡ S.counts shelf.old) }
-    ensures cause { IfErr result (HasReadCause (S.counts shelf.old) (S.counts shelf.new)) }
+    ensures err { IsTrue S.tells → IfErr result (Explains (run_for (S.told shelf.old).holds command.entry)) }
+    ensures taken { IfErr result TakesWords }
 {
     let sources = sources_of(&command.input);
     let ports = ports_of(alloc, sources.ports)?;
@@ -96,12 +91,11 @@ fn read_made<'a>(
     requires made { command.input ≡ Input.Made number }
     requires workers { HasWorkers command }
     ensures command { IfOk result (λ inputs. inputs.command ≡ command.entry) }
-    ensures ok { let files = lookup_or_empty (made_list number) in IfOk result
-        (λ inputs. run_in files command.entry.flow_limit (sources_for command.entry) ≡ Ok (mirrored_view inputs)) }
+    ensures ok { IfOk result (Gives (run_for (lookup_or_empty (made_list number)) command.entry)) }
     ensures within { IfOk result IsWithinLimits }
-    ensures err { let files = lookup_or_empty (made_list number) in IfErr result
-        (Explains (run_in files command.entry.flow_limit (sources_for command.entry))) }
-    ensures no_fault { IfErr result (λ r. IfReadFault r (λ _. ⊥)) }
+    ensures err { IfErr result (Explains (run_for (lookup_or_empty (made_list number)) command.entry)) }
+    ensures taken { IfErr result TakesWords }
+    ensures no_fault { IfErr result TellsNoFault }
 {
     let mut shelf = made_shelf(alloc, number)?;
     read_sources(alloc, &mut shelf, command)
@@ -117,22 +111,21 @@ fn read_run<'a, S: Shelf>(
     requires ports { IfFiles command.input ArePorts }
     requires workers { HasWorkers command }
     ensures in_use { OnOk result (S.in_use shelf.new ≡ Nothing) }
+    ensures closed { IfErr result (IsClosed (S.in_use shelf.new)) }
+    ensures reads { let input = input_view command.entry.input in
+        let names = opened_for (S.told shelf.old).holds input in
+        ReadsWhere (IsKnownInput S.tells input) S.Shelf shelf.old shelf.new names (ending_of result) }
     ensures command { IfOk result (λ inputs. inputs.command ≡ command.entry) }
     ensures ok { let files = files_for (S.told shelf.old).holds (input_view command.entry.input) in
-        IsTrue S.tells → IfOk result
-        (λ inputs. run_in files command.entry.flow_limit (sources_for command.entry) ≡ Ok (mirrored_view inputs)) }
+        IsKnownInput S.tells (input_view command.entry.input)
+        → IfOk result (Gives (run_for files command.entry)) }
     ensures within { IfOk result IsWithinLimits }
     ensures err { let files = files_for (S.told shelf.old).holds (input_view command.entry.input) in
-        IsTrue S.tells → IfErr result
-        (Explains (run_in files command.entry.flow_limit (sources_for command.entry))) }
-    ensures named { IsTrue S.tells → IfErr result (λ r. IfReadFault r (λ n. (S.told shelf.new).last ≡ n)) }
-    ensures since { IsTrue S.tells →
-        IfErr result (λ r. IfReadFault r (λ _. S.counts_at_last shelf.new ≡ S.counts shelf.old)) }
-    ensures told { IsTrue S.tells → OnlyRead (S.told shelf.old) (S.told shelf.new) }
-    ensures opened { let names = opened_for (S.told shelf.old).holds (input_view command.entry.input) in
-        IsTrue S.tells → OpensInTurn (S.told shelf.old) (S.told shelf.new) names result }
-    ensures counts { OnOk result (S.counts shelf.new ≡ S.counts shelf.old) }
-    ensures cause { IfErr result (HasReadCause (S.counts shelf.old) (S.counts shelf.new)) }
+        IsKnownInput S.tells (input_view command.entry.input)
+        → IfErr result (Explains (run_for files command.entry)) }
+    ensures taken { IfErr result TakesWords }
+    ensures no_fault { IsKnownInput false (input_view command.entry.input) → IfErr result TellsNoFault }
+    ensures untouched { IsKnownInput false (input_view command.entry.input) → shelf.new ≡ shelf.old }
 {
     match command.input {
         Input::Files(_) => read_sources(alloc, shelf, command),
@@ -149,28 +142,28 @@ pub fn read_inputs<'a, S: Shelf>(
     shelf: &mut S,
 ) -> Result<Inputs<'a>, InputRefusal<'a>>
     requires { S.in_use shelf.old ≡ Nothing }
-    ensures in_use { OnOk result (S.in_use shelf.new ≡ Nothing) }
-
-    // What is read is what the verdict accepts.
-    ensures accepted { IsTrue S.tells
-        → IfOk result (λ inputs. verdict (texts words.now) (S.told shelf.old).holds ≡ Ok (accepted_view inputs)) }
-    ensures within { IfOk result IsWithinLimits }
-    ensures without_fault { OnOk result (S.counts shelf.new ≡ S.counts shelf.old) }
-
-    // A refusal of an input is the verdict's, and a fault is told of the file that was last asked for, before
-    // which no call failed.
-    ensures refused { IsTrue S.tells
-        → IfErr result (Explains (verdict (texts words.now) (S.told shelf.old).holds)) }
-    ensures read_fault_name { IsTrue S.tells
-        → IfErr result (λ r. IfReadFault r (λ name. (S.told shelf.new).last ≡ name)) }
-    ensures since { IsTrue S.tells →
-        IfErr result (λ r. IfReadFault r (λ _. S.counts_at_last shelf.new ≡ S.counts shelf.old)) }
-    ensures cause { IfErr result (HasReadCause (S.counts shelf.old) (S.counts shelf.new)) }
 
     // Nothing but reading is done, and each file is opened only where none before it is refused.
-    ensures only_read { IsTrue S.tells → OnlyRead (S.told shelf.old) (S.told shelf.new) }
-    ensures opened { let names = files_opened (texts words.now) (S.told shelf.old).holds in
-        IsTrue S.tells → OpensInTurn (S.told shelf.old) (S.told shelf.new) names result }
+    ensures in_use { OnOk result (S.in_use shelf.new ≡ Nothing) }
+    ensures closed { IfErr result (IsClosed (S.in_use shelf.new)) }
+    ensures reads { let names = files_opened (texts words.now) (S.told shelf.old).holds in
+        let knows = IsKnown S.tells (texts words.now) in
+        ReadsWhere knows S.Shelf shelf.old shelf.new names (ending_of result) }
+
+    // What is read is what the verdict accepts.
+    ensures command { IfOk result (λ inputs. command_in (texts words.now) ≡ Ok (command_view inputs.command)) }
+    ensures accepted { let given = verdict (texts words.now) (S.told shelf.old).holds in
+        IsKnown S.tells (texts words.now) → IfOk result (λ inputs. given ≡ Ok (accepted_view inputs)) }
+    ensures within { IfOk result IsWithinLimits }
+
+    // A refusal of an input is the verdict's, and that of the words is theirs, whatever the shelf tells.
+    ensures refused { let given = verdict (texts words.now) (S.told shelf.old).holds in
+        IsKnown S.tells (texts words.now) → IfErr result (Explains given) }
+    ensures usage { IfErr result (λ r. TellsUsage r → command_in (texts words.now) ≡ Err Usage) }
+
+    // Where no file is needed, none is read.
+    ensures no_fault { NeedNoFile (texts words.now) → IfErr result TellsNoFault }
+    ensures untouched { NeedNoFile (texts words.now) → shelf.new ≡ shelf.old }
 {
     let command = read_command(alloc, words)?;
     read_run(alloc, shelf, command)

@@ -9,7 +9,8 @@
 //! # What is promised
 //!
 //! `spec_run` has the verdict on words and files: the run that they give, or their first refusal in the order of reading.
-//! Where the shelf tells its bytes, `read_inputs` answers just that.
+//! Where that is known, `read_inputs` answers just that: the shelf tells its bytes, or no file is read, since the words are
+//! refused or have a number.
 //!
 //! - What was read is what the verdict accepts: the command, the edits and the sync points, the given steps, the mirrors, and
 //!   a trace for each port. All of it is within the limits. The actions of the edits are sound.
@@ -18,7 +19,9 @@
 //!   mirrors or a trace by the name and the first fault, or a quantity as above its limit.
 //! - The files that are opened are those that the verdict opens, each once and in its order: all of them, or those up to the
 //!   one at which reading failed, or, out of memory, a prefix. So none is opened after one that is refused.
-//! - Where a number makes what is read, the shelf isn't touched.
+//! - Where a number makes what is read, or the words are refused, the shelf isn't touched. That the words are refused is told
+//!   where they are, and only there, whatever the shelf is.
+//! - No file is left in use, but one that is too long.
 //! - A read fault is told only where calls of reading failed, and of the file that was last asked for, before which none
 //!   did.
 //! - Nothing else is refused, unless memory runs out. Whatever the answer is, nothing is written, and all but a read fault
@@ -28,7 +31,8 @@
 //!
 //! Each stage of the verdict has a function whose contract is that stage: `read_command`, `read_edits`, `read_steps`,
 //! `read_mirrors`, and `read_traces`, which goes from port to port and gives each trace the room that those before it left. The whole is the
-//! chain of their answers, as the verdict is the chain of the stages. They meet the shelf in `read_file` alone. The bytes of
+//! chain of their answers, as the verdict is the chain of the stages. What all of them do to the shelf is one word,
+//! `ReadsFiles` (`switch_refusals`). They meet the shelf in `read_file` alone. The bytes of
 //! a trace are read into the memory where they stay.
 //!
 //! What a number makes is put on a shelf in memory that never fails (`edge_memory`), and read from it by the same function

@@ -1,11 +1,11 @@
 //! The mirrors file: its bytes, and the mirrors that they say.
 ghost use Rattle.std.specs.Prelude.{◌≡◌, ◌≤◌, [], ◌∷◌, length, Ok, IsTrue, OnOk, IfOk, IfErr, Some};
 ghost use Rattle.edge_io.specs.declared.outside.InUse.TheVariants.{Nothing};
-ghost use Rattle.edge_io.specs.ReadAll.{OnlyRead};
 ghost use Rattle.spec_run.specs.Verdict.{mirrors_within, mirrors_in, given_names};
 ghost use Rattle.spec_mirrors.specs.Mirrors.{most_mirrors_bytes, most_mirrors};
 ghost use Rattle.command_words.specs.CommandViews.{text_view};
-ghost use Rattle.switch_refusals.specs.Refused.{IfReadFault, Explains, HasReadCause, OpensInTurn};
+ghost use Rattle.switch_refusals.specs.Reading.{ReadsFiles};
+ghost use Rattle.switch_refusals.specs.Refused.{IfReadFault, TakesWords, TellsNoFault, IsClosed, Explains, ending_of};
 
 use crate::reading::read_file;
 use edge_io::Shelf;
@@ -25,7 +25,8 @@ fn mirrors_of<'a>(
     ensures ok { IfOk result (λ v. mirrors_within ports.now name.now bytes.now ≡ Ok v.items) }
     ensures few_mirrors { IfOk result (λ v. length v.items ≤ most_mirrors) }
     ensures err { IfErr result (Explains (mirrors_within ports.now name.now bytes.now)) }
-    ensures no_fault { IfErr result (λ r. IfReadFault r (λ _. ⊥)) }
+    ensures no_fault { IfErr result TellsNoFault }
+    ensures taken { IfErr result TakesWords }
 {
     match read_mirror_script(alloc, bytes, ports) {
         Ok(mirrors) => Ok(mirrors),
@@ -42,23 +43,23 @@ fn read_mirrors_file<'a, S: Shelf>(
 ) -> Result<Vec<Mirror>, InputRefusal<'a>>
     requires { S.in_use shelf.old ≡ Nothing }
     ensures in_use { OnOk result (S.in_use shelf.new ≡ Nothing) }
+    ensures closed { IfErr result (IsClosed (S.in_use shelf.new)) }
+    ensures reads { ReadsFiles S.Shelf shelf.old shelf.new (name.now ∷ []) (ending_of result) }
     ensures ok { IsTrue S.tells → IfOk result
         (λ v. mirrors_in (S.told shelf.old).holds ports.now (Some name.now) ≡ Ok v.items) }
     ensures few_mirrors { IfOk result (λ v. length v.items ≤ most_mirrors) }
     ensures err { IsTrue S.tells → IfErr result
         (Explains (mirrors_in (S.told shelf.old).holds ports.now (Some name.now))) }
     ensures fault { IfErr result (λ r. IfReadFault r (λ n. n ≡ name.now)) }
-    ensures named { IsTrue S.tells → IfErr result (λ r. IfReadFault r (λ n. (S.told shelf.new).last ≡ n)) }
-    ensures since { IsTrue S.tells →
-        IfErr result (λ r. IfReadFault r (λ _. S.counts_at_last shelf.new ≡ S.counts shelf.old)) }
-    ensures told { IsTrue S.tells → OnlyRead (S.told shelf.old) (S.told shelf.new) }
-    ensures opened { IsTrue S.tells →
-        OpensInTurn (S.told shelf.old) (S.told shelf.new) (name.now ∷ []) result }
-    ensures counts { OnOk result (S.counts shelf.new ≡ S.counts shelf.old) }
-    ensures cause { IfErr result (HasReadCause (S.counts shelf.old) (S.counts shelf.new)) }
+    ensures taken { IfErr result TakesWords }
 {
-    let too_long = InputFault::Limit(Quantity::MirrorsBytes);
-    let bytes = read_file(alloc, shelf, name, MOST_MIRRORS_BYTES, too_long)?;
+    let bytes = read_file(
+        alloc,
+        shelf,
+        name,
+        MOST_MIRRORS_BYTES,
+        Quantity::MirrorsBytes,
+    )?;
     mirrors_of(alloc, ports, name, &bytes)
 }
 
@@ -71,20 +72,15 @@ pub fn read_mirrors<'a, S: Shelf>(
 ) -> Result<Vec<Mirror>, InputRefusal<'a>>
     requires { S.in_use shelf.old ≡ Nothing }
     ensures in_use { OnOk result (S.in_use shelf.new ≡ Nothing) }
+    ensures closed { IfErr result (IsClosed (S.in_use shelf.new)) }
+    ensures reads { ReadsFiles S.Shelf shelf.old shelf.new (given_names (text_view name.entry)) (ending_of result) }
     ensures ok { IsTrue S.tells → IfOk result
         (λ v. mirrors_in (S.told shelf.old).holds ports.now (text_view name.entry) ≡ Ok v.items) }
     ensures few_mirrors { IfOk result (λ v. length v.items ≤ most_mirrors) }
     ensures err { IsTrue S.tells → IfErr result
         (Explains (mirrors_in (S.told shelf.old).holds ports.now (text_view name.entry))) }
     ensures fault { IfErr result (λ r. IfReadFault r (λ n. text_view name.entry ≡ Some n)) }
-    ensures named { IsTrue S.tells → IfErr result (λ r. IfReadFault r (λ n. (S.told shelf.new).last ≡ n)) }
-    ensures since { IsTrue S.tells →
-        IfErr result (λ r. IfReadFault r (λ _. S.counts_at_last shelf.new ≡ S.counts shelf.old)) }
-    ensures told { IsTrue S.tells → OnlyRead (S.told shelf.old) (S.told shelf.new) }
-    ensures opened { IsTrue S.tells →
-        OpensInTurn (S.told shelf.old) (S.told shelf.new) (given_names (text_view name.entry)) result }
-    ensures counts { OnOk result (S.counts shelf.new ≡ S.counts shelf.old) }
-    ensures cause { IfErr result (HasReadCause (S.counts shelf.old) (S.counts shelf.new)) }
+    ensures taken { IfErr result TakesWords }
 {
     match name {
         None => Ok(Vec::new(alloc)),

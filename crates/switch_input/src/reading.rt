@@ -1,12 +1,12 @@
 //! Files read whole, and the traces of the ports.
 ghost use Rattle.std.specs.Prelude.{◌≡◌, ◌<◌, ◌≤◌, [], ◌∷◌, length, Ok, Err, All, Contains, IsTrue, IsSomeAnd, OnOk, IfOk, IfErr, Some};
 ghost use Rattle.edge_io.specs.declared.outside.InUse.TheVariants.{Nothing};
-ghost use Rattle.edge_io.specs.ReadAll.{OnlyRead};
 ghost use Rattle.spec_run.specs.Limits.{most_trace_bytes, most_frames};
 ghost use Rattle.spec_run.specs.Verdict.{refused_trace, file_in, trace_in, traces_in, trace_names, traces_opened};
 ghost use Rattle.command_words.specs.PortViews.{port_view, ports_view};
 ghost use Rattle.switch_input.specs.InputViews.{trace_view};
-ghost use Rattle.switch_refusals.specs.Refused.{fault_view, IfInput, IfReadFault, Explains, HasReadCause, OpensInTurn};
+ghost use Rattle.switch_refusals.specs.Reading.{ReadsFiles};
+ghost use Rattle.switch_refusals.specs.Refused.{fault_view, IfInput, IfReadFault, TakesWords, TellsNoFault, IsClosed, Explains, ending_of};
 
 use command_words::PortWord;
 use edge_io::{ReadFault, Shelf, read_all};
@@ -15,35 +15,29 @@ use spec_run::Quantity;
 use std::alloc::Global;
 use switch_refusals::{InputFault, InputRefusal, MOST_FRAMES, MOST_TRACE_BYTES};
 
-/// Reads a file whole. One that has more bytes than `most` is refused for this fault.
+/// Reads a file whole. One that has more bytes than `most` is above the limit of this quantity.
 pub fn read_file<'a, S: Shelf>(
     alloc: Global,
     shelf: &mut S,
     name: &'a str,
     most: usize,
-    too_long: InputFault<'a>,
+    of: Quantity,
 ) -> Result<Vec<u8>, InputRefusal<'a>>
     requires { S.in_use shelf.old ≡ Nothing }
     ensures in_use { OnOk result (S.in_use shelf.new ≡ Nothing) }
+    ensures closed { IfErr result (IsClosed (S.in_use shelf.new)) }
+    ensures reads { ReadsFiles S.Shelf shelf.old shelf.new (name.now ∷ []) (ending_of result) }
     ensures few { IfOk result (λ v. length v.items ≤ most) }
     ensures bytes { IsTrue S.tells → IfOk result (λ v. (S.told shelf.old).holds name.now ≡ Some v.items) }
-    ensures too_long { IfErr result (λ r. IfInput r (λ fault. fault ≡ too_long.entry)) }
+    ensures too_long { IfErr result (λ r. IfInput r (λ fault. fault ≡ InputFault.Limit of)) }
     ensures has_more { IsTrue S.tells → IfErr result (λ r. IfInput r
         (λ _. IsSomeAnd ((S.told shelf.old).holds name.now) (λ b. most < length b))) }
     ensures fault { IfErr result (λ r. IfReadFault r (λ n. n ≡ name.now)) }
-    ensures named { IsTrue S.tells → IfErr result (λ r. IfReadFault r (λ n. (S.told shelf.new).last ≡ n)) }
-    ensures since { IsTrue S.tells →
-        IfErr result (λ r. IfReadFault r (λ _. S.counts_at_last shelf.new ≡ S.counts shelf.old)) }
-    ensures told { IsTrue S.tells → OnlyRead (S.told shelf.old) (S.told shelf.new) }
-    ensures opened { IsTrue S.tells →
-        OpensInTurn (S.told shelf.old) (S.told shelf.new) (name.now ∷ []) result }
-    ensures counts { OnOk result (S.counts shelf.new ≡ S.counts shelf.old) }
-    ensures cause { IfErr result (HasReadCause (S.counts shelf.old) (S.counts shelf.new)) }
 {
     match read_all(alloc, shelf, name, most) {
         Ok(bytes) => Ok(bytes),
         Err(ReadFault::Fault) => Err(InputRefusal::ReadFault { name }),
-        Err(ReadFault::Over) => Err(InputRefusal::Input(too_long)),
+        Err(ReadFault::Over) => Err(InputRefusal::Input(InputFault::Limit(of))),
         Err(ReadFault::OutOfMemory) => Err(InputRefusal::OutOfMemory),
     }
 }
@@ -58,7 +52,8 @@ pub struct TraceFile {
 // What becomes of a run whose trace of this name has this fault.
 fn refused(name: &str, fault: PcapFault) -> InputRefusal<'_>
     ensures input { IfInput result (λ told. fault_view told ≡ refused_trace name.now fault) }
-    ensures no_fault { IfReadFault result (λ _. ⊥) }
+    ensures no_fault { TellsNoFault result }
+    ensures taken { TakesWords result }
     ensures no_memory { fault ≡ PcapFault.OutOfMemory → result ≡ InputRefusal.OutOfMemory }
 {
     match fault {
@@ -78,6 +73,8 @@ fn read_trace_file<'a, S: Shelf>(
 ) -> Result<TraceFile, InputRefusal<'a>>
     requires { S.in_use shelf.old ≡ Nothing }
     ensures in_use { OnOk result (S.in_use shelf.new ≡ Nothing) }
+    ensures closed { IfErr result (IsClosed (S.in_use shelf.new)) }
+    ensures reads { ReadsFiles S.Shelf shelf.old shelf.new (name.now ∷ []) (ending_of result) }
     ensures ok { IsTrue S.tells → IfOk result (λ t.
         file_in (S.told shelf.old).holds bytes_left frames_left name.now ≡ Ok (trace_view t)) }
     ensures frames { IfOk result (λ t. length t.trace.frames ≤ frames_left) }
@@ -85,17 +82,9 @@ fn read_trace_file<'a, S: Shelf>(
     ensures err { IsTrue S.tells
         → IfErr result (Explains (file_in (S.told shelf.old).holds bytes_left frames_left name.now)) }
     ensures fault { IfErr result (λ r. IfReadFault r (λ n. n ≡ name.now)) }
-    ensures named { IsTrue S.tells → IfErr result (λ r. IfReadFault r (λ n. (S.told shelf.new).last ≡ n)) }
-    ensures since { IsTrue S.tells →
-        IfErr result (λ r. IfReadFault r (λ _. S.counts_at_last shelf.new ≡ S.counts shelf.old)) }
-    ensures told { IsTrue S.tells → OnlyRead (S.told shelf.old) (S.told shelf.new) }
-    ensures opened { IsTrue S.tells →
-        OpensInTurn (S.told shelf.old) (S.told shelf.new) (name.now ∷ []) result }
-    ensures counts { OnOk result (S.counts shelf.new ≡ S.counts shelf.old) }
-    ensures cause { IfErr result (HasReadCause (S.counts shelf.old) (S.counts shelf.new)) }
+    ensures taken { IfErr result TakesWords }
 {
-    let too_long = InputFault::Limit(Quantity::TraceBytes);
-    let bytes = read_file(alloc, shelf, name, bytes_left, too_long)?;
+    let bytes = read_file(alloc, shelf, name, bytes_left, Quantity::TraceBytes)?;
     let size = bytes.len();
     match read_trace(alloc, bytes, frames_left) {
         Ok(trace) => Ok(TraceFile { size, trace }),
@@ -113,6 +102,8 @@ fn read_port_trace<'a, S: Shelf>(
 ) -> Result<TraceFile, InputRefusal<'a>>
     requires { S.in_use shelf.old ≡ Nothing }
     ensures in_use { OnOk result (S.in_use shelf.new ≡ Nothing) }
+    ensures closed { IfErr result (IsClosed (S.in_use shelf.new)) }
+    ensures reads { ReadsFiles S.Shelf shelf.old shelf.new (trace_names (port_view w.now)) (ending_of result) }
     ensures ok { IsTrue S.tells → IfOk result (λ t.
         trace_in (S.told shelf.old).holds bytes_left frames_left (port_view w.now) ≡ Ok (trace_view t)) }
     ensures frames { IfOk result (λ t. length t.trace.frames ≤ frames_left) }
@@ -120,14 +111,7 @@ fn read_port_trace<'a, S: Shelf>(
     ensures err { IsTrue S.tells → IfErr result (Explains
         (trace_in (S.told shelf.old).holds bytes_left frames_left (port_view w.now))) }
     ensures fault { IfErr result (λ r. IfReadFault r (Contains (trace_names (port_view w.now)))) }
-    ensures named { IsTrue S.tells → IfErr result (λ r. IfReadFault r (λ n. (S.told shelf.new).last ≡ n)) }
-    ensures since { IsTrue S.tells →
-        IfErr result (λ r. IfReadFault r (λ _. S.counts_at_last shelf.new ≡ S.counts shelf.old)) }
-    ensures told { IsTrue S.tells → OnlyRead (S.told shelf.old) (S.told shelf.new) }
-    ensures opened { IsTrue S.tells →
-        OpensInTurn (S.told shelf.old) (S.told shelf.new) (trace_names (port_view w.now)) result }
-    ensures counts { OnOk result (S.counts shelf.new ≡ S.counts shelf.old) }
-    ensures cause { IfErr result (HasReadCause (S.counts shelf.old) (S.counts shelf.new)) }
+    ensures taken { IfErr result TakesWords }
 {
     if w.file.is_empty() {
         return Ok(TraceFile {
@@ -146,22 +130,17 @@ pub fn read_traces<'a, S: Shelf>(
 ) -> Result<Vec<Trace>, InputRefusal<'a>>
     requires { S.in_use shelf.old ≡ Nothing }
     ensures in_use { OnOk result (S.in_use shelf.new ≡ Nothing) }
+    ensures closed { IfErr result (IsClosed (S.in_use shelf.new)) }
+    ensures reads { let names = traces_opened (S.told shelf.old).holds most_trace_bytes most_frames
+        (ports_view ports.now) in
+        ReadsFiles S.Shelf shelf.old shelf.new names (ending_of result) }
     ensures one_each { IfOk result (λ traces. length traces.items ≡ length ports.now) }
     ensures few_frames { IfOk result (λ traces. All (λ t. length t.frames ≤ most_frames) traces.items) }
     ensures ok { IsTrue S.tells
         → IfOk result (λ traces. traces_in (S.told shelf.old).holds (ports_view ports.now) ≡ Ok traces.items) }
     ensures err { IsTrue S.tells
         → IfErr result (Explains (traces_in (S.told shelf.old).holds (ports_view ports.now))) }
-    ensures named { IsTrue S.tells → IfErr result (λ r. IfReadFault r (λ n. (S.told shelf.new).last ≡ n)) }
-    ensures since { IsTrue S.tells →
-        IfErr result (λ r. IfReadFault r (λ _. S.counts_at_last shelf.new ≡ S.counts shelf.old)) }
-    ensures told { IsTrue S.tells → OnlyRead (S.told shelf.old) (S.told shelf.new) }
-    ensures opened { let names =
-        traces_opened (S.told shelf.old).holds most_trace_bytes most_frames
-        (ports_view ports.now) in
-        IsTrue S.tells → OpensInTurn (S.told shelf.old) (S.told shelf.new) names result }
-    ensures counts { OnOk result (S.counts shelf.new ≡ S.counts shelf.old) }
-    ensures cause { IfErr result (HasReadCause (S.counts shelf.old) (S.counts shelf.new)) }
+    ensures taken { IfErr result TakesWords }
 {
     let mut traces = Vec::new(alloc);
     let mut bytes_left = MOST_TRACE_BYTES;

@@ -1,12 +1,12 @@
 //! The steps file: its bytes, and the steps that they say.
 ghost use Rattle.std.specs.Prelude.{◌≡◌, ◌≤◌, [], ◌∷◌, length, Ok, IsTrue, OnOk, IfOk, IfErr, Some};
 ghost use Rattle.edge_io.specs.declared.outside.InUse.TheVariants.{Nothing};
-ghost use Rattle.edge_io.specs.ReadAll.{OnlyRead};
 ghost use Rattle.spec_run.specs.Limits.{most_steps_bytes};
 ghost use Rattle.spec_run.specs.Verdict.{steps_within, steps_in, given_names};
 ghost use Rattle.spec_steps.specs.Steps.{most_steps};
 ghost use Rattle.command_words.specs.CommandViews.{text_view};
-ghost use Rattle.switch_refusals.specs.Refused.{IfReadFault, Explains, HasReadCause, OpensInTurn};
+ghost use Rattle.switch_refusals.specs.Reading.{ReadsFiles};
+ghost use Rattle.switch_refusals.specs.Refused.{IfReadFault, TakesWords, TellsNoFault, IsClosed, Explains, ending_of};
 
 use crate::reading::read_file;
 use edge_io::Shelf;
@@ -26,7 +26,8 @@ fn steps_of<'a>(
     ensures ok { IfOk result (λ v. steps_within ports.now name.now bytes.now ≡ Ok v.items) }
     ensures few_steps { IfOk result (λ v. length v.items ≤ most_steps) }
     ensures err { IfErr result (Explains (steps_within ports.now name.now bytes.now)) }
-    ensures no_fault { IfErr result (λ r. IfReadFault r (λ _. ⊥)) }
+    ensures no_fault { IfErr result TellsNoFault }
+    ensures taken { IfErr result TakesWords }
 {
     match read_step_script(alloc, bytes, ports) {
         Ok(steps) => Ok(steps),
@@ -43,23 +44,17 @@ fn read_steps_file<'a, S: Shelf>(
 ) -> Result<Vec<RunStep>, InputRefusal<'a>>
     requires { S.in_use shelf.old ≡ Nothing }
     ensures in_use { OnOk result (S.in_use shelf.new ≡ Nothing) }
+    ensures closed { IfErr result (IsClosed (S.in_use shelf.new)) }
+    ensures reads { ReadsFiles S.Shelf shelf.old shelf.new (name.now ∷ []) (ending_of result) }
     ensures ok { IsTrue S.tells → IfOk result
         (λ v. steps_in (S.told shelf.old).holds ports.now (Some name.now) ≡ Ok v.items) }
     ensures few_steps { IfOk result (λ v. length v.items ≤ most_steps) }
     ensures err { IsTrue S.tells → IfErr result
         (Explains (steps_in (S.told shelf.old).holds ports.now (Some name.now))) }
     ensures fault { IfErr result (λ r. IfReadFault r (λ n. n ≡ name.now)) }
-    ensures named { IsTrue S.tells → IfErr result (λ r. IfReadFault r (λ n. (S.told shelf.new).last ≡ n)) }
-    ensures since { IsTrue S.tells →
-        IfErr result (λ r. IfReadFault r (λ _. S.counts_at_last shelf.new ≡ S.counts shelf.old)) }
-    ensures told { IsTrue S.tells → OnlyRead (S.told shelf.old) (S.told shelf.new) }
-    ensures opened { IsTrue S.tells →
-        OpensInTurn (S.told shelf.old) (S.told shelf.new) (name.now ∷ []) result }
-    ensures counts { OnOk result (S.counts shelf.new ≡ S.counts shelf.old) }
-    ensures cause { IfErr result (HasReadCause (S.counts shelf.old) (S.counts shelf.new)) }
+    ensures taken { IfErr result TakesWords }
 {
-    let too_long = InputFault::Limit(Quantity::StepsBytes);
-    let bytes = read_file(alloc, shelf, name, MOST_STEPS_BYTES, too_long)?;
+    let bytes = read_file(alloc, shelf, name, MOST_STEPS_BYTES, Quantity::StepsBytes)?;
     steps_of(alloc, ports, name, &bytes)
 }
 
@@ -72,20 +67,15 @@ pub fn read_steps<'a, S: Shelf>(
 ) -> Result<Vec<RunStep>, InputRefusal<'a>>
     requires { S.in_use shelf.old ≡ Nothing }
     ensures in_use { OnOk result (S.in_use shelf.new ≡ Nothing) }
+    ensures closed { IfErr result (IsClosed (S.in_use shelf.new)) }
+    ensures reads { ReadsFiles S.Shelf shelf.old shelf.new (given_names (text_view name.entry)) (ending_of result) }
     ensures ok { IsTrue S.tells → IfOk result
         (λ v. steps_in (S.told shelf.old).holds ports.now (text_view name.entry) ≡ Ok v.items) }
     ensures few_steps { IfOk result (λ v. length v.items ≤ most_steps) }
     ensures err { IsTrue S.tells → IfErr result
         (Explains (steps_in (S.told shelf.old).holds ports.now (text_view name.entry))) }
     ensures fault { IfErr result (λ r. IfReadFault r (λ n. text_view name.entry ≡ Some n)) }
-    ensures named { IsTrue S.tells → IfErr result (λ r. IfReadFault r (λ n. (S.told shelf.new).last ≡ n)) }
-    ensures since { IsTrue S.tells →
-        IfErr result (λ r. IfReadFault r (λ _. S.counts_at_last shelf.new ≡ S.counts shelf.old)) }
-    ensures told { IsTrue S.tells → OnlyRead (S.told shelf.old) (S.told shelf.new) }
-    ensures opened { IsTrue S.tells →
-        OpensInTurn (S.told shelf.old) (S.told shelf.new) (given_names (text_view name.entry)) result }
-    ensures counts { OnOk result (S.counts shelf.new ≡ S.counts shelf.old) }
-    ensures cause { IfErr result (HasReadCause (S.counts shelf.old) (S.counts shelf.new)) }
+    ensures taken { IfErr result TakesWords }
 {
     match name {
         None => Ok(Vec::new(alloc)),

@@ -8,9 +8,16 @@ use Rattle.edge_io.specs.declared.outside.Sink as sink
 use Rattle.edge_io.specs.Counts.{HasCause, with_fault}
 use Rattle.edge_io.specs.Written.{written}
 use Rattle.switch_output.specs.declared.refusal.WriteRefusal.{WriteRefusal}
+use Rattle.switch_output.specs.declared.refusal.WriteRefusal.TheVariants.{WriteFault, OutOfMemory}
 use Rattle.switch_output.specs.declared.refusal.OutputRefusal.{OutputRefusal}
 use Rattle.switch_output.specs.declared.refusal.OutputRefusal.TheVariants.{Files, Summary}
 use Rattle.switch_output.specs.Refused.{IfWriteFault, HasWriteCause, IsCutIn}
+
+-- No file is told in which writing failed.
+abbrev pub NamesNoFile : OutputRefusal → Type 0
+NamesNoFile (Files (WriteFault name)) = ⊥
+NamesNoFile (Files OutOfMemory) = Unit {0}
+NamesNoFile (Summary f) = Unit {0}
 
 module _ {S K : Type 0} (g : shelf.Ghosts S) (h : sink.Ghosts K) (old new : S) (said saying : K) (files : List File) where
   -- The files are cut short at one of them, and nothing is printed.

@@ -1,4 +1,4 @@
-ghost use Rattle.std.specs.Prelude.{◌≡◌, IsTrue};
+ghost use Rattle.std.specs.Prelude.{◌≡◌, None, IsTrue, IfErr};
 ghost use Rattle.std.specs.List.{list_all};
 ghost use Rattle.spec_tables.specs.Edits.{has_sound_actions};
 ghost use Rattle.spec_run.specs.Outputs.{output_of};
@@ -6,7 +6,7 @@ ghost use Rattle.spec_dumps.specs.Summary.{summary};
 ghost use Rattle.rule_tables.specs.History.{history_of};
 ghost use Rattle.edge_io.specs.declared.outside.InUse.TheVariants.{Nothing};
 ghost use Rattle.switch_output.specs.OutletViews.{outlets_in};
-ghost use Rattle.switch_output.specs.Put.{PutsOut};
+ghost use Rattle.switch_output.specs.Put.{NamesNoFile, PutsOut};
 
 use crate::outlets::Outlets;
 use crate::refusal::OutputRefusal;
@@ -36,9 +36,12 @@ pub fn put_out<C: Case, S: Shelf, K: Sink>(
     requires in_use { S.in_use shelf.old ≡ Nothing }
     requires edits { rules.now ≡ history_of C.run.edits C.run.bundles }
     requires sound { IsTrue (list_all has_sound_actions C.run.edits) }
-    ensures { let files = output_of (outlets_in outlets.entry) C.run finished.now in
+    ensures told { let files = output_of (outlets_in outlets.entry) C.run finished.now in
         let text = summary C.run finished.now ran in
         PutsOut S.Shelf K.Sink shelf.old shelf.new say.old say.new files text result }
+
+    // Where it has none, the shelf isn't touched.
+    ensures untouched { outlets_in outlets.entry ≡ None → (shelf.new ≡ shelf.old) × IfErr result NamesNoFile }
 {
     write_out(alloc, shelf, outlets, run, rules, finished)?;
     say_summary(alloc, say, run, finished, ran)?;

@@ -1,4 +1,4 @@
-ghost use Rattle.std.specs.Prelude.{◌≡◌, [], ◌∷◌, map, IsTrue};
+ghost use Rattle.std.specs.Prelude.{◌≡◌, [], ◌∷◌, map, None, IsTrue, IsOk};
 ghost use Rattle.std.specs.List.{list_all};
 ghost use Rattle.spec_tables.specs.Edits.{has_sound_actions};
 ghost use Rattle.spec_run.specs.Mirrored.{mirror_files};
@@ -214,8 +214,9 @@ pub(crate) fn write_out<C: Case, S: Shelf>(
     requires in_use { S.in_use shelf.old ≡ Nothing }
     requires edits { rules.now ≡ history_of C.run.edits C.run.bundles }
     requires sound { IsTrue (list_all has_sound_actions C.run.edits) }
-    ensures { let files = output_of (outlets_in outlets.entry) C.run finished.now in
+    ensures files { let files = output_of (outlets_in outlets.entry) C.run finished.now in
         WritesInTurn S.Shelf shelf.old shelf.new files result }
+    ensures untouched { outlets_in outlets.entry ≡ None → (shelf.new ≡ shelf.old) × IsOk result }
 {
     match outlets {
         Some(outlets) => write_files(alloc, shelf, outlets, run, rules, finished),

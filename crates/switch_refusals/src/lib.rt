@@ -12,6 +12,8 @@
 //! The statuses and the texts are those of `spec_run`. A sink that tells its bytes has got all of the text where it
 //! needs no memory and didn't fail, and else a prefix. Nothing else is printed, and no call takes memory or can fail.
 //!
+//! What reading files does to a shelf has a word here for whoever reads: `ReadsFiles` (`specs/Reading`).
+//!
 //! # How
 //!
 //! A refusal lends the names that it tells from the words. Texts are printed piece by piece, up to the first at which

@@ -1,7 +1,7 @@
 ghost use Rattle.std.specs.Prelude.{◌≡◌};
 ghost use Rattle.spec_run.specs.Verdict.{refused_text};
 ghost use Rattle.spec_script.specs.declared.fault.FileFault.TheVariants as file;
-ghost use Rattle.switch_refusals.specs.Refused.{fault_view, IfInput, IfReadFault};
+ghost use Rattle.switch_refusals.specs.Refused.{fault_view, IfInput, TakesWords, TellsNoFault};
 
 use crate::refusal::{InputFault, InputRefusal};
 use spec_flow_text::TextFault;
@@ -11,7 +11,8 @@ use spec_script::FileFault;
 /// What becomes of a run whose file of this name has this fault.
 pub fn refused_text(name: &str, fault: FileFault) -> InputRefusal<'_>
     ensures input { IfInput result (λ told. fault_view told ≡ refused_text name.now fault) }
-    ensures no_fault { IfReadFault result (λ _. ⊥) }
+    ensures no_fault { TellsNoFault result }
+    ensures taken { TakesWords result }
     ensures no_memory { fault ≡ file.OutOfMemory → result ≡ InputRefusal.OutOfMemory }
 {
     let limit = match fault {

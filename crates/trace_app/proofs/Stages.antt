@@ -1,5 +1,5 @@
 -- The stages of the verdict, from what was read.
-use Rattle.std.proofs.Common.{◌≡◌, ℕ, true, false, ◌==◌, List, [], length, refl, sym, ap, ◌∙◌, subst, arith}
+use Rattle.std.proofs.Common.{◌≡◌, ℕ, Bool, true, false, ◌==◌, List, [], length, refl, sym, ap, ◌∙◌, subst, arith}
 use Rattle.std.specs.Prelude.{IfErr, Some, None, IsTrue, Result, Ok, Err}
 use Rattle.std.specs.List.{list_any, list_all}
 use Rattle.std.proofs.lemmas.List.{append-nil}
@@ -15,18 +15,21 @@ use Rattle.rule_tables.proofs.Histories.{rules_of-history}
 use Rattle.pipe_model.specs.Runnable.{AreRunnable}
 use Rattle.pipe_model.proofs.Versions.{runnable-version}
 use Rattle.rule_lines.specs.Live.{IsOfEdits, live_in}
-use Rattle.edge_io.specs.Counts.{Counts}
-use Rattle.edge_io.specs.Shelf.{Told}
-use Rattle.edge_io.specs.Opened.{HasOpened, HasOpenedPrefix}
+use Rattle.edge_io.specs.declared.outside.InUse.{InUse}
+use Rattle.edge_io.specs.declared.outside.InUse.TheVariants.{Nothing}
+use Rattle.edge_io.specs.declared.outside.Shelf as shelf
 use Rattle.switch_refusals.specs.declared.refusal.InputRefusal.{InputRefusal}
 use Rattle.switch_refusals.specs.declared.refusal.InputRefusal.TheVariants as input
 use Rattle.switch_refusals.specs.Refused as reading
 use Rattle.switch_refusals.specs.Refused.{fault_view}
+use Rattle.switch_refusals.specs.Reading.{Read, ReadsWhere}
+use Rattle.switch_refusals.proofs.Reading.{closed_by as input_closed, reads_still as input_still}
 use Rattle.spec_trace.specs.Words.{Command, command_of}
 use Rattle.spec_trace.specs.Verdict.{Input, NoPort as NoPortOf, match_in, key_of, accepted, case_of, verdict_of, verdict, command_in, opened_for, files_opened, Usage as UsageOf}
 use Rattle.trace_app.specs.declared.refusal.Refusal.{Refusal}
 use Rattle.trace_app.specs.declared.refusal.Refusal.TheVariants.{Usage, Reading, NoPort, Printing}
-use Rattle.trace_app.specs.Refused.{Explains, IfReadFault, HasReadCause, HasOpenedUntil, OpensInTurn}
+use Rattle.trace_app.specs.Known.{IsKnown}
+use Rattle.trace_app.specs.Refused.{Explains, TellsUsage, TakesWords, TellsNoFault, IsClosed, stop_of, ending_of}
 
 -- ---- after the edits
 
@@ -68,40 +71,23 @@ module _ (files : Files) (c : Command) where
 
 -- ---- what is refused after the edits were read
 
-all_is_prefix : (before now : Told) (names : List (List ℕ)) → HasOpened before now names → HasOpenedPrefix before now names
-all_is_prefix before now names opened = record { opened = names; left = []; are_names = sym (append-nil names); has_opened = opened }
+module _ (knows : Type 0) {S : Type 0} (g : shelf.Ghosts S) (old new : S) (names : List (List ℕ)) (read : ReadsWhere knows g old new names Read) where
+  pub reads_still : (r : Refusal) → TellsNoFault r → ReadsWhere knows g old new names (stop_of r)
+  reads_still Usage never = read
+  reads_still (Reading r) never = input_still knows g old new names read r never
+  reads_still (NoPort port) never = read
+  reads_still (Printing f) never = read
 
-pub opened_until : (before now : Told) (names : List (List ℕ)) (r : Refusal) → IfReadFault r (λ _. ⊥) → HasOpened before now names → HasOpenedUntil before now names r
-opened_until before now names Usage none opened = opened
-opened_until before now names (Reading (input.Input f)) none opened = opened
-opened_until before now names (Reading (input.ReadFault name)) none opened = absurd none
-opened_until before now names (Reading input.OutOfMemory) none opened = all_is_prefix before now names opened
-opened_until before now names (NoPort port) none opened = opened
-opened_until before now names (Printing f) none opened = opened
+  pub reads_ending : {A : Type 0} (result : Result A Refusal) → IfErr result TellsNoFault → ReadsWhere knows g old new names (ending_of result)
+  reads_ending (Ok a) never = read
+  reads_ending (Err r) never = reads_still r never
 
-pub caused : (before now : Counts) (r : Refusal) → IfReadFault r (λ _. ⊥) → now ≡ before → HasReadCause before now r
-caused before now Usage none same = same
-caused before now (Reading (input.Input f)) none same = same
-caused before now (Reading (input.ReadFault name)) none same = absurd none
-caused before now (Reading input.OutOfMemory) none same = same
-caused before now (NoPort port) none same = same
-caused before now (Printing f) none same = same
-
-pub unnamed : (P : List ℕ → Type 0) (r : Refusal) → IfReadFault r (λ _. ⊥) → IfReadFault r P
-unnamed P Usage none = tt
-unnamed P (Reading (input.Input f)) none = tt
-unnamed P (Reading (input.ReadFault name)) none = absurd none
-unnamed P (Reading input.OutOfMemory) none = tt
-unnamed P (NoPort port) none = tt
-unnamed P (Printing f) none = tt
-
-pub err_weaker : {A E : Type 0} (r : Result A E) (P Q : E → Type 0) → ((e : E) → P e → Q e) → IfErr r P → IfErr r Q
-err_weaker (Ok a) P Q f h = tt
-err_weaker (Err e) P Q f h = f e h
-
-pub opens : {A : Type 0} (before now : Told) (names : List (List ℕ)) (r : Result A Refusal) → IfErr r (λ e. IfReadFault e (λ _. ⊥)) → HasOpened before now names → OpensInTurn before now names r
-opens before now names (Ok a) none opened = opened
-opens before now names (Err e) none opened = opened_until before now names e none opened
+pub closed_by : {A : Type 0} (now : InUse) → now ≡ Nothing → (result : Result A Refusal) → IfErr result (IsClosed now)
+closed_by now none (Ok a) = tt
+closed_by now none (Err Usage) = none
+closed_by now none (Err (Reading r)) = input_closed {T = Unit {0}} now none (Err r)
+closed_by now none (Err (NoPort port)) = none
+closed_by now none (Err (Printing f)) = none
 
 -- ---- the tables
 
@@ -128,6 +114,23 @@ module _ (words : List (List ℕ)) (files : Files) where
   unfolding verdict command_in
   words-some c e = rw e refl
 
+-- the verdict is known where the shelf tells, once the words are taken
+pub known-some : (words : List (List ℕ)) (tells : Bool) (c : Command) → command_of words ≡ Some c → IsKnown tells words → IsTrue tells
+unfolding command_in
+known-some words tells c e known = rw e at known
+
+pub command-none : (words : List (List ℕ)) → command_of words ≡ None → command_in words ≡ Err UsageOf
+unfolding command_in
+command-none words e = rw e refl
+
+-- a refusal that isn't one of the words tells nothing of them
+pub usage-never : {A : Type 0} (r : Result A Refusal) (P : Type 0) → IfErr r TakesWords → IfErr r (λ e. TellsUsage e → P)
+usage-never (Ok a) P taken = tt
+usage-never (Err Usage) P taken = absurd taken
+usage-never (Err (Reading r)) P taken = λ is. absurd (rw is at taken)
+usage-never (Err (NoPort port)) P taken = λ is. absurd is
+usage-never (Err (Printing f)) P taken = λ is. absurd is
+
 pub opened-none : (words : List (List ℕ)) → command_of words ≡ None → files_opened words ≡ []
 unfolding command_in
 opened-none words e = rw e refl
@@ -135,9 +138,3 @@ opened-none words e = rw e refl
 pub opened-some : (words : List (List ℕ)) (c : Command) → command_of words ≡ Some c → files_opened words ≡ opened_for c
 unfolding command_in
 opened-some words c e = rw e refl
-
-pub none_opened : (t : Told) → HasOpened t t []
-none_opened t = sym (append-nil t.opened)
-
-pub none_yet : (t : Told) (names : List (List ℕ)) → HasOpenedPrefix t t names
-none_yet t names = record { opened = []; left = names; are_names = refl; has_opened = none_opened t }

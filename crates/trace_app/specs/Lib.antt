@@ -1,5 +1,6 @@
 pub mod Commands
 pub mod InputViews
 pub mod Refused
+pub mod Known
 pub mod Ends
 pub mod Leaving

@@ -2,10 +2,10 @@
 use Rattle.std.specs.Prelude.{◌≡◌, ℕ, List, [], Result, Ok, Err}
 use Rattle.spec_run.specs.Statuses.{usage_status, write_fault_status, out_of_memory_status, out_of_memory_text}
 use Rattle.edge_io.specs.declared.outside.Failed.TheVariants as failed
-use Rattle.edge_io.specs.Counts.{Counts}
-use Rattle.edge_io.specs.Shelf.{Told}
-use Rattle.edge_io.specs.Opened.{HasOpened}
+use Rattle.edge_io.specs.declared.outside.InUse.{InUse}
+use Rattle.edge_io.specs.declared.outside.InUse.TheVariants.{Nothing}
 use Rattle.switch_refusals.specs.declared.refusal.InputRefusal.{InputRefusal}
+use Rattle.switch_refusals.specs.Reading.{Ending, Read}
 use Rattle.switch_refusals.specs.Refused as reading
 use Rattle.switch_refusals.specs.Refused.{fault_view}
 use Rattle.switch_refusals.specs.Texts.{input_status, input_text}
@@ -33,6 +33,20 @@ text_of (Printing failed.OutOfMemory) = out_of_memory_text
 abbrev pub IsSilent : Refusal → Type 0
 IsSilent r = r ≡ Printing failed.Fault
 
+-- It tells that the words are refused: each refusal that ends with their status.
+abbrev pub TellsUsage : Refusal → Type 0
+TellsUsage Usage = Unit {0}
+TellsUsage (Reading r) = reading.TellsUsage r
+TellsUsage (NoPort port) = ⊥
+TellsUsage (Printing f) = ⊥
+
+-- They are not.
+abbrev pub TakesWords : Refusal → Type 0
+TakesWords Usage = ⊥
+TakesWords (Reading r) = reading.TakesWords r
+TakesWords (NoPort port) = Unit {0}
+TakesWords (Printing f) = Unit {0}
+
 -- It came before anything was printed.
 abbrev pub IsUntold : Refusal → Type 0
 IsUntold Usage = Unit {0}
@@ -50,27 +64,27 @@ Explains stage (Reading r) = ExplainsReading stage r
 Explains stage (NoPort port) = stage ≡ Err (verdicts.NoPort port)
 Explains stage (Printing f) = Unit {0}
 
--- This holds of the file's name, where it tells that reading failed.
-abbrev pub IfReadFault : Refusal → (List ℕ → Type 0) → Type 0
-IfReadFault Usage P = Unit {0}
-IfReadFault (Reading r) P = reading.IfReadFault r P
-IfReadFault (NoPort port) P = Unit {0}
-IfReadFault (Printing f) P = Unit {0}
+-- It tells of no file that reading failed in it.
+abbrev pub TellsNoFault : Refusal → Type 0
+TellsNoFault Usage = Unit {0}
+TellsNoFault (Reading r) = reading.TellsNoFault r
+TellsNoFault (NoPort port) = Unit {0}
+TellsNoFault (Printing f) = Unit {0}
 
--- Only a fault in reading changes the counts of the shelf, and it comes only where the one of reading rose.
-abbrev pub HasReadCause : Counts → Counts → Refusal → Type 0
-HasReadCause before now Usage = now ≡ before
-HasReadCause before now (Reading r) = reading.HasReadCause before now r
-HasReadCause before now (NoPort port) = now ≡ before
-HasReadCause before now (Printing f) = now ≡ before
+-- No file is in use, but where a quantity is above its limit: a file that is too long is open still.
+abbrev pub IsClosed : InUse → Refusal → Type 0
+IsClosed now Usage = now ≡ Nothing
+IsClosed now (Reading r) = reading.IsClosed now r
+IsClosed now (NoPort port) = now ≡ Nothing
+IsClosed now (Printing f) = now ≡ Nothing
 
--- These files are opened, one after the other, up to the one at which reading failed, or, out of memory, a prefix.
-abbrev pub HasOpenedUntil : Told → Told → List (List ℕ) → Refusal → Type 0
-HasOpenedUntil before now names Usage = HasOpened before now names
-HasOpenedUntil before now names (Reading r) = reading.HasOpenedUntil before now names r
-HasOpenedUntil before now names (NoPort port) = HasOpened before now names
-HasOpenedUntil before now names (Printing f) = HasOpened before now names
+-- how reading ended at a refusal, and with an answer
+abbrev pub stop_of : Refusal → Ending
+stop_of Usage = Read
+stop_of (Reading r) = reading.stop_of r
+stop_of (NoPort port) = Read
+stop_of (Printing f) = Read
 
-abbrev pub OpensInTurn : {T : Type 0} → Told → Told → List (List ℕ) → Result T Refusal → Type 0
-OpensInTurn before now names (Ok a) = HasOpened before now names
-OpensInTurn before now names (Err r) = HasOpenedUntil before now names r
+abbrev pub ending_of : {T : Type 0} → Result T Refusal → Ending
+ending_of (Ok a) = Read
+ending_of (Err r) = stop_of r

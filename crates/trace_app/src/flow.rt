@@ -7,7 +7,7 @@ ghost use Rattle.spec_script.specs.declared.fault.FileFault.TheVariants as scrip
 ghost use Rattle.spec_run.specs.Verdict.{refused_text};
 ghost use Rattle.ovs_fields.specs.Packed.{numbers};
 ghost use Rattle.rule_tables.specs.Views.{match_view};
-ghost use Rattle.switch_refusals.specs.Refused.{fault_view, IfInput, IfReadFault, Explains};
+ghost use Rattle.switch_refusals.specs.Refused.{fault_view, IfInput, TellsNoFault, TakesWords, Explains};
 ghost use Rattle.spec_trace.specs.Verdict.{flow_name, match_in, key_of};
 
 use match_text::read_match;
@@ -49,7 +49,8 @@ static REGISTER_FIELDS: [FieldId; 17] = [
 // What becomes of a trace whose flow has this fault.
 fn refused(why: TextFault) -> InputRefusal<'static>
     ensures input { IfInput result (λ told. fault_view told ≡ refused_text flow_name (script.Line 1 why)) }
-    ensures no_fault { IfReadFault result (λ _. ⊥) }
+    ensures no_fault { TellsNoFault result }
+    ensures taken { TakesWords result }
     ensures no_memory { why ≡ text.OutOfMemory → result ≡ InputRefusal.OutOfMemory }
 {
     match why {
@@ -67,7 +68,8 @@ fn refused(why: TextFault) -> InputRefusal<'static>
 pub fn read_flow(alloc: Global, flow: &str) -> Result<Match, InputRefusal<'static>>
     ensures ok { IfOk result (λ m. match_in flow.now ≡ Ok (match_view m)) }
     ensures err { IfErr result (Explains (match_in flow.now)) }
-    ensures no_fault { IfErr result (λ r. IfReadFault r (λ _. ⊥)) }
+    ensures no_fault { IfErr result TellsNoFault }
+    ensures taken { IfErr result TakesWords }
 {
     if flow.len() > MOST_LINE_BYTES {
         return Err(InputRefusal::Input(InputFault::Limit(Quantity::Line)));

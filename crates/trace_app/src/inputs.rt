@@ -1,8 +1,7 @@
 //! What is traced: the words, the file of edits and the flow, read up to the first that is refused.
-ghost use Rattle.std.specs.Prelude.{◌≡◌, ◌≤◌, length, Ok, IsTrue, OnOk, IfOk, IfErr};
+ghost use Rattle.std.specs.Prelude.{◌≡◌, ◌≤◌, length, Ok, Err, IsTrue, OnOk, IfOk, IfErr};
 ghost use Rattle.std.specs.List.{list_all};
 ghost use Rattle.edge_io.specs.declared.outside.InUse.TheVariants.{Nothing};
-ghost use Rattle.edge_io.specs.ReadAll.{OnlyRead};
 ghost use Rattle.spec_tables.specs.Bundles.{AreBundles};
 ghost use Rattle.spec_tables.specs.Edits.{has_sound_actions};
 ghost use Rattle.spec_script.specs.Script.{most_edits};
@@ -12,10 +11,12 @@ ghost use Rattle.command_words.specs.CommandViews.{texts};
 ghost use Rattle.rule_tables.specs.History.{history_of};
 ghost use Rattle.tuple_classifier.specs.Versions.{version_of};
 ghost use Rattle.edit_script.specs.ScriptViews.{script_view};
-ghost use Rattle.spec_trace.specs.Verdict.{command_in, case_of, verdict_of, verdict, opened_for, files_opened};
+ghost use Rattle.spec_trace.specs.Verdict.{Usage as UsageOf, command_in, case_of, verdict_of, verdict, opened_for, files_opened};
+ghost use Rattle.trace_app.specs.Known.{IsKnown};
 ghost use Rattle.trace_app.specs.Commands.{command_view};
 ghost use Rattle.trace_app.specs.InputViews.{accepted_view, IsTraceable};
-ghost use Rattle.trace_app.specs.Refused.{Explains, IfReadFault, IsUntold, HasReadCause, OpensInTurn};
+ghost use Rattle.switch_refusals.specs.Reading.{ReadsFiles, ReadsWhere};
+ghost use Rattle.trace_app.specs.Refused.{Explains, TellsUsage, TakesWords, IsUntold, TellsNoFault, IsClosed, ending_of};
 
 use crate::flow::{key_of, read_flow};
 use crate::refusal::Refusal;
@@ -79,7 +80,8 @@ fn inputs_of<'a>(
     ensures within { IfOk result IsTraceable }
     ensures err { IfErr result (Explains (case_of flow.now ports.items (script_view edits.script))) }
     ensures unsaid { IfErr result IsUntold }
-    ensures no_fault { IfErr result (λ r. IfReadFault r (λ _. ⊥)) }
+    ensures taken { IfErr result TakesWords }
+    ensures no_fault { IfErr result TellsNoFault }
 {
     let matching = read_flow(alloc, flow)?;
     let key = key_of(&matching);
@@ -104,18 +106,16 @@ fn read_sources<'a, S: Shelf>(
 ) -> Result<Inputs, Refusal<'a>>
     requires { S.in_use shelf.old ≡ Nothing }
     ensures in_use { OnOk result (S.in_use shelf.new ≡ Nothing) }
+    ensures closed { IfErr result (IsClosed (S.in_use shelf.new)) }
+    ensures reads { let names = opened_for (command_view command.entry) in
+        ReadsFiles S.Shelf shelf.old shelf.new names (ending_of result) }
     ensures ok { IsTrue S.tells → IfOk result (λ inputs.
         verdict_of (S.told shelf.old).holds (command_view command.entry) ≡ Ok (accepted_view inputs)) }
     ensures within { IfOk result IsTraceable }
     ensures err { IsTrue S.tells → IfErr result
         (Explains (verdict_of (S.told shelf.old).holds (command_view command.entry))) }
     ensures unsaid { IfErr result IsUntold }
-    ensures named { IsTrue S.tells → IfErr result (λ r. IfReadFault r (λ n. (S.told shelf.new).last ≡ n)) }
-    ensures told { IsTrue S.tells → OnlyRead (S.told shelf.old) (S.told shelf.new) }
-    ensures opened { IsTrue S.tells → OpensInTurn (S.told shelf.old) (S.told shelf.new)
-        (opened_for (command_view command.entry)) result }
-    ensures counts { OnOk result (S.counts shelf.new ≡ S.counts shelf.old) }
-    ensures cause { IfErr result (HasReadCause (S.counts shelf.old) (S.counts shelf.new)) }
+    ensures taken { IfErr result TakesWords }
 {
     let edits = read_edits(alloc, shelf, command.edits)?;
     inputs_of(alloc, edits, command.flow, command.ports)
@@ -129,18 +129,16 @@ pub fn read_inputs<'a, S: Shelf>(
 ) -> Result<Inputs, Refusal<'a>>
     requires { S.in_use shelf.old ≡ Nothing }
     ensures in_use { OnOk result (S.in_use shelf.new ≡ Nothing) }
-    ensures ok { IsTrue S.tells → IfOk result (λ inputs.
-        verdict (texts words.now) (S.told shelf.old).holds ≡ Ok (accepted_view inputs)) }
+    ensures closed { IfErr result (IsClosed (S.in_use shelf.new)) }
+    ensures reads { let knows = IsKnown S.tells (texts words.now) in
+        ReadsWhere knows S.Shelf shelf.old shelf.new (files_opened (texts words.now)) (ending_of result) }
+    ensures ok { let given = verdict (texts words.now) (S.told shelf.old).holds in
+        IsKnown S.tells (texts words.now) → IfOk result (λ inputs. given ≡ Ok (accepted_view inputs)) }
     ensures within { IfOk result IsTraceable }
-    ensures err { IsTrue S.tells → IfErr result
-        (Explains (verdict (texts words.now) (S.told shelf.old).holds)) }
+    ensures err { let given = verdict (texts words.now) (S.told shelf.old).holds in
+        IsKnown S.tells (texts words.now) → IfErr result (Explains given) }
     ensures unsaid { IfErr result IsUntold }
-    ensures named { IsTrue S.tells → IfErr result (λ r. IfReadFault r (λ n. (S.told shelf.new).last ≡ n)) }
-    ensures told { IsTrue S.tells → OnlyRead (S.told shelf.old) (S.told shelf.new) }
-    ensures opened { IsTrue S.tells → OpensInTurn (S.told shelf.old) (S.told shelf.new)
-        (files_opened (texts words.now)) result }
-    ensures counts { OnOk result (S.counts shelf.new ≡ S.counts shelf.old) }
-    ensures cause { IfErr result (HasReadCause (S.counts shelf.old) (S.counts shelf.new)) }
+    ensures usage { IfErr result (λ r. TellsUsage r → command_in (texts words.now) ≡ Err UsageOf) }
 {
     match read_command(alloc, words)? {
         None => Err(Refusal::Usage),

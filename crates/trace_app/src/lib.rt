@@ -6,8 +6,8 @@
 //! # What is promised
 //!
 //! The contract of `run_trace` is one definition, `Ends` (specs/Ends.antt): the ways to end, by the status, and what holds
-//! with each, in the words of `spec_trace`. What is said of files holds where the shelf tells its bytes, and what is said of
-//! text where the sink does.
+//! with each, in the words of `spec_trace`. What is said of files holds where the shelf tells its bytes, or no file is read,
+//! since the words are refused; and what is said of text where the sink tells it.
 //!
 //! - Where all is done, the verdict accepts the words, the edits and the flow, and exactly the text of the trace is printed:
 //!   that of every lookup that the plain translation makes under the rules of the last version, of the key at its end, of
@@ -18,7 +18,9 @@
 //! - Nothing is written to the shelf, and no file is opened but that of the edits, and that only where the words are taken.
 //! - The text of a refusal is printed, and nothing else: all of it where the sink needs no memory and didn't fail, and else
 //!   a prefix. Nothing is printed after a fault in printing the trace.
-//! - What is accepted and meets no fault is traced, unless memory runs out.
+//! - What is accepted and meets no fault is traced, unless memory runs out. Words that are refused end with their status,
+//!   and others never do, with every shelf.
+//! - No file is left in use, but one that is too long.
 //!
 //! # How
 //!

@@ -1,12 +1,13 @@
-ghost use Rattle.std.specs.Prelude.{◌≡◌, ◌++◌, ◌⊎◌, ℕ, take, string_bytes, IsTrue, IsOk, OnOk, OnErr, IfOk, IfErr};
+ghost use Rattle.std.specs.Prelude.{◌≡◌, ◌≢◌, ◌++◌, ◌⊎◌, ℕ, take, string_bytes, IsTrue, IsOk, OnOk, OnErr, IfOk, IfErr};
 ghost use Rattle.spec_base.specs.Counts.{Rose};
-ghost use Rattle.spec_run.specs.Statuses.{done_status, read_fault_status, out_of_memory_status};
+ghost use Rattle.spec_run.specs.Statuses.{done_status, usage_status, read_fault_status, out_of_memory_status};
 ghost use Rattle.edge_io.specs.declared.outside.InUse.TheVariants.{Nothing};
 ghost use Rattle.edge_io.specs.Counts.{HasCause, with_fault};
 ghost use Rattle.command_words.specs.CommandViews.{texts};
-ghost use Rattle.spec_trace.specs.Verdict.{verdict};
+ghost use Rattle.spec_trace.specs.Verdict.{command_in, verdict};
 ghost use Rattle.spec_trace.specs.Statuses.{status_of as refusal_status};
 ghost use Rattle.spec_trace.specs.Outputs.{text_for};
+ghost use Rattle.trace_app.specs.Known.{IsKnown};
 ghost use Rattle.trace_app.specs.InputViews.{accepted_view, IsTraceable};
 ghost use Rattle.trace_app.specs.Ends.{Ends, IsTraced};
 ghost use Rattle.trace_app.specs.Leaving.{Leaves};
@@ -100,12 +101,17 @@ pub fn run_trace<S: Shelf, K: Sink>(
     // What the status is, and what is printed and opened with it, and which counts rose.
     ensures ends { Ends S.Shelf K.Sink (texts words.now) shelf.old shelf.new say.old say.new result }
 
+    // Words that are refused end with their status, whatever the shelf is, unless memory runs out; others never do.
+    ensures usage { IfErr (command_in (texts words.now))
+        (λ _. (result ≡ usage_status) ⊎ (result ≡ out_of_memory_status)) }
+    ensures taken { IsOk (command_in (texts words.now)) → result ≢ usage_status }
+
     // What is refused ends with the status of its refusal, and what is accepted is traced, unless a count rises or memory
     // runs out.
-    ensures refusal { IsTrue S.tells → IfErr (verdict (texts words.now) (S.told shelf.old).holds)
+    ensures refusal { IsKnown S.tells (texts words.now) → IfErr (verdict (texts words.now) (S.told shelf.old).holds)
         (λ r. (result ≡ refusal_status r)
         ⊎ ((result ≡ read_fault_status) ⊎ (result ≡ out_of_memory_status))) }
-    ensures accepted { IsTrue S.tells → IsOk (verdict (texts words.now) (S.told shelf.old).holds)
+    ensures accepted { IsKnown S.tells (texts words.now) → IsOk (verdict (texts words.now) (S.told shelf.old).holds)
         → ¬ Rose (S.counts shelf.old).reading (S.counts shelf.new).reading
         → ¬ Rose (K.faults say.old) (K.faults say.new)
         → (result ≡ done_status) ⊎ (result ≡ out_of_memory_status) }

@@ -17,3 +17,8 @@ returns-clause-ok g c = λ t.
     let taken : Accepted → Result Accepted Refusal = Ok in
     case-accepted (g.S.Shelf.told c.args.shelf.now).holds (command_view c.args.command) (script_view c.args.old.script) (script_view c.in_ok-new.new.script) (c.in_ok-new.ensures.ok t)
     ∙ ap taken (sym c.inputs_of.ensures.view)
+
+pub returns-in_err-new-clause-reads : goal.returns-in_err-new-clause-reads
+returns-in_err-new-clause-reads g c =
+    let p = err_from_is_err_and c.from_residual.result c.from_residual.ensures.1 in
+    rw (p.1, p.2) c.in_err-new.ensures.reads

@@ -1,8 +1,8 @@
-use Rattle.std.proofs.Common.{string_bytes, refl}
+use Rattle.std.proofs.Common.{IsTrue, string_bytes, refl}
 use Rattle.std.proofs.lemmas.Result.{err_from_is_err_and}
 use Rattle.command_words.specs.CommandViews.{texts}
 use Rattle.diff_app.specs.InputViews.{accepted_view}
-use Rattle.diff_app.proofs.Stages.{all_is_prefix}
+use Rattle.switch_refusals.proofs.Reading.{reads_out}
 use Rattle.diff_app.proofs.Told.{unread_leaves, unfound_leaves, found}
 use Rattle.diff_app.proofs.run.run.Goals as goal
 
@@ -12,10 +12,8 @@ returns-in_err-inputs-clause-err g c =
     let read = c.in_err-inputs.ensures in
     rw (p.1, p.2) (unread_leaves g.S.Shelf g.K.Sink (texts c.args.words.now) c.args.shelf.now c.read_inputs.new.shelf c.args.say.now c.args.say.now c.in_err-inputs.field-0.0 read.unsaid (record {
       verdict = read.err;
-      named = read.named;
-      unwritten = read.told;
-      opened = read.opened;
-      cause = read.cause;
+      reads = read.reads;
+      closed = read.closed;
       unsaid = refl;
     }))
 
@@ -26,18 +24,14 @@ returns-in_err-told-clause-err g c =
     rw (p.1, p.2) (unfound_leaves g.S.Shelf g.K.Sink (texts c.args.words.now) c.args.shelf.now c.read_inputs.new.shelf c.args.say.now c.args.say.now c.in_err-told.field-0.0
     (record {
       verdict = λ t. tt;
-      named = λ t. tt;
-      unwritten = read.told;
-      opened = λ t. all_is_prefix _ _ _ (read.opened t);
-      cause = read.counts;
+      reads = reads_out (IsTrue g.S.Shelf.tells) g.S.Shelf c.args.shelf.now c.read_inputs.new.shelf _ read.reads;
+      closed = read.in_use;
       unsaid = refl;
     })
     (λ is. record {
       run = λ t. record { accepted = accepted_view c.in_ok-inputs.inputs; is_verdict = read.ok t; unfinished = c.in_err-told.ensures.too_many is };
-      unwritten = read.told;
-      opened = read.opened;
+      reads = read.reads;
       no_file = read.in_use;
-      counts = read.counts;
       unsaid = refl;
     }))
 
@@ -54,10 +48,8 @@ returns-in_err-print-clause-err g c =
         told = c.in_ok-told.ensures.ok;
         printed = c.in_err-print.ensures.err;
       };
-      unwritten = read.told;
-      opened = read.opened;
+      reads = read.reads;
       no_file = read.in_use;
-      counts = read.counts;
       cause = c.in_err-print.ensures.cause;
     })
 
@@ -71,10 +63,10 @@ returns-clause-ok g c =
         told = c.in_ok-told.ensures.ok;
         printed = c.in_ok-print.ensures.ok;
       };
-      opened = read.opened;
-      unwritten = read.told;
+      opened = read.reads.opened;
+      unwritten = read.reads.only_read;
       no_file = read.in_use;
-      counts = read.counts;
+      counts = read.reads.counts;
       faults = c.in_ok-print.ensures.cause.ok;
     }
 

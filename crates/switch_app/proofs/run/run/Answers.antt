@@ -11,11 +11,9 @@ returns-in_err-inputs-clause-err g c =
     let read = c.in_err-inputs.ensures in
     rw (p.1, p.2) (record {
       verdict = read.refused;
-      named = read.read_fault_name;
-      since = read.since;
-      unwritten = read.only_read;
-      opened = read.opened;
-      cause = read.cause;
+      usage = read.usage;
+      reads = read.reads;
+      closed = read.closed;
       unsaid = refl;
     })
 
@@ -24,10 +22,12 @@ returns-in_err-decide_and_tell-clause-err g c =
     let p = err_from_is_err_and c.from_residual-in_err-decide_and_tell.result c.from_residual-in_err-decide_and_tell.ensures.1 in
     let read = c.in_ok-inputs.ensures in
     rw (p.1, p.2) (left g.S.Shelf g.K.Sink (texts c.args.words.now) c.args.shelf.now c.read_inputs.new.shelf c.decide_and_tell.new.shelf c.args.say.now c.decide_and_tell.new.say
-    (accepted_view c.in_ok-inputs.inputs) read.accepted read.only_read read.opened c.in_err-decide_and_tell.ensures.opened read.without_fault _ c.in_err-decide_and_tell.ensures.err)
+    (accepted_view c.in_ok-inputs.inputs) read.accepted read.command read.reads c.in_err-decide_and_tell.ensures.opened
+    (λ none. (c.in_err-decide_and_tell.ensures.untouched none).0) _ (λ none. (c.in_err-decide_and_tell.ensures.untouched none).1) c.in_err-decide_and_tell.ensures.err)
 
 pub returns-clause-ok : goal.returns-clause-ok
 returns-clause-ok g c =
     let read = c.in_ok-inputs.ensures in
     all_done g.S.Shelf g.K.Sink (texts c.args.words.now) c.args.shelf.now c.read_inputs.new.shelf c.decide_and_tell.new.shelf c.args.say.now c.decide_and_tell.new.say
-    (accepted_view c.in_ok-inputs.inputs) read.accepted read.only_read read.opened c.in_ok-decide_and_tell.ensures.opened read.without_fault c.in_ok-decide_and_tell.ensures.ok
+    (accepted_view c.in_ok-inputs.inputs) read.accepted read.command read.reads c.in_ok-decide_and_tell.ensures.opened
+    (λ none. (c.in_ok-decide_and_tell.ensures.untouched none).0) c.in_ok-decide_and_tell.ensures.ok

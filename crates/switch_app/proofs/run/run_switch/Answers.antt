@@ -1,5 +1,5 @@
 use Rattle.command_words.specs.CommandViews.{texts}
-use Rattle.switch_app.proofs.Ending.{refused_ends, accepted_ends}
+use Rattle.switch_app.proofs.Ending.{refused_ends, accepted_ends, usage_ends, taken_ends}
 use Rattle.switch_app.proofs.run.run_switch.Goals as goal
 
 pub returns-clause-refusal : goal.returns-clause-refusal
@@ -9,3 +9,11 @@ returns-clause-refusal g c = λ t.
 pub returns-clause-accepted : goal.returns-clause-accepted
 returns-clause-accepted g c = λ t.
     accepted_ends g.S.Shelf g.K.Sink (texts c.args.words.now) c.args.shelf.now c.end.new.shelf c.args.say.now c.end.new.say c.end.result t c.end.ensures
+
+pub returns-clause-usage : goal.returns-clause-usage
+returns-clause-usage g c =
+    usage_ends g.S.Shelf g.K.Sink (texts c.args.words.now) c.args.shelf.now c.end.new.shelf c.args.say.now c.end.new.say c.end.result c.end.ensures
+
+pub returns-clause-taken : goal.returns-clause-taken
+returns-clause-taken g c =
+    taken_ends g.S.Shelf g.K.Sink (texts c.args.words.now) c.args.shelf.now c.end.new.shelf c.args.say.now c.end.new.say c.end.result c.end.ensures

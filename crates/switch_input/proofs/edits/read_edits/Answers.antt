@@ -1,4 +1,6 @@
+use Rattle.std.proofs.Common.{[], ◌∷◌, IsTrue}
 use Rattle.std.proofs.lemmas.Result.{err_from_is_err_and}
+use Rattle.switch_refusals.proofs.Reading.{closed_by, reads_ending}
 use Rattle.switch_input.proofs.Stages.{script_too_long, of_bytes, too_long_explains}
 use Rattle.switch_input.proofs.edits.read_edits.Goals as goal
 
@@ -15,3 +17,18 @@ returns-clause-ok g c = λ t.
 pub returns-clause-err : goal.returns-clause-err
 returns-clause-err g c = λ t.
     rw (of_bytes (g.S.Shelf.told c.args.shelf.now).holds c.args.name.now c.in_ok-bytes.bytes.items (c.in_ok-bytes.ensures.bytes t)) (rw c.deref.ensures.value at c.edits_in.ensures.err)
+
+-- ---- what is read
+
+pub returns-in_err-bytes-clause-reads : goal.returns-in_err-bytes-clause-reads
+returns-in_err-bytes-clause-reads g c =
+    let p = err_from_is_err_and c.from_residual.result c.from_residual.ensures.1 in
+    rw (p.1, p.2) c.in_err-bytes.ensures.reads
+
+pub returns-clause-reads : goal.returns-clause-reads
+returns-clause-reads g c =
+    reads_ending (IsTrue g.S.Shelf.tells) g.S.Shelf c.args.shelf.now c.read_file.new.shelf (c.args.name.now ∷ []) c.in_ok-bytes.ensures.reads
+    c.edits_in.result c.edits_in.ensures.no_fault
+
+pub returns-clause-closed : goal.returns-clause-closed
+returns-clause-closed g c = closed_by (g.S.Shelf.in_use c.read_file.new.shelf) c.in_ok-bytes.ensures.in_use c.edits_in.result

@@ -13,4 +13,4 @@ pub returns-clause-err : goal.returns-clause-err
 returns-clause-err c = rw (ap (λ (t : Told). t.holds) c.in_ok-shelf.ensures.told) at c.read_sources.ensures.err refl
 
 pub returns-clause-no_fault : goal.returns-clause-no_fault
-returns-clause-no_fault c = never_failed c.read_sources.result c.read_sources.ensures.cause
+returns-clause-no_fault c = never_failed c.read_sources.result c.read_sources.ensures.reads.counts

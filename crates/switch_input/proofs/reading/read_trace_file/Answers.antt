@@ -1,5 +1,6 @@
-use Rattle.std.proofs.Common.{arith, inl, inr}
+use Rattle.std.proofs.Common.{[], ◌∷◌, IsTrue, Err, arith, inl, inr}
 use Rattle.std.proofs.lemmas.Result.{err_from_is_err_and}
+use Rattle.switch_refusals.proofs.Reading.{closed_by, reads_still}
 use Rattle.switch_input.proofs.Stages.{trace_too_long, trace_read, trace_refused, too_long_explains, said_explains}
 use Rattle.switch_input.proofs.reading.read_trace_file.Goals as goal
 
@@ -22,3 +23,22 @@ returns-in-Err-clause-err g c = λ t.
           (trace_refused (g.S.Shelf.told c.args.shelf.now).holds c.args.bytes_left c.args.frames_left c.args.name.now _ c.in-Err.fault (c.in_ok-bytes.ensures.bytes t) (omega (arith, c.in_ok-bytes.ensures.few)) faulty)
           c.refused.ensures.input
     ]
+
+-- ---- what is read
+
+pub returns-in_err-bytes-clause-reads : goal.returns-in_err-bytes-clause-reads
+returns-in_err-bytes-clause-reads g c =
+    let p = err_from_is_err_and c.from_residual.result c.from_residual.ensures.1 in
+    rw (p.1, p.2) c.in_err-bytes.ensures.reads
+
+pub returns-in-Ok-clause-reads : goal.returns-in-Ok-clause-reads
+returns-in-Ok-clause-reads g c = c.in_ok-bytes.ensures.reads
+
+pub returns-in-Err-clause-reads : goal.returns-in-Err-clause-reads
+returns-in-Err-clause-reads g c =
+    reads_still (IsTrue g.S.Shelf.tells) g.S.Shelf c.args.shelf.now c.read_file.new.shelf (c.args.name.now ∷ []) c.in_ok-bytes.ensures.reads
+    c.refused.result c.refused.ensures.no_fault
+
+pub returns-in-Err-clause-closed : goal.returns-in-Err-clause-closed
+returns-in-Err-clause-closed g c =
+    closed_by {T = Unit {0}} (g.S.Shelf.in_use c.read_file.new.shelf) c.in_ok-bytes.ensures.in_use (Err c.refused.result)

@@ -11,10 +11,9 @@ returns-in_err-inputs-clause-err g c =
     let read = c.in_err-inputs.ensures in
     rw (p.1, p.2) (unread_leaves g.S.Shelf g.K.Sink (texts c.args.words.now) c.args.shelf.now c.read_inputs.new.shelf c.args.say.now c.args.say.now c.in_err-inputs.field-0.0 read.unsaid (record {
       verdict = read.err;
-      named = read.named;
-      unwritten = read.told;
-      opened = read.opened;
-      cause = read.cause;
+      usage = read.usage;
+      reads = read.reads;
+      closed = read.closed;
       unsaid = refl;
     }))
 
@@ -24,10 +23,8 @@ returns-in_err-trace_and_print-clause-err g c =
     let read = c.in_ok-inputs.ensures in
     rw (p.1, p.2) (record {
       run = λ t. record { accepted = accepted_view c.in_ok-inputs.inputs; is_verdict = read.ok t; printed = c.in_err-trace_and_print.ensures.err };
-      unwritten = read.told;
-      opened = read.opened;
+      reads = read.reads;
       no_file = read.in_use;
-      counts = read.counts;
       cause = c.in_err-trace_and_print.ensures.cause;
     })
 
@@ -35,9 +32,9 @@ pub returns-clause-ok : goal.returns-clause-ok
 returns-clause-ok g c =
     let read = c.in_ok-inputs.ensures in record {
       run = λ t. record { accepted = accepted_view c.in_ok-inputs.inputs; is_verdict = read.ok t; printed = c.in_ok-trace_and_print.ensures.ok };
-      opened = read.opened;
-      unwritten = read.told;
+      opened = read.reads.opened;
+      unwritten = read.reads.only_read;
       no_file = read.in_use;
-      counts = read.counts;
+      counts = read.reads.counts;
       faults = c.in_ok-trace_and_print.ensures.cause.ok;
     }
