@@ -14,7 +14,7 @@ use Rattle.spec_run.specs.Verdict.{Files, Refusal, Missing, Limit, MirroredRun, 
 use Rattle.summary_laws.proofs.MadeApart.{script_ends, apart_by_script}
 
 module _ {A B : Type 0} where
-  followed : (m : Result A Refusal) (f : A → Result B Refusal) (b : B) → (m >>= f) ≡ Ok b → (a : A) × (m ≡ Ok a) × (f a ≡ Ok b)
+  pub followed : (m : Result A Refusal) (f : A → Result B Refusal) (b : B) → (m >>= f) ≡ Ok b → (a : A) × (m ≡ Ok a) × (f a ≡ Ok b)
   followed (Ok a) f b is = (a, refl, is)
   followed (Err e) f b is = absurd (cc is)
 

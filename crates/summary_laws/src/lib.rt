@@ -13,6 +13,8 @@
 //! - *The frames that are sent and dropped don't depend on the order of steps* (`summaries_send_alike`), where two lists
 //!   of whole journals decide each frame under the last version of its block, as all do where no block has both edits
 //!   and frames. So with any number of workers `sent` and `dropped` are what they are without workers.
+//! - *Then they are numbers of the run* (`summaries_send_plainly`): each frame counts as what the last version of its block
+//!   sends it as.
 //! - *A run that a number makes is one of these* (`made_runs_have_edits_apart`), and so is each run whose last edit is
 //!   followed by a line `sync 0`, whatever stands before it: no sync point is earlier than the one before it, so that all
 //!   are at time 0, and all frames come after the last of them.
@@ -26,8 +28,9 @@
 //!
 //! Each look moves the next place on by one, and no look is legal beyond the trace; a miss makes one frame more pending,
 //! and a settle one less. So the counts follow from the state at the end (`proofs/Counted`). What a frame is sent as is
-//! what its decision says, which is the same in both lists (`proofs/SentAlike`). The edits that a number makes are read
-//! up to their last lines only as far as to see that sync points stand in order (`proofs/MadeApart`, `proofs/MadeRuns`).
+//! what its decision says, which is the same in both lists (`proofs/SentAlike`), and what the run alone says
+//! (`proofs/SentPlainly`). The edits that a number makes are read up to their last lines only as far as to see that sync
+//! points stand in order (`proofs/MadeApart`, `proofs/MadeRuns`).
 //!
 //! # What is left to others
 //!
@@ -39,4 +42,4 @@ mod made;
 mod sums;
 
 pub use made::made_runs_have_edits_apart;
-pub use sums::{summaries_add_up, summaries_send_alike};
+pub use sums::{summaries_add_up, summaries_send_alike, summaries_send_plainly};

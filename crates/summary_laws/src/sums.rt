@@ -2,7 +2,7 @@ ghost use Rattle.std.specs.Prelude.{List, All};
 ghost use Rattle.spec_case.specs.Run.{Run};
 ghost use Rattle.spec_board.specs.Texts.{Journal};
 ghost use Rattle.spec_run.specs.Journals.{HasEditsApart, AreWhole, IsByLastVersion};
-ghost use Rattle.summary_laws.specs.Sums.{AddUp, SendAlike};
+ghost use Rattle.summary_laws.specs.Sums.{AddUp, SendAlike, SendPlainly};
 
 /// Looks by what they found are as many as the frames, and settles by what they did as many as the looks that missed.
 /// So it is of any whole journals, whoever took their steps.
@@ -17,4 +17,12 @@ pub fn summaries_send_alike()
         → All (IsByLastVersion run) a → All (IsByLastVersion run) b → SendAlike run a b }
     ensures edits_apart { (run : Run) (a b : List Journal) → HasEditsApart run → AreWhole run a → AreWhole run b
         → SendAlike run a b }
+{}
+
+/// Then both numbers are those of the run: each frame counts as what the last version of its block sends it as.
+pub fn summaries_send_plainly()
+    ensures last_versions { (run : Run) (journals : List Journal) → AreWhole run journals
+        → All (IsByLastVersion run) journals → SendPlainly run journals }
+    ensures edits_apart { (run : Run) (journals : List Journal) → HasEditsApart run → AreWhole run journals
+        → SendPlainly run journals }
 {}
