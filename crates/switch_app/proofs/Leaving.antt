@@ -24,7 +24,7 @@ use Rattle.switch_output.specs.Refused.{IfWriteFault, HasWriteCause, IsCutIn}
 use Rattle.switch_output.specs.Put.{NamesNoFile, CutsFiles, PutsWhole, CutsOut}
 use Rattle.spec_words.specs.Words.{Input, Files as Named, Made, Command}
 use Rattle.spec_mirrors.specs.Mirrors.{Mirror}
-use Rattle.switch_input.specs.Known.{IsKnownInput, IsKnownCommand, IsKnown}
+use Rattle.switch_input.specs.Known.{IsKnownInput, IsKnownCommand, IsKnown, NeedNoFile}
 use Rattle.switch_app.specs.declared.refusal.Refusal.TheVariants.{Output}
 use Rattle.switch_app.specs.Ends.{IsAllDone}
 use Rattle.switch_app.specs.RunViews.{ByJournals, IsUntouched, HasRead, IsWritten, Leaves}
@@ -38,6 +38,15 @@ input_tells tells (Made number) mirrors known = inr refl
 tells_or_none : (tells : Bool) (words : List (List ℕ)) (c : Command) (mirrors : List Mirror) → command_in words ≡ Ok c → IsKnown tells words
     → IsTrue tells ⊎ (outlets_of c.input mirrors ≡ None)
 tells_or_none tells words c mirrors e known = input_tells tells c.input mirrors (subst (λ (r : Result Command Refused). IsKnownCommand tells r) e known)
+
+-- where the words need no file, nothing is written
+pub writes_none : (words : List (List ℕ)) (accepted : Accepted) → command_in words ≡ Ok accepted.command → NeedNoFile words
+    → outlets_of accepted.command.input accepted.mirrors ≡ None
+writes_none words accepted e need = by (tells_or_none false words accepted.command accepted.mirrors e need)
+  where
+    by : IsTrue false ⊎ (outlets_of accepted.command.input accepted.mirrors ≡ None) → outlets_of accepted.command.input accepted.mirrors ≡ None
+    by (inl told) = cc told
+    by (inr none) = none
 
 -- A run was read and accepted, and then it was told what became of it.
 module _ {S K : Type 0} (g : shelf.Ghosts S) (h : sink.Ghosts K) (words : List (List ℕ)) (old mid new : S) (said saying : K) (accepted : Accepted)

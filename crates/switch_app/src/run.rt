@@ -10,7 +10,7 @@ ghost use Rattle.spec_run.specs.Outputs.{outlets_of, output_of, has_steps, ran_o
 ghost use Rattle.spec_run.specs.Statuses.{done_status, usage_status, read_fault_status, out_of_memory_status, status_of as refusal_status};
 ghost use Rattle.edge_io.specs.declared.outside.InUse.TheVariants.{Nothing};
 ghost use Rattle.command_words.specs.CommandViews.{texts, input_view, HasWorkers};
-ghost use Rattle.switch_input.specs.Known.{IsKnown};
+ghost use Rattle.switch_input.specs.Known.{IsKnown, NeedNoFile};
 ghost use Rattle.switch_input.specs.InputViews.{run_view, IsWithinLimits};
 ghost use Rattle.switch_output.specs.declared.refusal.OutputRefusal.TheVariants.{Files};
 ghost use Rattle.switch_output.specs.declared.refusal.WriteRefusal.TheVariants.{OutOfMemory};
@@ -181,6 +181,7 @@ fn run<'a, R: Threads + Wait + Sync, S: Shelf, K: Sink, G: Gate + Sync>(
         (IsAllDone S.Shelf K.Sink (texts words.now) shelf.old shelf.new say.old say.new) }
     ensures err { IfErr result
         (Leaves S.Shelf K.Sink (texts words.now) shelf.old shelf.new say.old say.new) }
+    ensures untouched { NeedNoFile (texts words.now) → shelf.new ≡ shelf.old }
 {
     let inputs = read_inputs(alloc, words, shelf)?;
     decide_and_tell::<Brand, R, S, K, G>(rt, alloc, shelf, say, inputs, gate)?;
@@ -196,8 +197,9 @@ fn end<R: Threads + Wait + Sync, S: Shelf, K: Sink, G: Gate + Sync>(
     gate: &G,
 ) -> u8
     requires { S.in_use shelf.old ≡ Nothing }
-    ensures { let words = texts words.now in
+    ensures ends { let words = texts words.now in
         Ends S.Shelf K.Sink words shelf.old shelf.new say.old say.new result }
+    ensures untouched { NeedNoFile (texts words.now) → shelf.new ≡ shelf.old }
 {
     match run(rt, alloc, words, shelf, say, gate) {
         Ok(()) => DONE,
@@ -273,6 +275,9 @@ pub fn run_switch<R: Threads + Wait + Sync, S: Shelf, K: Sink, G: Gate + Sync>(
         → ¬ Rose (S.counts shelf.old).writing (S.counts shelf.new).writing
         → ¬ Rose (K.faults say.old) (K.faults say.new)
         → (result ≡ done_status) ⊎ (result ≡ out_of_memory_status) }
+
+    // Where no file is needed, as the words are refused or have a number, none is opened or written.
+    ensures untouched { NeedNoFile (texts words.now) → shelf.new ≡ shelf.old }
 {
     end(rt, alloc, words, shelf, say, gate)
 }

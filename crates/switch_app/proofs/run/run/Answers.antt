@@ -1,8 +1,8 @@
-use Rattle.std.proofs.Common.{refl}
+use Rattle.std.proofs.Common.{refl, ◌∙◌}
 use Rattle.std.proofs.lemmas.Result.{err_from_is_err_and}
 use Rattle.command_words.specs.CommandViews.{texts}
 use Rattle.switch_input.specs.InputViews.{accepted_view}
-use Rattle.switch_app.proofs.Leaving.{all_done, left}
+use Rattle.switch_app.proofs.Leaving.{all_done, left, writes_none}
 use Rattle.switch_app.proofs.run.run.Goals as goal
 
 pub returns-in_err-inputs-clause-err : goal.returns-in_err-inputs-clause-err
@@ -31,3 +31,15 @@ returns-clause-ok g c =
     all_done g.S.Shelf g.K.Sink (texts c.args.words.now) c.args.shelf.now c.read_inputs.new.shelf c.decide_and_tell.new.shelf c.args.say.now c.decide_and_tell.new.say
     (accepted_view c.in_ok-inputs.inputs) read.accepted read.command read.reads c.in_ok-decide_and_tell.ensures.opened
     (λ none. (c.in_ok-decide_and_tell.ensures.untouched none).0) c.in_ok-decide_and_tell.ensures.ok
+
+pub returns-in_err-decide_and_tell-clause-untouched : goal.returns-in_err-decide_and_tell-clause-untouched
+returns-in_err-decide_and_tell-clause-untouched g c = λ need.
+    let read = c.in_ok-inputs.ensures in
+    let none = writes_none (texts c.args.words.now) (accepted_view c.in_ok-inputs.inputs) read.command need in
+    (c.in_err-decide_and_tell.ensures.untouched none).0 ∙ read.untouched need
+
+pub returns-clause-untouched : goal.returns-clause-untouched
+returns-clause-untouched g c = λ need.
+    let read = c.in_ok-inputs.ensures in
+    let none = writes_none (texts c.args.words.now) (accepted_view c.in_ok-inputs.inputs) read.command need in
+    (c.in_ok-decide_and_tell.ensures.untouched none).0 ∙ read.untouched need
