@@ -24,12 +24,17 @@ impl Awaited {
         }
     }
 
-    fn come(&self) {
+    pub fn come(&self) {
         self.came.store(true, Ordering::SeqCst);
     }
 
-    // Holds the thread that calls this first until it came, or for the most turns.
-    fn hold_first(&self) {
+    /// Whether it came.
+    pub fn has_come(&self) -> bool {
+        self.came.load(Ordering::SeqCst)
+    }
+
+    /// Holds the thread that calls this first until it came, or for the most turns.
+    pub fn hold_first(&self) {
         if self.has_waited.swap(true, Ordering::SeqCst) {
             return;
         }
@@ -81,14 +86,20 @@ impl Gate for TwoUpcalls {
     }
 }
 
-/// Holds the second batch of port 1 until an upcall is translated, and the first upcall until the third batch begins. So the
-/// second batch is looked up while the upcall is under way.
+/// Holds batches of port 1 in a block after one without frames: the second one until an upcall is translated, and the
+/// third one until an upcall is that is none of the first batch's. It holds the first upcall until the third batch
+/// begins. So the second batch is looked up while the upcall is under way, and the third one after upcalls were
+/// settled.
 #[derive(Drop)]
 pub struct ThirdBatch {
     batches: AtomicU64,
-    upcall: Awaited,
+    pub upcall: Awaited,
     pub third: Awaited,
+    pub later: Awaited,
 }
+
+// The most upcalls that a handler settles together.
+const MOST_TOGETHER: u32 = 32;
 
 impl ThirdBatch {
     pub fn new() -> ThirdBatch {
@@ -96,14 +107,18 @@ impl ThirdBatch {
             batches: AtomicU64::new(0),
             upcall: Awaited::new(),
             third: Awaited::new(),
+            later: Awaited::new(),
         }
     }
 
     fn pass_batch(&self) {
         match self.batches.fetch_add(1, Ordering::SeqCst) {
-            0 => {}
-            1 => self.upcall.hold_first(),
-            _ => self.third.come(),
+            0 | 1 => {}
+            2 => self.upcall.hold_first(),
+            _ => {
+                self.third.come();
+                self.later.hold_first();
+            }
         }
     }
 }
@@ -112,7 +127,10 @@ impl Gate for ThirdBatch {
     fn pass(&self, point: Point) {
         match point {
             Point::Batch { port: 1 } => self.pass_batch(),
-            Point::Upcall { .. } => {
+            Point::Upcall { place, .. } => {
+                if place > MOST_TOGETHER {
+                    self.later.come();
+                }
                 self.upcall.come();
                 self.third.hold_first();
             }
@@ -121,28 +139,39 @@ impl Gate for ThirdBatch {
     }
 }
 
-/// Keeps in mind whether the first entry of port 1 was checked.
+/// How often the first entry of each of two ports was checked.
 #[derive(Drop)]
-pub struct FirstCheck {
-    passed: AtomicBool,
+pub struct FirstChecks {
+    of_port_1: AtomicU64,
+    of_port_2: AtomicU64,
 }
 
-impl FirstCheck {
-    pub fn new() -> FirstCheck {
-        FirstCheck {
-            passed: AtomicBool::new(false),
+impl FirstChecks {
+    pub fn new() -> FirstChecks {
+        FirstChecks {
+            of_port_1: AtomicU64::new(0),
+            of_port_2: AtomicU64::new(0),
         }
     }
 
-    pub fn was_passed(&self) -> bool {
-        self.passed.load(Ordering::SeqCst)
+    pub fn told(&self) -> [u64; 2] {
+        [
+            self.of_port_1.load(Ordering::SeqCst),
+            self.of_port_2.load(Ordering::SeqCst),
+        ]
     }
 }
 
-impl Gate for FirstCheck {
+impl Gate for FirstChecks {
     fn pass(&self, point: Point) {
-        if point == (Point::Check { port: 1, entry: 1 }) {
-            self.passed.store(true, Ordering::SeqCst);
+        match point {
+            Point::Check { port: 1, entry: 1 } => {
+                self.of_port_1.fetch_add(1, Ordering::SeqCst);
+            }
+            Point::Check { port: 2, entry: 1 } => {
+                self.of_port_2.fetch_add(1, Ordering::SeqCst);
+            }
+            _ => {}
         }
     }
 }

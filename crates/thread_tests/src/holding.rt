@@ -1,0 +1,298 @@
+//! Gates that hold several threads at once, and that count which upcalls were translated.
+
+use crate::gates::Awaited;
+use edge_io::{Gate, Point};
+use std::sync::atomic::{AtomicBool, AtomicU64, Ordering};
+use std::thread;
+
+// For how many turns a thread is held at most where others are to come, and where none is to come.
+const MOST_TURNS: u32 = 1_000_000;
+
+const FEW_TURNS: u32 = 20_000;
+
+/// Holds threads until so many are held at once, and then for some turns more, and keeps in mind how many were.
+#[derive(Drop)]
+pub struct AtOnce {
+    wanted: u64,
+    held: AtomicU64,
+    most: AtomicU64,
+    is_open: AtomicBool,
+}
+
+impl AtOnce {
+    fn new(wanted: u64) -> AtOnce {
+        AtOnce {
+            wanted,
+            held: AtomicU64::new(0),
+            most: AtomicU64::new(0),
+            is_open: AtomicBool::new(false),
+        }
+    }
+
+    // Holds the thread until so many are held, or for the most turns, and then for a few.
+    fn hold(&self) {
+        if self.is_open.load(Ordering::SeqCst) {
+            return;
+        }
+        let held = self.held.fetch_add(1, Ordering::SeqCst).saturating_add(1);
+        self.most.fetch_max(held, Ordering::SeqCst);
+        for _ in 0..MOST_TURNS {
+            if self.most.load(Ordering::SeqCst) >= self.wanted {
+                break;
+            }
+            thread::yield_now();
+        }
+        for _ in 0..FEW_TURNS {
+            thread::yield_now();
+        }
+        self.is_open.store(true, Ordering::SeqCst);
+        self.held.fetch_sub(1, Ordering::SeqCst);
+    }
+
+    fn most(&self) -> u64 {
+        self.most.load(Ordering::SeqCst)
+    }
+}
+
+/// How many receive workers there are: each is held where a batch begins.
+#[derive(Drop)]
+pub struct Receivers(AtOnce);
+
+impl Receivers {
+    pub fn new(wanted: u64) -> Receivers {
+        Receivers(AtOnce::new(wanted))
+    }
+
+    pub fn most(&self) -> u64 {
+        self.0.most()
+    }
+}
+
+impl Gate for Receivers {
+    fn pass(&self, point: Point) {
+        if let Point::Batch { .. } = point {
+            self.0.hold();
+        }
+    }
+}
+
+/// How many handlers there are: each is held where it has translated an upcall.
+#[derive(Drop)]
+pub struct Handlers(AtOnce);
+
+impl Handlers {
+    pub fn new(wanted: u64) -> Handlers {
+        Handlers(AtOnce::new(wanted))
+    }
+
+    pub fn most(&self) -> u64 {
+        self.0.most()
+    }
+}
+
+impl Gate for Handlers {
+    fn pass(&self, point: Point) {
+        if let Point::Upcall { .. } = point {
+            self.0.hold();
+        }
+    }
+}
+
+/// Holds the first batch of a port until the last port of the other receive worker is polled, and keeps in mind
+/// whether another port of its own worker was polled by then.
+#[derive(Drop)]
+pub struct HeldPort {
+    port: u16,
+    of_other: u16,
+    of_same: u16,
+    pub other: Awaited,
+    came_first: AtomicBool,
+}
+
+impl HeldPort {
+    pub fn new(port: u16, of_other: u16, of_same: u16) -> HeldPort {
+        HeldPort {
+            port,
+            of_other,
+            of_same,
+            other: Awaited::new(),
+            came_first: AtomicBool::new(false),
+        }
+    }
+
+    /// Whether the port of the same worker was polled while the first one was held.
+    pub fn came_first(&self) -> bool {
+        self.came_first.load(Ordering::SeqCst)
+    }
+}
+
+impl Gate for HeldPort {
+    fn pass(&self, point: Point) {
+        let Point::Batch { port } = point else {
+            return;
+        };
+        if port == self.port {
+            self.other.hold_first();
+        } else if port == self.of_other {
+            self.other.come();
+        } else if port == self.of_same && !self.other.has_come() {
+            self.came_first.store(true, Ordering::SeqCst);
+        }
+    }
+}
+
+/// The places of frames, below 64, whose upcalls were translated, each as a bit.
+#[derive(Drop)]
+struct Places(AtomicU64);
+
+impl Places {
+    fn new() -> Places {
+        Places(AtomicU64::new(0))
+    }
+
+    fn add(&self, place: u32) {
+        if place < u64::BITS {
+            self.0.fetch_or(1 << place, Ordering::SeqCst);
+        }
+    }
+
+    fn count(&self) -> u32 {
+        self.0.load(Ordering::SeqCst).count_ones()
+    }
+}
+
+/// Holds the batch of port 2 until the upcall of port 1 is translated, and for some turns more, in which the handler
+/// finds the queue empty. It counts the upcalls of port 2.
+#[derive(Drop)]
+pub struct LateBatch {
+    first: Awaited,
+    late: Places,
+}
+
+impl LateBatch {
+    pub fn new() -> LateBatch {
+        LateBatch {
+            first: Awaited::new(),
+            late: Places::new(),
+        }
+    }
+
+    pub fn late(&self) -> u32 {
+        self.late.count()
+    }
+}
+
+impl Gate for LateBatch {
+    fn pass(&self, point: Point) {
+        match point {
+            Point::Batch { port: 2 } => {
+                self.first.hold_first();
+                for _ in 0..FEW_TURNS {
+                    thread::yield_now();
+                }
+            }
+            Point::Upcall { port: 1, .. } => self.first.come(),
+            Point::Upcall { port: 2, place } => self.late.add(place),
+            _ => {}
+        }
+    }
+}
+
+/// Holds the first upcall until the batch of port 2 has begun, and for some turns more, in which the receive worker
+/// ends. It counts the upcalls of port 2.
+#[derive(Drop)]
+pub struct LateUpcalls {
+    last_batch: Awaited,
+    late: Places,
+}
+
+impl LateUpcalls {
+    pub fn new() -> LateUpcalls {
+        LateUpcalls {
+            last_batch: Awaited::new(),
+            late: Places::new(),
+        }
+    }
+
+    pub fn late(&self) -> u32 {
+        self.late.count()
+    }
+}
+
+impl Gate for LateUpcalls {
+    fn pass(&self, point: Point) {
+        match point {
+            Point::Batch { port: 2 } => self.last_batch.come(),
+            Point::Upcall { port: 1, .. } => {
+                self.last_batch.hold_first();
+                for _ in 0..FEW_TURNS {
+                    thread::yield_now();
+                }
+            }
+            Point::Upcall { port: 2, place } => self.late.add(place),
+            _ => {}
+        }
+    }
+}
+
+/// Holds what comes to a point of the second block until the first entry of port 1 is checked, and so until all edits
+/// of the block are published.
+#[derive(Drop)]
+pub struct SecondBlock {
+    held: Held,
+    batches: AtomicU64,
+    holds: AtomicBool,
+    pub check: Awaited,
+}
+
+/// What is held in the second block.
+#[derive(Clone, Copy, PartialEq, Eq)]
+pub enum Held {
+    /// The batch of port 1.
+    Batch,
+    /// The upcall of port 2.
+    Upcall,
+}
+
+impl SecondBlock {
+    pub fn new(held: Held) -> SecondBlock {
+        SecondBlock {
+            held,
+            batches: AtomicU64::new(0),
+            holds: AtomicBool::new(false),
+            check: Awaited::new(),
+        }
+    }
+
+    fn hold(&self) {
+        self.holds.store(true, Ordering::SeqCst);
+        self.check.hold_first();
+    }
+
+    // A check of the second block waits until the other is held.
+    fn pass_check(&self) {
+        for _ in 0..MOST_TURNS {
+            if self.holds.load(Ordering::SeqCst) {
+                self.check.come();
+                return;
+            }
+            thread::yield_now();
+        }
+    }
+}
+
+impl Gate for SecondBlock {
+    fn pass(&self, point: Point) {
+        match point {
+            Point::Batch { port: 1 } => {
+                let before = self.batches.fetch_add(1, Ordering::SeqCst);
+                if before == 1 && self.held == Held::Batch {
+                    self.hold();
+                }
+            }
+            Point::Upcall { port: 2, .. } if self.held == Held::Upcall => self.hold(),
+            Point::Check { port: 1, entry: 1 } => self.pass_check(),
+            _ => {}
+        }
+    }
+}
