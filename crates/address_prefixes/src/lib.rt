@@ -48,6 +48,3 @@ mod prefix;
 mod prefix_test;
 
 pub use address_prefixes::{AddressLookups, AddressPrefixes, MaskPrefixes};
-
-#[cfg(test)]
-mod tests;

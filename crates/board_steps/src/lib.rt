@@ -31,6 +31,3 @@ mod step_text;
 pub use laws::journals_text_is_one_to_one;
 pub use step::{EntryNumbers, Settled, Step};
 pub use step_text::push_step;
-
-#[cfg(test)]
-mod tests;

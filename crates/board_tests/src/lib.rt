@@ -1,4 +1,5 @@
-//! Tests of boards: each call that takes memory with ample memory, and what refuses each call.
+//! Tests of runs and of boards: where the blocks of a run end, each call of a board that takes memory with ample memory,
+//! and what refuses each call.
 //!
 //! A contract says what a board answers where there is memory, so a body that always says that there is none would meet
 //! it. Such a body fails here. The answers of the rows were worked out by hand from how the caches are to behave, so a
@@ -9,6 +10,8 @@
 //! own, since a crate with tests is proved twice.
 #![tactic(auto)]
 
+#[cfg(test)]
+mod blocks;
 #[cfg(test)]
 mod calls;
 #[cfg(test)]

@@ -59,6 +59,3 @@ pub use counts::{FaultCounts, counted_fault};
 pub use outside::{Failed, Gate, InUse, OpenGate, Point, Shelf, Sink};
 pub use reading::{ReadFault, read_all};
 pub use writing::{say_all, write_all, write_file};
-
-#[cfg(test)]
-mod tests;

@@ -44,6 +44,3 @@ pub use fixed_sink::FixedSink;
 pub use memory::MemoryShelf;
 pub use memory_sink::MemorySink;
 pub use steady::{SteadyShelf, SteadySink};
-
-#[cfg(test)]
-mod tests;

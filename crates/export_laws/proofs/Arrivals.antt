@@ -3,11 +3,11 @@ use Rattle.std.proofs.Common.{◌≡◌, ℕ, ◌+◌, Bool, true, false, if◌t
 use Rattle.spec_pcap.specs.Pcap.{Frame, Capture}
 use Rattle.spec_case.specs.declared.arrival.Arrival.{Arrival}
 use Rattle.spec_case.specs.Run.{Run}
-use Rattle.spec_case.specs.Arrivals.{arrivals_at, arrivals_in, comes_before, put_in_order, in_order}
+use Rattle.spec_case.specs.Arrivals.{arrivals_at, arrivals_in, comes_before}
 use Rattle.spec_board.specs.Texts.{Journal}
 use Rattle.spec_netflow.specs.Flows.{came_in}
 use Rattle.spec_run.specs.Journals.{AreWhole, actions_for}
-use Rattle.translation_laws.proofs.MemberLaws.{Among, Among-append, All-Among, All_from-Among}
+use Rattle.translation_laws.proofs.MemberLaws.{Among, Among-append, Among-sort_by, All-Among, All_from-Among}
 use Rattle.board_laws.specs.Entries.{AreOfBytes}
 use Rattle.netflow_laws.specs.Widths.{IsOfWidths, AreOfWidths}
 use Rattle.export_laws.specs.Widths.{HasWidths}
@@ -31,31 +31,6 @@ at_some_port (p ∷ ps) (t ∷ ts) a there = at (Among-append a (arrivals_at p 1
     at (inl here) others = inl (at_port p 1 t.frames a here)
     at (inr later) others = inr (others later)
 
-among_put : (a b : Arrival) (bs : List Arrival) → Among b (put_in_order a bs) → (b ≡ a) ⊎ Among b bs
-unfolding put_in_order
-among_put a b [] (inl is) = inl is
-among_put a b [] (inr none) = absurd none
-among_put a b (x ∷ bs) there = at (comes_before x a) there (among_put a b bs)
-  where
-    at : (t : Bool) → Among b (if t then x ∷ put_in_order a bs else a ∷ x ∷ bs) → (Among b (put_in_order a bs) → (b ≡ a) ⊎ Among b bs) → (b ≡ a) ⊎ Among b (x ∷ bs)
-    at true (inl is) others = inr (inl is)
-    at true (inr more) others = later (others more)
-      where
-        later : (b ≡ a) ⊎ Among b bs → (b ≡ a) ⊎ Among b (x ∷ bs)
-        later (inl is) = inl is
-        later (inr old) = inr (inr old)
-    at false (inl is) others = inl is
-    at false (inr more) others = inr more
-
-among_order : (b : Arrival) (arrivals : List Arrival) → Among b (in_order arrivals) → Among b arrivals
-unfolding in_order
-among_order b [] there = absurd there
-among_order b (a ∷ rest) there = at (among_put a b (in_order rest) there) (among_order b rest)
-  where
-    at : (b ≡ a) ⊎ Among b (in_order rest) → (Among b (in_order rest) → Among b rest) → Among b (a ∷ rest)
-    at (inl is) others = inl is
-    at (inr more) others = inr (others more)
-
 -- ---- what is told of each
 
 pub of_widths : (run : Run) (journals : List Journal) → HasWidths run → AreWhole run journals → AreOfWidths run (actions_for run journals)
@@ -63,6 +38,6 @@ of_widths run journals w whole = record { each = All_from-Among (IsOfWidths run 
   where
     each : (a : Arrival) → Among a (came_in run) → IsOfWidths run (actions_for run journals) a
     each a there =
-        let port = at_some_port run.ports run.traces a (among_order a _ there) in
+        let port = at_some_port run.ports run.traces a (Among-sort_by comes_before a _ there) in
         let of_port = All-Among (AreOfBytes run) run.ports w.each a.port port in
         record { bytes = frame_bytes run a.port a.place of_port; input = of_port.of_16_bits; output = actions_first run w journals whole a.port a.place }

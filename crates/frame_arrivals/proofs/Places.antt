@@ -6,13 +6,13 @@ use Rattle.std.proofs.lemmas.Bool.{eq-eqb}
 use Rattle.std.proofs.lemmas.List.{drop_more, drop_all, append-nil}
 use Rattle.std.proofs.lemmas.List.Elements.{All-nil, All-cons, All-head, All-tail, All-append}
 use Rattle.std.proofs.lemmas.List.Folds.{list_any_at}
+use Rattle.spec_base.proofs.SortLaws.{All-sort_by}
 use Rattle.spec_pcap.specs.Pcap.{Frame, Capture, frame_number}
 use Rattle.spec_case.specs.declared.arrival.Arrival.{Arrival}
 use Rattle.spec_case.specs.Run.{Run, frames_in, frames_of}
-use Rattle.spec_case.specs.Arrivals.{arrivals_at, arrivals_in, arrivals, in_order}
+use Rattle.spec_case.specs.Arrivals.{arrivals_at, arrivals_in, arrivals, comes_before, in_order}
 use Rattle.run_blocks.specs.Places.{HasPort}
 use Rattle.frame_arrivals.specs.Arrivals.{IsArrival}
-use Rattle.frame_arrivals.proofs.InOrder.{All-put_in_order}
 
 -- ---- at one port
 
@@ -91,16 +91,9 @@ module _ (run : Run) where
       (are_arrivals_at p (All-head (HasPort run.ports) p these there) [] (frames_of run p) refl)
       (are_arrivals_to these (All-tail (HasPort run.ports) p these there))
 
-  All-in_order : (xs : List Arrival) → All (IsArrival run) xs → All (IsArrival run) (in_order xs)
-  unfolding in_order
-  All-in_order [] all = all
-  All-in_order (a ∷ rest) all =
-      All-put_in_order (IsArrival run) a (in_order rest) (All-head (IsArrival run) a rest all)
-      (All-in_order rest (All-tail (IsArrival run) a rest all))
-
   all_there : All (HasPort run.ports) run.ports
   all_there = λ k d within. list_any_at (λ p. p == get_or run.ports k d) run.ports k d within (eq-eqb _ _ refl)
 
   pub are_arrivals : IsDistinct nat_eq run.ports → All (IsArrival run) (in_order (arrivals run))
   are_arrivals distinct =
-      All-in_order (arrivals run) (rw (arrivals-by_port run.ports run.traces distinct) (are_arrivals_to run.ports all_there))
+      All-sort_by comes_before (IsArrival run) (arrivals run) (rw (arrivals-by_port run.ports run.traces distinct) (are_arrivals_to run.ports all_there))

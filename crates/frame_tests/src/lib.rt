@@ -1,4 +1,4 @@
-//! Tests of layouts and of rewriting, with ample memory.
+//! Tests of numbers and checksums in bytes, of layouts and of rewriting, with ample memory.
 //!
 //! A contract says what comes out where there is memory, so a body that always says that there is none would meet it.
 //! Such a body fails here. The tests stand in a crate of their own, since a crate with tests is proved twice.
@@ -6,5 +6,7 @@
 
 #[cfg(test)]
 mod layouts;
+#[cfg(test)]
+mod numbers;
 #[cfg(test)]
 mod rewriting;

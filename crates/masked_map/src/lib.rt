@@ -75,6 +75,3 @@ mod packet_key;
 pub use map::MaskedMap;
 pub use mask_union::MaskUnion;
 pub use packet_key::PacketKey;
-
-#[cfg(test)]
-mod tests;

@@ -40,6 +40,3 @@ mod writing;
 pub use checksum::{checksum_of, checksum_update, update_is_recomputing};
 pub use reading::{be16, be32, be48, be128, le16, le32};
 pub use writing::{put16, put32, put48, put128};
-
-#[cfg(test)]
-mod tests;

@@ -9,9 +9,10 @@ use Rattle.spec_pcap.specs.Pcap.{Frame, Capture, frame_number}
 use Rattle.spec_case.specs.declared.arrival.Arrival.{Arrival}
 use Rattle.spec_case.specs.Run.{Run, frames_in, frames_of, frame_at}
 use Rattle.spec_case.specs.Blocks.{frames_before}
-use Rattle.spec_case.specs.Arrivals.{arrivals_at, arrivals_in, arrivals, in_order}
+use Rattle.spec_base.proofs.SortLaws.{All-sort_by}
+use Rattle.spec_case.specs.Arrivals.{arrivals_at, arrivals_in, arrivals, comes_before, in_order}
 use Rattle.part_laws.specs.Parts.{frames_until, frames_since, trace_until, trace_since, before, since, IsCutIn, MayBeCutAt}
-use Rattle.part_laws.proofs.Sorted.{IsEarly, IsLate, moved, All-in_order, one_port_more}
+use Rattle.part_laws.proofs.Sorted.{IsEarly, IsLate, moved, one_port_more}
 
 -- A run that may be cut at one time.
 pub record IsCutAt (time : ℕ) (run : Run) : Type 0 where
@@ -238,7 +239,7 @@ module _ (time : ℕ) (run : Run) (cut : IsCutAt time run) where
 -- an arrival of a run is of a frame of it
 pub all_in : (run : Run) → IsDistinct nat_eq run.ports → All (IsIn (frames_of run)) (in_order (arrivals run))
 all_in run distinct =
-    All-in_order (IsIn (frames_of run)) (arrivals run) (are_in (frames_of run) run.ports run.traces (are_of run.ports run.traces distinct))
+    All-sort_by comes_before (IsIn (frames_of run)) (arrivals run) (are_in (frames_of run) run.ports run.traces (are_of run.ports run.traces distinct))
 
 -- ---- cut more than once
 

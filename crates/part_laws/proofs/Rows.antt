@@ -5,7 +5,8 @@ use Rattle.spec_tables.specs.declared.sync_point.SyncPoint.{SyncPoint}
 use Rattle.spec_case.specs.declared.arrival.Arrival.{Arrival}
 use Rattle.spec_case.specs.Run.{Run, frames_in, frames_of}
 use Rattle.spec_case.specs.Blocks.{lo, hi, ends_after, block_of}
-use Rattle.spec_case.specs.Arrivals.{arrivals_at, arrivals_in, arrivals, put_in_order, in_order}
+use Rattle.spec_base.specs.Sorting.{insert_by, sort_by}
+use Rattle.spec_case.specs.Arrivals.{arrivals_at, arrivals_in, arrivals, in_order}
 use Rattle.spec_tables.specs.Edits.{Edit}
 use Rattle.part_laws.specs.Parts.{before, since, parts, IsCutIn}
 use Rattle.part_laws.specs.Laws.{joined}
@@ -81,7 +82,7 @@ module _ (edits : List Edit) where
   -- what would follow is in another order
   its_parts_are_in_another_order :
       (times_in_order falling ≡ 1 ∷ 2 ∷ 3 ∷ 5 ∷ []) × (times_in_order (before 4 falling) ++ times_in_order (since 4 falling) ≡ 1 ∷ 3 ∷ 2 ∷ 5 ∷ [])
-  unfolding in_order put_in_order arrivals_in arrivals_at
+  unfolding sort_by insert_by arrivals_in arrivals_at
   its_parts_are_in_another_order = (refl, refl)
 
 -- ---- files

@@ -6,38 +6,27 @@ use Rattle.std.specs.declared.cmp.Ordering.TheVariants.{Less, Equal, Greater}
 use Rattle.std.proofs.lemmas.Bool.{cases_Bool, cases_order, lt-ltb, le-ltb, eq-eqb, ne_eqb, cond-true, cond-false}
 use Rattle.std.proofs.lemmas.List.Elements.{All-cons, All-head, All-tail, All-append, All-weaker, All-map}
 use Rattle.spec_case.specs.declared.arrival.Arrival.{Arrival}
-use Rattle.spec_case.specs.Arrivals.{comes_before, put_in_order, in_order}
+use Rattle.spec_base.specs.Sorting.{insert_by, sort_by}
+use Rattle.spec_base.proofs.SortLaws.{All-sort_by}
+use Rattle.spec_case.specs.Arrivals.{comes_before, in_order}
 
 -- ---- one arrival
 
-pub All-put : (P : Arrival → Type 0) (a : Arrival) (bs : List Arrival) → P a → All P bs → All P (put_in_order a bs)
-unfolding put_in_order
-All-put P a [] first rest = All-cons P a [] first rest
-All-put P a (b ∷ bs) first rest = elim (cases_Bool (comes_before b a)) [
-  | inl after ↦ rw after (All-cons P b (put_in_order a bs) (All-head P b bs rest) (All-put P a bs first (All-tail P b bs rest)))
-  | inr here ↦ rw here (All-cons P a (b ∷ bs) first rest)
-]
-
-pub All-in_order : (P : Arrival → Type 0) (xs : List Arrival) → All P xs → All P (in_order xs)
-unfolding in_order
-All-in_order P [] all = all
-All-in_order P (a ∷ rest) all = All-put P a (in_order rest) (All-head P a rest all) (All-in_order P rest (All-tail P a rest all))
-
 -- an arrival that none of the later ones comes before is put among the earlier ones
-put_early : (a : Arrival) (xs ys : List Arrival) → All (λ y. comes_before y a ≡ false) ys → put_in_order a (xs ++ ys) ≡ put_in_order a xs ++ ys
-unfolding put_in_order
+put_early : (a : Arrival) (xs ys : List Arrival) → All (λ y. comes_before y a ≡ false) ys → insert_by comes_before a (xs ++ ys) ≡ insert_by comes_before a xs ++ ys
+unfolding insert_by
 put_early a [] [] none = refl
 put_early a [] (y ∷ ys) none = cond-false (comes_before y a) _ _ (All-head (λ y. comes_before y a ≡ false) y ys none)
 put_early a (x ∷ xs) ys none = at (comes_before x a) refl (put_early a xs ys none)
   where
-    at : (t : Bool) → comes_before x a ≡ t → put_in_order a (xs ++ ys) ≡ put_in_order a xs ++ ys
-        → (if t then x ∷ put_in_order a (xs ++ ys) else a ∷ x ∷ (xs ++ ys)) ≡ (if t then x ∷ put_in_order a xs else a ∷ x ∷ xs) ++ ys
+    at : (t : Bool) → comes_before x a ≡ t → insert_by comes_before a (xs ++ ys) ≡ insert_by comes_before a xs ++ ys
+        → (if t then x ∷ insert_by comes_before a (xs ++ ys) else a ∷ x ∷ (xs ++ ys)) ≡ (if t then x ∷ insert_by comes_before a xs else a ∷ x ∷ xs) ++ ys
     at true e more = ap (λ l. x ∷ l) more
     at false e more = refl
 
 -- one that all earlier ones come before is put among the later ones
-put_late : (a : Arrival) (xs ys : List Arrival) → All (λ x. comes_before x a ≡ true) xs → put_in_order a (xs ++ ys) ≡ xs ++ put_in_order a ys
-unfolding put_in_order
+put_late : (a : Arrival) (xs ys : List Arrival) → All (λ x. comes_before x a ≡ true) xs → insert_by comes_before a (xs ++ ys) ≡ xs ++ insert_by comes_before a ys
+unfolding insert_by
 put_late a [] ys all = refl
 put_late a (x ∷ xs) ys all =
     cond-true (comes_before x a) _ _ (All-head (λ x. comes_before x a ≡ true) x xs all)
@@ -48,16 +37,16 @@ put_late a (x ∷ xs) ys all =
 -- arrivals put one by one, from the last to the first
 abbrev put_all : List Arrival → List Arrival → List Arrival
 put_all [] bs = bs
-put_all (a ∷ as_) bs = put_in_order a (put_all as_ bs)
+put_all (a ∷ as_) bs = insert_by comes_before a (put_all as_ bs)
 
 put_all-in_order : (as_ bs : List Arrival) → in_order (as_ ++ bs) ≡ put_all as_ (in_order bs)
-unfolding in_order
+unfolding sort_by
 put_all-in_order [] bs = refl
-put_all-in_order (a ∷ as_) bs = ap (put_in_order a) (put_all-in_order as_ bs)
+put_all-in_order (a ∷ as_) bs = ap (insert_by comes_before a) (put_all-in_order as_ bs)
 
 put_all-append : (as_ bs cs : List Arrival) → put_all (as_ ++ bs) cs ≡ put_all as_ (put_all bs cs)
 put_all-append [] bs cs = refl
-put_all-append (a ∷ as_) bs cs = ap (put_in_order a) (put_all-append as_ bs cs)
+put_all-append (a ∷ as_) bs cs = ap (insert_by comes_before a) (put_all-append as_ bs cs)
 
 -- ---- before and from a time on
 
@@ -86,13 +75,13 @@ module _ (time : ℕ) where
   early_among : (as_ xs ys : List Arrival) → All IsEarly as_ → All IsLate ys → put_all as_ (xs ++ ys) ≡ put_all as_ xs ++ ys
   early_among [] xs ys early late = refl
   early_among (a ∷ as_) xs ys early late =
-      ap (put_in_order a) (early_among as_ xs ys (All-tail IsEarly a as_ early) late)
+      ap (insert_by comes_before a) (early_among as_ xs ys (All-tail IsEarly a as_ early) late)
       ∙ put_early a (put_all as_ xs) ys (All-weaker IsLate (λ y. comes_before y a ≡ false) (λ y l. comes_later a y (All-head IsEarly a as_ early) l) ys late)
 
   late_among : (as_ xs ys : List Arrival) → All IsLate as_ → All IsEarly xs → put_all as_ (xs ++ ys) ≡ xs ++ put_all as_ ys
   late_among [] xs ys late early = refl
   late_among (a ∷ as_) xs ys late early =
-      ap (put_in_order a) (late_among as_ xs ys (All-tail IsLate a as_ late) early)
+      ap (insert_by comes_before a) (late_among as_ xs ys (All-tail IsLate a as_ late) early)
       ∙ put_late a xs (put_all as_ ys) (All-weaker IsEarly (λ x. comes_before x a ≡ true) (λ x l. comes_first x a l (All-head IsLate a as_ late)) xs early)
 
 -- ---- places that are counted from later on
@@ -124,25 +113,25 @@ module _ (from : ℕ → ℕ) where
       by_port (inr (inl l)) = let less = cmp_less b.port a.port l in rw less refl
       by_port (inr (inr l)) = let greater = cmp_greater b.port a.port l in rw greater refl
 
-  put_moved : (a : Arrival) (bs : List Arrival) → put_in_order (moved a) (map moved bs) ≡ map moved (put_in_order a bs)
-  unfolding put_in_order
+  put_moved : (a : Arrival) (bs : List Arrival) → insert_by comes_before (moved a) (map moved bs) ≡ map moved (insert_by comes_before a bs)
+  unfolding insert_by
   put_moved a [] = refl
   put_moved a (b ∷ bs) = at (comes_before b a) (same_order b a) (put_moved a bs)
     where
-      at : (t : Bool) → comes_before (moved b) (moved a) ≡ t → put_in_order (moved a) (map moved bs) ≡ map moved (put_in_order a bs)
-          → put_in_order (moved a) (map moved (b ∷ bs)) ≡ map moved (if t then b ∷ put_in_order a bs else a ∷ b ∷ bs)
+      at : (t : Bool) → comes_before (moved b) (moved a) ≡ t → insert_by comes_before (moved a) (map moved bs) ≡ map moved (insert_by comes_before a bs)
+          → insert_by comes_before (moved a) (map moved (b ∷ bs)) ≡ map moved (if t then b ∷ insert_by comes_before a bs else a ∷ b ∷ bs)
       at true e more = cond-true _ _ _ e ∙ ap (λ l. moved b ∷ l) more
       at false e more = cond-false _ _ _ e
 
   put_all-moved : (as_ bs : List Arrival) → put_all (map moved as_) (map moved bs) ≡ map moved (put_all as_ bs)
   put_all-moved [] bs = refl
-  put_all-moved (a ∷ as_) bs = ap (put_in_order (moved a)) (put_all-moved as_ bs) ∙ put_moved a (put_all as_ bs)
+  put_all-moved (a ∷ as_) bs = ap (insert_by comes_before (moved a)) (put_all-moved as_ bs) ∙ put_moved a (put_all as_ bs)
 
   -- the arrivals of one port more, some of them early and the others late, where those of other ports stand so in order
   module _ (time : ℕ) (as_ bs all early late : List Arrival) (of_as : All (IsEarly time) as_) (of_bs : All (IsLate time) bs)
       (of_early : All (IsEarly time) early) (of_late : All (IsLate time) late) where
     all_late : (cs : List Arrival) → All (IsLate time) cs → All (IsLate time) (map moved (in_order cs))
-    all_late cs of_cs = All-map (IsLate time) moved (in_order cs) (All-in_order (IsLate time) cs of_cs)
+    all_late cs of_cs = All-map (IsLate time) moved (in_order cs) (All-sort_by comes_before (IsLate time) cs of_cs)
 
     pub one_port_more : in_order all ≡ in_order early ++ map moved (in_order late)
         → in_order ((as_ ++ map moved bs) ++ all) ≡ in_order (as_ ++ early) ++ map moved (in_order (bs ++ late))
@@ -150,7 +139,7 @@ module _ (from : ℕ → ℕ) where
         put_all-in_order (as_ ++ map moved bs) all
         ∙ ap (put_all (as_ ++ map moved bs)) so
         ∙ put_all-append as_ (map moved bs) (in_order early ++ map moved (in_order late))
-        ∙ ap (put_all as_) (late_among time (map moved bs) (in_order early) (map moved (in_order late)) (All-map (IsLate time) moved bs of_bs) (All-in_order (IsEarly time) early of_early))
+        ∙ ap (put_all as_) (late_among time (map moved bs) (in_order early) (map moved (in_order late)) (All-map (IsLate time) moved bs of_bs) (All-sort_by comes_before (IsEarly time) early of_early))
         ∙ ap (λ l. put_all as_ (in_order early ++ l)) (put_all-moved bs (in_order late) ∙ ap (map moved) (sym (put_all-in_order bs late)))
         ∙ early_among time as_ (in_order early) (map moved (in_order (bs ++ late))) of_as (all_late (bs ++ late) (All-append (IsLate time) bs late of_bs of_late))
         ∙ ap (λ l. l ++ map moved (in_order (bs ++ late))) (sym (put_all-in_order as_ early))

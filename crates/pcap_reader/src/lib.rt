@@ -29,6 +29,3 @@ mod trace;
 
 pub use spec_pcap::PcapFault;
 pub use trace::{Trace, read_trace};
-
-#[cfg(test)]
-mod tests;

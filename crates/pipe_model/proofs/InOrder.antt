@@ -1,7 +1,8 @@
 -- Numbers in rising order: there is but one such list of the same numbers, each as often.
-use Rattle.std.proofs.Common.{◌≡◌, inl, inr, ℕ, ◌+◌, ◌≤◌, ◌<◌, Bool, true, false, ◌==◌, if◌then◌else◌, List, [], ◌∷◌, filter, refl, sym, ap, ap₂, ◌∙◌, subst, eq-eqb, ne_eqb, leb-true, leb-false, le_refl, arith, nat_le}
-use Rattle.std.proofs.lemmas.Bool.{cases_lt, cases_eq}
-use Rattle.spec_xlate.specs.Translation.{inserted, rising}
+use Rattle.std.proofs.Common.{◌≡◌, inl, inr, ℕ, ◌+◌, ◌≤◌, ◌<◌, Bool, true, false, ◌==◌, if◌then◌else◌, List, [], ◌∷◌, filter, refl, sym, ap, ap₂, ◌∙◌, subst, eq-eqb, ne_eqb, le_refl, arith, nat_lt}
+use Rattle.std.proofs.lemmas.Bool.{cases_lt, cases_eq, ltb-true, ltb-false}
+use Rattle.spec_base.specs.Sorting.{insert_by, sort_by}
+use Rattle.spec_xlate.specs.Translation.{rising}
 
 -- how often a number stands in a list
 abbrev occurrences : ℕ → List ℕ → ℕ
@@ -55,31 +56,31 @@ same_rising low (y ∷ ys) (z ∷ zs) left right same =
 
 -- ---- what the definition of rising order makes
 
-rise_inserted : (low n : ℕ) (xs : List ℕ) → low ≤ n → Rise low xs → Rise low (inserted n xs)
-unfolding inserted
+rise_inserted : (low n : ℕ) (xs : List ℕ) → low ≤ n → Rise low xs → Rise low (insert_by nat_lt n xs)
+unfolding insert_by
 rise_inserted low n [] le h = (le, tt)
-rise_inserted low n (x ∷ xs) le h = by_test (nat_le n x) refl (λ after. rise_inserted x n xs after h.1)
+rise_inserted low n (x ∷ xs) le h = by_test (nat_lt x n) refl (λ after. rise_inserted x n xs after h.1)
   where
-    by_test : (t : Bool) → nat_le n x ≡ t → (x ≤ n → Rise x (inserted n xs)) → Rise low (if t then n ∷ x ∷ xs else x ∷ inserted n xs)
-    by_test true test further = (le, (leb-true n x test, h.1))
-    by_test false test further = let after : x < n = leb-false n x test in (h.0, further (omega arith))
+    by_test : (t : Bool) → nat_lt x n ≡ t → (x ≤ n → Rise x (insert_by nat_lt n xs)) → Rise low (if t then x ∷ insert_by nat_lt n xs else n ∷ x ∷ xs)
+    by_test true test further = let after : x < n = ltb-true x n test in (h.0, further (omega arith))
+    by_test false test further = (le, (ltb-false x n test, h.1))
 
 pub rise_rising : (xs : List ℕ) → Rise 0 (rising xs)
-unfolding rising
+unfolding sort_by
 rise_rising [] = tt
 rise_rising (x ∷ xs) = rise_inserted 0 x (rising xs) (omega arith) (rise_rising xs)
 
-occurrences-inserted : (v n : ℕ) (xs : List ℕ) → occurrences v (inserted n xs) ≡ occurrences v (n ∷ xs)
-unfolding inserted
+occurrences-inserted : (v n : ℕ) (xs : List ℕ) → occurrences v (insert_by nat_lt n xs) ≡ occurrences v (n ∷ xs)
+unfolding insert_by
 occurrences-inserted v n [] = refl
-occurrences-inserted v n (x ∷ xs) = by_test (nat_le n x) (occurrences-inserted v n xs)
+occurrences-inserted v n (x ∷ xs) = by_test (nat_lt x n) (occurrences-inserted v n xs)
   where
-    by_test : (t : Bool) → occurrences v (inserted n xs) ≡ occurrences v (n ∷ xs) → occurrences v (if t then n ∷ x ∷ xs else x ∷ inserted n xs) ≡ occurrences v (n ∷ x ∷ xs)
-    by_test true further = refl
-    by_test false further = omega (arith, further)
+    by_test : (t : Bool) → occurrences v (insert_by nat_lt n xs) ≡ occurrences v (n ∷ xs) → occurrences v (if t then x ∷ insert_by nat_lt n xs else n ∷ x ∷ xs) ≡ occurrences v (n ∷ x ∷ xs)
+    by_test true further = omega (arith, further)
+    by_test false further = refl
 
 occurrences-rising : (v : ℕ) (xs : List ℕ) → occurrences v (rising xs) ≡ occurrences v xs
-unfolding rising
+unfolding sort_by
 occurrences-rising v [] = refl
 occurrences-rising v (x ∷ xs) = occurrences-inserted v x (rising xs) ∙ ap (λ n. (if x == v then 1 else 0) + n) (occurrences-rising v xs)
 

@@ -1,13 +1,15 @@
 -- The other ports in rising order, found one number after the other.
-use Rattle.std.proofs.Common.{◌≡◌, inl, inr, ℕ, ◌+◌, ◌≤◌, ◌<◌, Bool, true, false, ◌==◌, ◌&&◌, ◌||◌, not, if◌then◌else◌, nat_le, min, List, [], ◌∷◌, ◌++◌, filter, map, Some, None, refl, sym, ap, ap₂, ◌∙◌, subst, eq-eqb, ne_eqb, leb-true, leb-false, le-leb, le_refl, append_assoc, append-nil, arith}
+use Rattle.std.proofs.Common.{◌≡◌, inl, inr, ℕ, ◌+◌, ◌≤◌, ◌<◌, Bool, true, false, ◌==◌, ◌&&◌, ◌||◌, not, if◌then◌else◌, nat_le, nat_lt, min, List, [], ◌∷◌, ◌++◌, length, filter, map, Some, None, refl, sym, ap, ap₂, ◌∙◌, subst, eq-eqb, ne_eqb, leb-true, leb-false, le-leb, le_refl, append_assoc, append-nil, arith}
 use Rattle.std.specs.List.{list_any, reduce, fold}
 use Rattle.std.proofs.Math.Nat.{min-le_left, min-le_right, min-eq_left, min-eq_right}
-use Rattle.std.proofs.lemmas.Bool.{cases_lt, cases_eq, lt-leb, false≢true}
+use Rattle.std.proofs.lemmas.Bool.{cases_lt, cases_eq, lt-leb, le-ltb, false≢true}
 use Rattle.std.proofs.lemmas.List.{map-append}
 use Rattle.std.proofs.lemmas.List.Elements.{filter_agree}
 use Rattle.spec_actions.specs.declared.action.DpAction.{DpAction}
 use Rattle.spec_actions.specs.declared.action.DpAction.TheVariants.{Output}
-use Rattle.spec_xlate.specs.Translation.{inserted, rising}
+use Rattle.spec_base.specs.Sorting.{insert_by, sort_by}
+use Rattle.spec_base.proofs.SortLaws.{length-sort_by}
+use Rattle.spec_xlate.specs.Translation.{rising}
 use Rattle.pipe_model.specs.Others.{others_from, others_of}
 use Rattle.pipe_model.proofs.InOrder.{Rise, rise_rising, filter-rising}
 
@@ -18,62 +20,52 @@ Above m (x ∷ xs) = (m ≤ x) × Above m xs
 
 -- ---- numbers in rising order
 
-above_inserted : (m n : ℕ) (xs : List ℕ) → m ≤ n → Above m xs → Above m (inserted n xs)
-unfolding inserted
+above_inserted : (m n : ℕ) (xs : List ℕ) → m ≤ n → Above m xs → Above m (insert_by nat_lt n xs)
+unfolding insert_by
 above_inserted m n [] le h = (le, tt)
-above_inserted m n (x ∷ xs) le h = by_test (nat_le n x) (above_inserted m n xs le h.1)
+above_inserted m n (x ∷ xs) le h = by_test (nat_lt x n) (above_inserted m n xs le h.1)
   where
-    by_test : (t : Bool) → Above m (inserted n xs) → Above m (if t then n ∷ x ∷ xs else x ∷ inserted n xs)
-    by_test true others = (le, h)
-    by_test false others = (h.0, others)
+    by_test : (t : Bool) → Above m (insert_by nat_lt n xs) → Above m (if t then x ∷ insert_by nat_lt n xs else n ∷ x ∷ xs)
+    by_test true others = (h.0, others)
+    by_test false others = (le, h)
 
 above_rising : (m : ℕ) (xs : List ℕ) → Above m xs → Above m (rising xs)
-unfolding rising
+unfolding sort_by
 above_rising m [] h = tt
 above_rising m (x ∷ xs) h = above_inserted m x (rising xs) h.0 (above_rising m xs h.1)
 
-inserted-some : (n : ℕ) (xs : List ℕ) → inserted n xs ≡ [] → ⊥
-unfolding inserted
-inserted-some n [] none = cc none
-inserted-some n (x ∷ xs) none = by_test (nat_le n x) none
-  where
-    by_test : (t : Bool) → (if t then n ∷ x ∷ xs else x ∷ inserted n xs) ≡ [] → ⊥
-    by_test true e = cc e
-    by_test false e = cc e
-
 rising-some : (xs : List ℕ) → (xs ≡ [] → ⊥) → rising xs ≡ [] → ⊥
-unfolding rising
 rising-some [] some none = some refl
-rising-some (x ∷ xs) some none = inserted-some x (rising xs) none
+rising-some (x ∷ xs) some none = let same = length-sort_by nat_lt (x ∷ xs) in let empty = ap length none in absurd (omega arith)
 
 rising-none : (xs : List ℕ) → xs ≡ [] → rising xs ≡ []
-unfolding rising
+unfolding sort_by
 rising-none xs none = ap rising none
 
 -- those that are equal are in order anyway
-inserted-equal : (m : ℕ) (xs : List ℕ) → inserted m (filter (λ p. p == m) xs) ≡ m ∷ filter (λ p. p == m) xs
-unfolding inserted
+inserted-equal : (m : ℕ) (xs : List ℕ) → insert_by nat_lt m (filter (λ p. p == m) xs) ≡ m ∷ filter (λ p. p == m) xs
+unfolding insert_by
 inserted-equal m [] = refl
 inserted-equal m (x ∷ xs) =
     elim (cases_eq x m) [
       | inl equal ↦
-          ap (λ (t : Bool). inserted m (if t then x ∷ filter (λ p. p == m) xs else filter (λ p. p == m) xs)) (eq-eqb x m equal)
-          ∙ ap (λ (t : Bool). if t then m ∷ x ∷ filter (λ p. p == m) xs else x ∷ inserted m (filter (λ p. p == m) xs)) (le-leb m x (omega (arith, equal)))
+          ap (λ (t : Bool). insert_by nat_lt m (if t then x ∷ filter (λ p. p == m) xs else filter (λ p. p == m) xs)) (eq-eqb x m equal)
+          ∙ ap (λ (t : Bool). if t then x ∷ insert_by nat_lt m (filter (λ p. p == m) xs) else m ∷ x ∷ filter (λ p. p == m) xs) (le-ltb x m (omega (arith, equal)))
           ∙ sym (ap (λ (t : Bool). m ∷ (if t then x ∷ filter (λ p. p == m) xs else filter (λ p. p == m) xs)) (eq-eqb x m equal))
       | inr other ↦
-          ap (λ (t : Bool). inserted m (if t then x ∷ filter (λ p. p == m) xs else filter (λ p. p == m) xs)) (ne_eqb x m other)
+          ap (λ (t : Bool). insert_by nat_lt m (if t then x ∷ filter (λ p. p == m) xs else filter (λ p. p == m) xs)) (ne_eqb x m other)
           ∙ inserted-equal m xs
           ∙ sym (ap (λ (t : Bool). m ∷ (if t then x ∷ filter (λ p. p == m) xs else filter (λ p. p == m) xs)) (ne_eqb x m other))
     ]
 
 rising-equal : (m : ℕ) (xs : List ℕ) → rising (filter (λ p. p == m) xs) ≡ filter (λ p. p == m) xs
-unfolding rising
+unfolding sort_by
 rising-equal m [] = refl
 rising-equal m (x ∷ xs) =
     elim (cases_eq x m) [
       | inl equal ↦
           ap (λ (t : Bool). rising (if t then x ∷ filter (λ p. p == m) xs else filter (λ p. p == m) xs)) (eq-eqb x m equal)
-          ∙ ap₂ (λ (n : ℕ) (ys : List ℕ). inserted n ys) equal (rising-equal m xs)
+          ∙ ap₂ (λ (n : ℕ) (ys : List ℕ). insert_by nat_lt n ys) equal (rising-equal m xs)
           ∙ inserted-equal m xs
           ∙ ap (λ (n : ℕ). n ∷ filter (λ p. p == m) xs) (sym equal)
           ∙ sym (ap (λ (t : Bool). if t then x ∷ filter (λ p. p == m) xs else filter (λ p. p == m) xs) (eq-eqb x m equal))

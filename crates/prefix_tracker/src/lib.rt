@@ -60,6 +60,3 @@ mod trie;
 
 pub use found::Found;
 pub use prefix_trie::PrefixTrie;
-
-#[cfg(test)]
-mod tests;

@@ -10,7 +10,8 @@ use Rattle.spec_tables.specs.Rules.{Rule}
 use Rattle.spec_tables.specs.Edits.{Edit, after_edits, has_sound_actions}
 use Rattle.spec_tables.specs.Bundles.{AreBundles}
 use Rattle.spec_tables.specs.Live.{is_live, rule_numbered}
-use Rattle.spec_dumps.specs.Rules.{comes_before, put_in_order, in_order}
+use Rattle.spec_base.proofs.SortLaws.{All-sort_by}
+use Rattle.spec_dumps.specs.Rules.{comes_before, in_order}
 use Rattle.rule_tables.specs.History.{History, applied, history_of}
 use Rattle.rule_tables.proofs.Histories.{applied-edit_history}
 use Rattle.pipe_model.specs.Runnable.{IsAmong}
@@ -97,20 +98,6 @@ all_among : (P : Rule → Type 0) (rules : List Rule) → ((r : Rule) → IsAmon
 all_among P [] each = All-nil P
 all_among P (r ∷ rules) each = All-cons P r rules (each r (inl refl)) (all_among P rules (λ s i. each s (inr i)))
 
-All-put_in_order : (P : Rule → Type 0) (r : Rule) (rules : List Rule) → P r → All P rules → All P (put_in_order r rules)
-unfolding put_in_order
-All-put_in_order P r [] first rest = All-cons P r [] first rest
-All-put_in_order P r (s ∷ rules) first rest = elim (cases_Bool (comes_before s r)) [
-  | inl after ↦
-      rw after (All-cons P s (put_in_order r rules) (All-head P s rules rest) (All-put_in_order P r rules first (All-tail P s rules rest)))
-  | inr here ↦ rw here (All-cons P r (s ∷ rules) first rest)
-]
-
-All-in_order : (P : Rule → Type 0) (rules : List Rule) → All P rules → All P (in_order rules)
-unfolding in_order
-All-in_order P [] all = all
-All-in_order P (r ∷ rules) all = All-put_in_order P r (in_order rules) (All-head P r rules all) (All-in_order P rules (All-tail P r rules all))
-
 bounds : (low high : ℕ) (rules : List Rule) → Rise low high rules → (r : Rule) → IsAmong r rules → (low < r.number) × (r.number ≤ high)
 bounds low high [] h r i = absurd i
 bounds low high (x ∷ rules) h r (inl e) = (subst (λ y. low < y.number) e h.0, subst (λ y. y.number ≤ high) e h.1)
@@ -139,7 +126,7 @@ listed_of edits bundles whole sound = all_among (IsListed (history_of edits bund
 pub listed : (h : History) → IsOfEdits h → All (IsListed h) (in_order (live_in h))
 listed h of =
     let P : History → Type 0 = λ g. All (IsListed g) (live_in g) in
-    All-in_order (IsListed h) (live_in h) (subst P (sym of.history) (listed_of of.edits of.bundles of.whole of.sound))
+    All-sort_by comes_before (IsListed h) (live_in h) (subst P (sym of.history) (listed_of of.edits of.bundles of.whole of.sound))
 
 -- the places of these name live rules
 pub places_live : (h : History) → IsOfEdits h → All (λ (p : RulePlace). IsLiveIn h p.number) (map place_of (in_order (live_in h)))

@@ -1,7 +1,8 @@
 -- Places in the order of the dump.
-use Rattle.std.specs.Prelude.{Bool, if◌then◌else◌, List, [], ◌∷◌}
+use Rattle.std.specs.Prelude.{Bool, List}
 use Rattle.std.specs.Ordering.{nat_cmp, is_lt, ordering_then}
 use Rattle.std.specs.declared.cmp.Ordering.{Ordering}
+use Rattle.spec_base.specs.Sorting.{sort_by}
 use Rattle.rule_lines.specs.declared.places.RulePlace.{RulePlace}
 
 -- by table, then by falling priority, then by number
@@ -11,10 +12,5 @@ place_cmp a b = ordering_then (nat_cmp a.table b.table) (ordering_then (nat_cmp 
 abbrev pub stands_before : RulePlace → RulePlace → Bool
 stands_before a b = is_lt (place_cmp a b)
 
-unfoldable pub put_place : RulePlace → List RulePlace → List RulePlace
-put_place a [] = a ∷ []
-put_place a (b ∷ bs) = if stands_before b a then b ∷ put_place a bs else a ∷ b ∷ bs
-
-unfoldable pub places_in_order : List RulePlace → List RulePlace
-places_in_order [] = []
-places_in_order (a ∷ rest) = put_place a (places_in_order rest)
+abbrev pub places_in_order : List RulePlace → List RulePlace
+places_in_order places = sort_by stands_before places

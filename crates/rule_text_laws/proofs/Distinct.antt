@@ -7,8 +7,9 @@ use Rattle.spec_tables.specs.declared.edit_word.EditWord.{EditWord}
 use Rattle.spec_tables.specs.declared.edit_word.EditWord.TheVariants.{Add, Modify, ModifyStrict, Delete, DeleteStrict}
 use Rattle.spec_tables.specs.Rules.{Rule, is_same_match}
 use Rattle.spec_tables.specs.Edits.{Edit, rule_of, with_actions, without, modified, edited, after_edit, after_edits, is_named_by, is_reached_by}
-use Rattle.spec_dumps.specs.Rules.{comes_before, put_in_order, in_order}
-use Rattle.translation_laws.proofs.MemberLaws.{Among, Among-append, Among-filter}
+use Rattle.spec_base.specs.Sorting.{insert_by, sort_by}
+use Rattle.spec_dumps.specs.Rules.{comes_before, in_order}
+use Rattle.translation_laws.proofs.MemberLaws.{Among, Among-append, Among-filter, Among-insert_by, Among-sort_by}
 use Rattle.translation_laws.proofs.KeyLaws.{same_refl, same-eq}
 use Rattle.board_laws.proofs.ListLaws.{Among-map}
 use Rattle.rule_text_laws.specs.Lines.{added}
@@ -96,24 +97,8 @@ distinct_edits edits (suc n) = at (slice_get edits n) (distinct_edits edits n)
 
 -- ---- in any order
 
-pub among_put : (r s : Rule) (rules : List Rule) → Among s (put_in_order r rules) → (s ≡ r) ⊎ Among s rules
-unfolding put_in_order
-among_put r s [] (inl is) = inl is
-among_put r s [] (inr none) = absurd none
-among_put r s (x ∷ rules) there = at (comes_before x r) there (among_put r s rules)
-  where
-    at : (t : Bool) → Among s (if t then x ∷ put_in_order r rules else r ∷ x ∷ rules) → (Among s (put_in_order r rules) → (s ≡ r) ⊎ Among s rules) → (s ≡ r) ⊎ Among s (x ∷ rules)
-    at true (inl is) others = inr (inl is)
-    at true (inr more) others = later (others more)
-      where
-        later : (s ≡ r) ⊎ Among s rules → (s ≡ r) ⊎ Among s (x ∷ rules)
-        later (inl is) = inl is
-        later (inr old) = inr (inr old)
-    at false (inl is) others = inl is
-    at false (inr more) others = inr more
-
-distinct_put : (r : Rule) (rules : List Rule) → AreDistinct rules → ((s : Rule) → Among s rules → names r s ≡ false) → AreDistinct (put_in_order r rules)
-unfolding put_in_order
+distinct_put : (r : Rule) (rules : List Rule) → AreDistinct rules → ((s : Rule) → Among s rules → names r s ≡ false) → AreDistinct (insert_by comes_before r rules)
+unfolding insert_by
 distinct_put r [] d h = (λ s there. absurd there, tt)
 distinct_put r (x ∷ rules) d h = at (comes_before x r) (distinct_put r rules d.1 (λ s there. h s (inr there)))
   where
@@ -121,20 +106,11 @@ distinct_put r (x ∷ rules) d h = at (comes_before x r) (distinct_put r rules d
     apart s (inl is) = rw is (apart_back r x (h x (inl refl)))
     apart s (inr old) = d.0 s old
 
-    at : (t : Bool) → AreDistinct (put_in_order r rules) → AreDistinct (if t then x ∷ put_in_order r rules else r ∷ x ∷ rules)
-    at true others = (λ s there. apart s (among_put r s rules there), others)
+    at : (t : Bool) → AreDistinct (insert_by comes_before r rules) → AreDistinct (if t then x ∷ insert_by comes_before r rules else r ∷ x ∷ rules)
+    at true others = (λ s there. apart s (Among-insert_by comes_before s r rules there), others)
     at false others = (h, d)
 
-pub among_order : (s : Rule) (rules : List Rule) → Among s (in_order rules) → Among s rules
-unfolding in_order
-among_order s [] there = absurd there
-among_order s (r ∷ rules) there = at (among_put r s (in_order rules) there) (among_order s rules)
-  where
-    at : (s ≡ r) ⊎ Among s (in_order rules) → (Among s (in_order rules) → Among s rules) → Among s (r ∷ rules)
-    at (inl is) others = inl is
-    at (inr more) others = inr (others more)
-
 pub distinct_order : (rules : List Rule) → AreDistinct rules → AreDistinct (in_order rules)
-unfolding in_order
+unfolding sort_by
 distinct_order [] d = tt
-distinct_order (r ∷ rules) d = distinct_put r (in_order rules) (distinct_order rules d.1) (λ s there. d.0 s (among_order s rules there))
+distinct_order (r ∷ rules) d = distinct_put r (in_order rules) (distinct_order rules d.1) (λ s there. d.0 s (Among-sort_by comes_before s rules there))

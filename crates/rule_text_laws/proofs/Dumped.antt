@@ -14,7 +14,8 @@ use Rattle.spec_numbers.specs.Characters.{number_sign}
 use Rattle.spec_board.specs.Texts.{Journal, line_of}
 use Rattle.spec_flow_text.specs.Lines.{edit_in}
 use Rattle.spec_dumps.specs.declared.rule_counts.RuleCounts.{RuleCounts}
-use Rattle.spec_dumps.specs.Rules.{counts_of, counts_text, comes_before, put_in_order, in_order, live_rules, gone_rules, rules_text}
+use Rattle.spec_base.proofs.SortLaws.{length-sort_by}
+use Rattle.spec_dumps.specs.Rules.{counts_of, counts_text, comes_before, in_order, live_rules, gone_rules, rules_text}
 use Rattle.spec_script.specs.Lines.{most_line_bytes, with_lines, lines_of}
 use Rattle.spec_script.specs.Script.{nothing_read, most_edits, with_line, script_of}
 use Rattle.translation_laws.proofs.MemberLaws.{Among, All-Among, All_from-Among, Among-append_left, Among-append_right}
@@ -25,22 +26,6 @@ use Rattle.rule_text_laws.proofs.Texts.{IsFeedless, plain_text, text_feedless, f
 use Rattle.rule_text_laws.proofs.Distinct.{distinct_edits, distinct_order}
 use Rattle.rule_text_laws.proofs.Again.{rules_again}
 use Rattle.rule_text_laws.proofs.Files.{AreFeedless, AreShort, AreRead, texts, lines_back, alone_through, reading, rules_read, comments_read, whole}
-
--- ---- as many rules in order
-
-length_put : (r : Rule) (rules : List Rule) → length (put_in_order r rules) ≡ length rules + 1
-unfolding put_in_order
-length_put r [] = refl
-length_put r (s ∷ rules) = at (comes_before s r) (length_put r rules)
-  where
-    at : (t : Bool) → length (put_in_order r rules) ≡ length rules + 1 → length (if t then s ∷ put_in_order r rules else r ∷ s ∷ rules) ≡ length (s ∷ rules) + 1
-    at true same = omega (arith, same)
-    at false same = omega arith
-
-length_order : (rules : List Rule) → length (in_order rules) ≡ length rules
-unfolding in_order
-length_order [] = refl
-length_order (r ∷ rules) = omega (arith, length_put r (in_order rules), length_order rules)
 
 module _ (run : Run) (journals : List Journal) where
   abbrev counts : Rule → RuleCounts
@@ -105,7 +90,7 @@ module _ (run : Run) (journals : List Journal) where
       let cut : lines_of (rules_text run journals) ≡ lines ++ [] ∷ [] = ap lines_of dump_is ∙ lines_back lines (all_feedless rules feedless) in
       let short : AreShort (lines ++ [] ∷ []) = subst AreShort cut d.short in
       let short_lines = short_front lines ([] ∷ []) short in
-      let few : 0 + length rules ≤ most_edits = omega (arith, length_order (live_rules run), d.few) in
+      let few : 0 + length rules ≤ most_edits = omega (arith, length-sort_by comes_before (live_rules run), d.few) in
       let shape = append_assoc (texts counts rules) comments ([] ∷ []) in
       whole (rules_text run journals) (map added rules)
       (ap (λ (ls : List (List ℕ)). with_lines with_line 1 ls nothing_read) (cut ∙ shape)

@@ -14,7 +14,7 @@ use Rattle.run_boards.specs.Progress.{OnlyPlans, IsPast}
 abbrev pub under_way : Run → BoardView → schedules.Board
 under_way run b = record { port = b.port; steps = b.journal; state = state_of run b; snaps = []; checks = [] }
 
--- boards, where so many edits are published
+-- boards, where so many bundles are published
 abbrev pub schedule_of : Run → ℕ → List BoardView → schedules.Schedule
 schedule_of run newest boards = record { newest = newest; boards = map (under_way run) boards; unmet = 0 }
 

@@ -43,6 +43,3 @@ pub use case::Case;
 pub use keyed::Keyed;
 pub use run_blocks::Ports;
 pub use run_data::RunData;
-
-#[cfg(test)]
-mod tests;

@@ -52,7 +52,7 @@ impl<C: Case> Xlated<C> {
         self.made.key()
     }
 
-    /// The version of the tables, which is how many edits of the run stand before it.
+    /// The version of the tables, which is how many bundles of the run stand before it.
     pub fn version(&self) -> u32
         ensures { result ≡ self.now.version }
     {

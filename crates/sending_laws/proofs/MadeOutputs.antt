@@ -1,6 +1,6 @@
 -- Each current key of a translation is made of the packet's, and each of its outputs goes out at a port: what every action
 -- and every lookup keeps.
-use Rattle.std.proofs.Common.{◌≡◌, ℕ, zero, suc, ◌+◌, ◌-◌, ◌*◌, ◌<◌, Bool, true, false, ◌==◌, nat_le, not, if◌then◌else◌, IsTrue, List, [], ◌∷◌, map, set, length, All, IfSome, Option, Some, None, ◌⊎◌, inl, inr, refl, sym, ◌∙◌, subst, arith}
+use Rattle.std.proofs.Common.{◌≡◌, ℕ, zero, suc, ◌+◌, ◌-◌, ◌*◌, ◌<◌, Bool, true, false, ◌==◌, nat_le, nat_lt, not, if◌then◌else◌, IsTrue, List, [], ◌∷◌, map, set, length, All, IfSome, Option, Some, None, ◌⊎◌, inl, inr, refl, sym, ◌∙◌, subst, arith}
 use Rattle.std.specs.List.{list_all, list_any}
 use Rattle.std.proofs.lemmas.Bool.{eq-eqb, and_parts, and_from}
 use Rattle.std.proofs.lemmas.List.Elements.{All-nil, All-cons, All-append, All-contains, All-head, All-tail}
@@ -21,11 +21,11 @@ use Rattle.spec_keys.specs.Protocols.{tag_bit, is_tag_type}
 use Rattle.spec_xlate.specs.Tags.{pushed, is_full}
 use Rattle.spec_xlate.specs.Needs.{is_met}
 use Rattle.spec_xlate.specs.Commit.{commit}
-use Rattle.spec_xlate.specs.Translation.{Switch, State, Mode, deepest, stopped, emit_all, committed, in_port_of, inserted, rising, is_other_port, other_ports, output, output_all, slice_of, slice_bits, with_current, in_field, written, written_bits, write, vid_bits, pcp_bits, pcp_unit, write_tag, lower_ttl, act, in_mode, run, visited, follow, with_lookups_left, enter, look, start, last_state}
+use Rattle.spec_xlate.specs.Translation.{Switch, State, Mode, deepest, stopped, emit_all, committed, in_port_of, rising, is_other_port, other_ports, output, output_all, slice_of, slice_bits, with_current, in_field, written, written_bits, write, vid_bits, pcp_bits, pcp_unit, write_tag, lower_ttl, act, in_mode, run, visited, follow, with_lookups_left, enter, look, start, last_state}
 use Rattle.spec_xlate.specs.Translation.Mode.{Going, ListEnded, Stopped}
 use Rattle.translation_laws.specs.Applied.{is_proper, HasProperTags}
 use Rattle.translation_laws.proofs.ProperLaws.{LookKeepsTags, act-proper, look-proper}
-use Rattle.translation_laws.proofs.MemberLaws.{Among, Among-filter, list_any_from-Among}
+use Rattle.translation_laws.proofs.MemberLaws.{Among, Among-filter, Among-sort_by, list_any_from-Among}
 use Rattle.exec_laws.specs.Become.{HasTagTypes, KeyedOutput}
 use Rattle.exec_laws.proofs.Tags.{either-tag}
 use Rattle.translation_laws.proofs.ActLaws.{writable}
@@ -71,29 +71,6 @@ tag_type-lt number e = elim (either-tag number e) [ inl c ↦ omega arith | inr 
 
 -- ---- ports
 
-in-inserted : (x n : ℕ) (ps : List ℕ) → Among x (inserted n ps) → (x ≡ n) ⊎ Among x ps
-unfolding inserted
-in-inserted x n [] h = h
-in-inserted x n (p ∷ ps) h = at (nat_le n p) h (in-inserted x n ps)
-  where
-    later : (x ≡ n) ⊎ Among x ps → (x ≡ n) ⊎ Among x (p ∷ ps)
-    later (inl e) = inl e
-    later (inr m) = inr (inr m)
-
-    at : (t : Bool) → Among x (if t then n ∷ p ∷ ps else p ∷ inserted n ps) → (Among x (inserted n ps) → (x ≡ n) ⊎ Among x ps) → (x ≡ n) ⊎ Among x (p ∷ ps)
-    at true h rest = h
-    at false (inl e) rest = inr (inl e)
-    at false (inr m) rest = later (rest m)
-
-in-rising : (x : ℕ) (ps : List ℕ) → Among x (rising ps) → Among x ps
-unfolding rising
-in-rising x [] h = h
-in-rising x (p ∷ ps) h = at (in-inserted x p (rising ps) h) (in-rising x ps)
-  where
-    at : (x ≡ p) ⊎ Among x (rising ps) → (Among x (rising ps) → Among x ps) → Among x (p ∷ ps)
-    at (inl e) rest = inl e
-    at (inr m) rest = inr (rest m)
-
 module _ (P : Type 0) (sw : Switch) (packet : List ℕ) where
   -- the ports of a list are ways out
   abbrev AreWaysOut : List ℕ → Type 0
@@ -104,7 +81,7 @@ module _ (P : Type 0) (sw : Switch) (packet : List ℕ) where
 
   others-out : (key : List ℕ) → AreWaysOut (other_ports sw key)
   others-out key n m =
-      let listed = in-rising n sw.ports (Among-filter (λ p. not (p == in_port_of key)) n (rising sw.ports) m).0 in
+      let listed = Among-sort_by nat_lt n sw.ports (Among-filter (λ p. not (p == in_port_of key)) n (rising sw.ports) m).0 in
       or-right (n == in_port_of packet) (list_any (λ p. n == p) sw.ports) (list_any_from-Among (λ p. n == p) n sw.ports listed (eq-eqb n n refl))
 
   back-out : (s : State) → IsGood P packet s → AreWaysOut (in_port_of s.current ∷ [])

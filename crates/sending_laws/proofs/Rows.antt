@@ -19,7 +19,8 @@ use Rattle.spec_frames.specs.Key.{with_transport, with_network, key_of}
 use Rattle.spec_xlate.specs.Needs.{is_met}
 use Rattle.spec_xlate.specs.Tags.{outer_tags, commit_tags}
 use Rattle.spec_xlate.specs.Commit.{commit, commit_field, commit_fields}
-use Rattle.spec_xlate.specs.Translation.{switch_of, pipe, act, run, look, last_state, write, output, output_all, emit, emit_all, committed, inserted, rising}
+use Rattle.spec_base.specs.Sorting.{insert_by, sort_by}
+use Rattle.spec_xlate.specs.Translation.{switch_of, pipe, act, run, look, last_state, write, output, output_all, emit, emit_all, committed}
 use Rattle.spec_xlate.proofs.Shown.{rule}
 use Rattle.spec_exec.specs.Rewriting.{after_word, after_words, corrected, set_field, push_tag, pop_tag, after_action}
 use Rattle.spec_exec.specs.Sent.{sent}
@@ -37,7 +38,7 @@ udp more = is field.InPort 1 ∷ is field.DlType 0x0800 ∷ is field.NwProto 17 
 
 -- the outputs of its translation by these rules, and those of packets with these fields at these ports
 unfoldable outputs : List Rule → List Stated → List KeyedOutput
-unfolding none masked same winner packets.key_of is_met outer_tags commit_tags commit commit_field commit_fields act run look last_state write output output_all emit emit_all committed inserted rising act_outputs run_outputs look_outputs translation_outputs
+unfolding none masked same winner packets.key_of is_met outer_tags commit_tags commit commit_field commit_fields act run look last_state write output output_all emit emit_all committed insert_by sort_by act_outputs run_outputs look_outputs translation_outputs
 outputs rules packet = translation_outputs (switch_of rules ports) (packets.key_of packet)
 
 abbrev at_port : ℕ → List Stated → KeyedOutput
@@ -69,7 +70,7 @@ a_translation_that_stopped_has_no_outputs = refl
 
 -- by these actions, of a frame at port 1: of each piece the port, and of its key vlan_tci and nw_src
 unfoldable pieces : List OfAction → List ℕ → List (List ℕ)
-unfolding none masked same winner packets.key_of packets.mask_of is_met outer_tags commit_tags commit commit_field commit_fields pipe act run look last_state write output output_all emit emit_all committed inserted rising big_endian_at updated is_tag_at tag_count tci_at carried carried_by is_ipv4 ipv4 network_at transport layout_of with_transport with_network key_of after_word after_words corrected set_field push_tag pop_tag after_action sent
+unfolding none masked same winner packets.key_of packets.mask_of is_met outer_tags commit_tags commit commit_field commit_fields pipe act run look last_state write output output_all emit emit_all committed insert_by sort_by big_endian_at updated is_tag_at tag_count tci_at carried carried_by is_ipv4 ipv4 network_at transport layout_of with_transport with_network key_of after_word after_words corrected set_field push_tag pop_tag after_action sent
 pieces actions frame =
     map (λ piece. piece.port ∷ value_of (key_of 1 piece.bytes) field.VlanTci ∷ value_of (key_of 1 piece.bytes) field.NwSrc ∷ [])
     (sent (pipe (switch_of (rule 1 0 0 [] actions ∷ []) ports) (key_of 1 frame)).actions frame)
@@ -98,7 +99,7 @@ three_tags = addresses ++ big_endian 14 0x81000005810000068100000788b5
 
 -- of each piece the port, and of its key the contents of both tags
 unfoldable tags_sent : List OfAction → List ℕ → List (List ℕ)
-unfolding none masked same winner packets.key_of packets.mask_of is_met outer_tags commit_tags commit commit_field commit_fields pipe act run look last_state write output output_all emit emit_all committed inserted rising big_endian_at updated is_tag_at tag_count tci_at carried carried_by is_ipv4 ipv4 network_at transport layout_of with_transport with_network key_of after_word after_words corrected set_field push_tag pop_tag after_action sent
+unfolding none masked same winner packets.key_of packets.mask_of is_met outer_tags commit_tags commit commit_field commit_fields pipe act run look last_state write output output_all emit emit_all committed insert_by sort_by big_endian_at updated is_tag_at tag_count tci_at carried carried_by is_ipv4 ipv4 network_at transport layout_of with_transport with_network key_of after_word after_words corrected set_field push_tag pop_tag after_action sent
 tags_sent actions frame =
     map (λ piece. piece.port ∷ value_of (key_of 1 piece.bytes) field.VlanTci ∷ value_of (key_of 1 piece.bytes) field.VlanTci2 ∷ [])
     (sent (pipe (switch_of (rule 1 0 0 [] actions ∷ []) ports) (key_of 1 frame)).actions frame)

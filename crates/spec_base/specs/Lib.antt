@@ -3,3 +3,4 @@ pub mod Files
 pub mod Bytes
 pub mod Bits
 pub mod Machine
+pub mod Sorting

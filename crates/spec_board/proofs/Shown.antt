@@ -21,7 +21,8 @@ use Rattle.spec_frames.specs.Key as frames
 use Rattle.spec_xlate.specs.Needs.{is_met, fields_needed}
 use Rattle.spec_xlate.specs.Tags.{outer_tags, commit_tags}
 use Rattle.spec_xlate.specs.Commit.{commit, commit_field, commit_fields}
-use Rattle.spec_xlate.specs.Translation.{pipe, act, run, look, last_state, write, output, output_all, emit, emit_all, committed, inserted, rising}
+use Rattle.spec_base.specs.Sorting.{insert_by, sort_by}
+use Rattle.spec_xlate.specs.Translation.{pipe, act, run, look, last_state, write, output, output_all, emit, emit_all, committed}
 use Rattle.spec_keys.specs.Stages.{through}
 use Rattle.spec_xlate.specs.Lookup.{length_up_to, common_length, deciding, probe, consults}
 use Rattle.spec_xlate.specs.Consulted.{act_bits, run_bits, look_bits, consulted}
@@ -128,7 +129,7 @@ first_port_shown unmet run (b ∷ bs) = record {
 
 -- what the schedule of a run leads to
 unfoldable pub shown : Run → Shown
-unfolding big_endian_at none masked same joined only_at widths stages hash_bytes field_bytes key_hash winner after_edits packets.key_of mask_of frames.key_of is_tag_at tag_count tci_at carried carried_by network_at frames.with_network is_met fields_needed outer_tags commit_tags commit commit_field commit_fields pipe act run look last_state write output output_all emit emit_all committed inserted rising through length_up_to common_length deciding probe consults act_bits run_bits look_bits consulted frames_in ends_after are_same_actions credited_by decisions_from finish_board least_block finish with_given_steps
+unfolding big_endian_at none masked same joined only_at widths stages hash_bytes field_bytes key_hash winner after_edits packets.key_of mask_of frames.key_of is_tag_at tag_count tci_at carried carried_by network_at frames.with_network is_met fields_needed outer_tags commit_tags commit commit_field commit_fields pipe act run look last_state write output output_all emit emit_all committed insert_by sort_by through length_up_to common_length deciding probe consults act_bits run_bits look_bits consulted frames_in ends_after are_same_actions credited_by decisions_from finish_board least_block finish with_given_steps
 shown r = of_schedule (scheduled r)
   where
     of_schedule : Schedule → Shown

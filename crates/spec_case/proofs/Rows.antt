@@ -7,7 +7,8 @@ use Rattle.spec_case.specs.declared.arrival.Arrival.{Arrival}
 use Rattle.spec_case.specs.Run.{Run, last_version, edit_count, frames_in, frame_at, is_nanos}
 use Rattle.spec_tables.specs.declared.sync_point.SyncPoint.{SyncPoint}
 use Rattle.spec_case.specs.Blocks.{hi, lo, ends_after, block_ends, last_place, block_of}
-use Rattle.spec_case.specs.Arrivals.{arrivals_at, arrivals_in, arrivals, put_in_order, in_order}
+use Rattle.spec_base.specs.Sorting.{insert_by, sort_by}
+use Rattle.spec_case.specs.Arrivals.{arrivals_at, arrivals_in, arrivals, in_order}
 
 abbrev at : ℕ → ℕ → ℕ → Arrival
 at time port place = record { time = time; port = port; place = place }
@@ -39,15 +40,15 @@ unfolding frames_in
 the_frame_of_a_place = (refl, refl)
 
 arrivals_come_by_time_and_then_by_port : in_order (arrivals run) ≡ at 1 7 2 ∷ at 2 2 1 ∷ at 2 7 3 ∷ at 3 7 1 ∷ []
-unfolding in_order put_in_order arrivals_in arrivals_at
+unfolding sort_by insert_by arrivals_in arrivals_at
 arrivals_come_by_time_and_then_by_port = refl
 
 arrivals_of_one_time_come_by_port : in_order (at 5 2 1 ∷ at 5 1 2 ∷ []) ≡ at 5 1 2 ∷ at 5 2 1 ∷ []
-unfolding in_order put_in_order
+unfolding sort_by insert_by
 arrivals_of_one_time_come_by_port = refl
 
 arrivals_of_one_port_and_time_come_by_place : in_order (at 5 1 2 ∷ at 5 1 1 ∷ []) ≡ at 5 1 1 ∷ at 5 1 2 ∷ []
-unfolding in_order put_in_order
+unfolding sort_by insert_by
 arrivals_of_one_port_and_time_come_by_place = refl
 
 one_trace_in_nanoseconds_is_enough : is_nanos run ≡ true

@@ -1,7 +1,8 @@
 -- The frames of all ports of a run, in order.
-use Rattle.std.specs.Prelude.{ℕ, ◌+◌, Bool, if◌then◌else◌, List, [], ◌∷◌, ◌++◌}
+use Rattle.std.specs.Prelude.{ℕ, ◌+◌, Bool, List, [], ◌∷◌, ◌++◌}
 use Rattle.std.specs.Ordering.{nat_cmp, is_lt, ordering_then}
 use Rattle.std.specs.declared.cmp.Ordering.{Ordering}
+use Rattle.spec_base.specs.Sorting.{sort_by}
 use Rattle.spec_pcap.specs.Pcap.{Frame, Capture}
 use Rattle.spec_case.specs.declared.arrival.Arrival.{Arrival}
 use Rattle.spec_case.specs.Run.{Run}
@@ -27,12 +28,5 @@ arrival_cmp a b = ordering_then (nat_cmp a.time b.time) (ordering_then (nat_cmp 
 abbrev pub comes_before : Arrival → Arrival → Bool
 comes_before a b = is_lt (arrival_cmp a b)
 
--- an arrival put where it belongs among arrivals in order
-unfoldable pub put_in_order : Arrival → List Arrival → List Arrival
-put_in_order a [] = a ∷ []
-put_in_order a (b ∷ bs) = if comes_before b a then b ∷ put_in_order a bs else a ∷ b ∷ bs
-
--- the arrivals in order
-unfoldable pub in_order : List Arrival → List Arrival
-in_order [] = []
-in_order (a ∷ rest) = put_in_order a (in_order rest)
+abbrev pub in_order : List Arrival → List Arrival
+in_order arrivals = sort_by comes_before arrivals

@@ -3,7 +3,7 @@
 /// Places and entries are counted from 1.
 #[derive(Clone, Copy, PartialEq, Eq)]
 pub enum RunStep {
-    /// Publish the next edit.
+    /// Publish the next bundle of edits.
     Edit,
     /// Look up the next frame of the port.
     Rx { port: u16 },

@@ -16,7 +16,8 @@ use Rattle.spec_case.specs.Run.{Run}
 use Rattle.spec_exec.specs.Sent.{sent}
 use Rattle.spec_board.proofs.Shown.{shown, run_of, flow_limit, edit, add, in_port_1, dl_dst, sync, frame}
 use Rattle.spec_board.proofs.Runs.{replaced, two_blocks}
-use Rattle.spec_dumps.specs.Rules.{put_in_order, in_order, rules_text}
+use Rattle.spec_base.specs.Sorting.{insert_by, sort_by}
+use Rattle.spec_dumps.specs.Rules.{rules_text}
 use Rattle.spec_dumps.specs.Megaflows.{time_text, together, visits_text, megaflow_match_text, megaflows_text}
 use Rattle.spec_dumps.specs.declared.ran.Ran.{Ran}
 use Rattle.spec_dumps.specs.Summary.{summary}
@@ -32,7 +33,7 @@ without_rules = run_of flow_limit (2 ∷ []) [] [] (frame 1 2 ∷ []) []
 -- ---- rules
 
 unfoldable rules_of : Run → List ℕ
-unfolding shown in_order put_in_order after_edits digits hexadecimal hexadecimal4 mac_text ipv4_text ipv6_text value_in_text shorthand_of items_shown match_printed actions_printed
+unfolding shown sort_by insert_by after_edits digits hexadecimal hexadecimal4 mac_text ipv4_text ipv6_text value_in_text shorthand_of items_shown match_printed actions_printed
 rules_of run = rules_text run (shown run).journals
 
 a_line_can_be_read_again :

@@ -6,6 +6,7 @@ use Rattle.std.specs.Option.{is_some}
 use Rattle.std.specs.Ordering.{nat_cmp, is_lt, ordering_then}
 use Rattle.std.specs.declared.cmp.Ordering.{Ordering}
 use Rattle.std.specs.Fmt.{decimal}
+use Rattle.spec_base.specs.Sorting.{sort_by}
 use Rattle.spec_numbers.specs.Characters.{comma}
 use Rattle.spec_numbers.specs.Printed.{hexadecimal}
 use Rattle.spec_tables.specs.Rules.{Rule}
@@ -52,14 +53,8 @@ rule_cmp r s =
 abbrev pub comes_before : Rule → Rule → Bool
 comes_before r s = is_lt (rule_cmp r s)
 
--- a rule put where it belongs among rules in order
-unfoldable pub put_in_order : Rule → List Rule → List Rule
-put_in_order r [] = r ∷ []
-put_in_order r (s ∷ rules) = if comes_before s r then s ∷ put_in_order r rules else r ∷ s ∷ rules
-
-unfoldable pub in_order : List Rule → List Rule
-in_order [] = []
-in_order (r ∷ rules) = put_in_order r (in_order rules)
+abbrev pub in_order : List Rule → List Rule
+in_order rules = sort_by comes_before rules
 
 -- ---- lines
 

@@ -14,7 +14,8 @@ use Rattle.spec_frames.specs.Transport.{transport}
 use Rattle.spec_frames.specs.Layout.{layout_of}
 use Rattle.spec_frames.specs.Key.{with_transport, with_network, key_of}
 use Rattle.spec_case.specs.Run.{Run, frames_in}
-use Rattle.spec_case.specs.Arrivals.{arrivals_at, arrivals_in, put_in_order, in_order}
+use Rattle.spec_base.specs.Sorting.{insert_by, sort_by}
+use Rattle.spec_case.specs.Arrivals.{arrivals_at, arrivals_in}
 use Rattle.spec_netflow.specs.declared.flow_record.FlowRecord.{FlowRecord}
 use Rattle.spec_netflow.specs.declared.fault.NetflowFault.TheVariants.{Short, Version, Count, Sequence}
 use Rattle.spec_netflow.specs.Flows.{Decided, Flow, first_output, with_packet, flows_of, flows}
@@ -60,11 +61,11 @@ abbrev nowhere : Decided
 nowhere port place = []
 
 unfoldable told : Run → Decided → List FlowRecord
-unfolding none same big_endian_at is_tag_at tag_count tci_at carried carried_by is_arp is_ipv4 ipv4 ipv6 upper_layer network_at transport layout_of with_transport with_network key_of frames_in arrivals_at arrivals_in put_in_order in_order first_output with_packet
+unfolding none same big_endian_at is_tag_at tag_count tci_at carried carried_by is_arp is_ipv4 ipv4 ipv6 upper_layer network_at transport layout_of with_transport with_network key_of frames_in arrivals_at arrivals_in insert_by sort_by first_output with_packet
 told run decided = flows run decided
 
 unfoldable written : Run → Decided → List ℕ
-unfolding none same big_endian_at is_tag_at tag_count tci_at carried carried_by is_arp is_ipv4 ipv4 ipv6 upper_layer network_at transport layout_of with_transport with_network key_of frames_in arrivals_at arrivals_in put_in_order in_order first_output with_packet header record_bytes
+unfolding none same big_endian_at is_tag_at tag_count tci_at carried carried_by is_arp is_ipv4 ipv4 ipv6 upper_layer network_at transport layout_of with_transport with_network key_of frames_in arrivals_at arrivals_in insert_by sort_by first_output with_packet header record_bytes
 written run decided = netflow_bytes run decided
 
 -- ---- what is written

@@ -15,7 +15,8 @@ use Rattle.spec_frames.specs.Ethernet.{is_tag_at, tag_count, tci_at, carried, ca
 use Rattle.spec_frames.specs.Network.{network_at}
 use Rattle.spec_frames.specs.Key.{with_network, key_of}
 use Rattle.spec_case.specs.Run.{Run, frames_in}
-use Rattle.spec_case.specs.Arrivals.{arrivals_at, arrivals_in, put_in_order, in_order}
+use Rattle.spec_base.specs.Sorting.{insert_by, sort_by}
+use Rattle.spec_case.specs.Arrivals.{arrivals_at, arrivals_in}
 use Rattle.spec_case.specs.Blocks.{ends_after}
 use Rattle.spec_xlate.specs.Commit.{commit, commit_fields, commit_field}
 use Rattle.spec_xlate.specs.Tags.{commit_tags, outer_tags}
@@ -100,7 +101,7 @@ of_ports_1_and_2 = record {
 }
 
 unfoldable copies_by : Mirror → List Frame
-unfolding digits big_endian_at stages none masked same joined only_at through header record_header winner after_edits is_tag_at tag_count tci_at carried carried_by network_at with_network key_of frames_in arrivals_at arrivals_in put_in_order in_order ends_after commit commit_fields commit_field commit_tags outer_tags length_up_to common_length deciding probe consults act_bits run_bits look_bits consulted emit emit_all committed output fields_needed is_met write act run look last_state pipe sent are_same_actions credited_by decisions_from finish finish_board least_block with_given_steps
+unfolding digits big_endian_at stages none masked same joined only_at through header record_header winner after_edits is_tag_at tag_count tci_at carried carried_by network_at with_network key_of frames_in arrivals_at arrivals_in insert_by sort_by ends_after commit commit_fields commit_field commit_tags outer_tags length_up_to common_length deciding probe consults act_bits run_bits look_bits consulted emit emit_all committed output fields_needed is_met write act run look last_state pipe sent are_same_actions credited_by decisions_from finish finish_board least_block with_given_steps
 copies_by m = copies of_ports_1_and_2 (scheduled_journals of_ports_1_and_2) m
 
 what_comes_in_is_copied_in_the_order_of_arrivals :

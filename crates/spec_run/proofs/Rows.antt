@@ -31,7 +31,8 @@ use Rattle.spec_frames.specs.Network.{network_at}
 use Rattle.spec_frames.specs.Key.{with_network, key_of}
 use Rattle.spec_frames.specs.Layout.{layout_of}
 use Rattle.spec_case.specs.Run.{frames_in}
-use Rattle.spec_case.specs.Arrivals.{arrivals_at, arrivals_in, put_in_order, in_order}
+use Rattle.spec_base.specs.Sorting.{insert_by, sort_by}
+use Rattle.spec_case.specs.Arrivals.{arrivals_at, arrivals_in}
 use Rattle.spec_xlate.specs.Commit.{commit, commit_fields, commit_field}
 use Rattle.spec_xlate.specs.Tags.{commit_tags, outer_tags}
 use Rattle.spec_keys.specs.Fields.{stages}
@@ -77,7 +78,7 @@ files e a name = if pointwise nat_eq name (codes "e") then e else (if pointwise 
 
 -- what becomes of a run with such files
 unfoldable outcome : List (List ℕ) → Option (List ℕ) → Option (List ℕ) → Result (List File) Refusal
-unfolding command_in script_in file_in traces_after run_in verdict capture_of format_of record_fault frames_from little_endian_at digits_upto decimal_upto number_upto octet octet_before_colon mac port_number port_word new_port port_words command_of command_line.command_in command_line.files_in clap_on_literals field_named is_field_left_out shorthand_named keyword_named item_named reserved_port_named is_action_left_out action_named value_in whole_value value_of bits_stated field_stated words with_part with_shorthand number_once with_valued with_bare with_item items.read_items kept match_of read_match up_to_end items is_closed argument_of port_of actions.output drop_item actions_of_item read_items read_actions edit_from edit_in changes_to with_line with_lines script_of with_edit with_sync sync_time time_of seconds_with_fraction seconds_of fraction_of after_edits winner none masked same joined big_endian_at key_of is_tag_at tag_count tci_at carried carried_by network_at with_network frames_in arrivals_at arrivals_in put_in_order in_order sent pipe last_state look run act output committed emit emit_all commit commit_fields commit_field commit_tags outer_tags header record_header only_at digits finish finish_board least_block with_given_steps decisions_from ends_after through length_up_to common_length deciding probe consults act_bits run_bits look_bits consulted are_same_actions credited_by stages
+unfolding command_in script_in file_in traces_after run_in verdict capture_of format_of record_fault frames_from little_endian_at digits_upto decimal_upto number_upto octet octet_before_colon mac port_number port_word new_port port_words command_of command_line.command_in command_line.files_in clap_on_literals field_named is_field_left_out shorthand_named keyword_named item_named reserved_port_named is_action_left_out action_named value_in whole_value value_of bits_stated field_stated words with_part with_shorthand number_once with_valued with_bare with_item items.read_items kept match_of read_match up_to_end items is_closed argument_of port_of actions.output drop_item actions_of_item read_items read_actions edit_from edit_in changes_to with_line with_lines script_of with_edit with_sync sync_time time_of seconds_with_fraction seconds_of fraction_of after_edits winner none masked same joined big_endian_at key_of is_tag_at tag_count tci_at carried carried_by network_at with_network frames_in arrivals_at arrivals_in insert_by sort_by sent pipe last_state look run act output committed emit emit_all commit commit_fields commit_field commit_tags outer_tags header record_header only_at digits finish finish_board least_block with_given_steps decisions_from ends_after through length_up_to common_length deciding probe consults act_bits run_bits look_bits consulted are_same_actions credited_by stages
 outcome command e a = files_in (verdict command (files e a))
   where
     files_in : Result Accepted Refusal → Result (List File) Refusal

@@ -16,7 +16,8 @@ use Rattle.spec_words.specs.Words.{port_number}
 use Rattle.spec_xlate.specs.Needs.{is_met, fields_needed}
 use Rattle.spec_xlate.specs.Tags.{outer_tags, commit_tags}
 use Rattle.spec_xlate.specs.Commit.{commit, commit_field, commit_fields}
-use Rattle.spec_xlate.specs.Translation.{pipe, act, run, look, last_state, write, output, output_all, emit, emit_all, committed, inserted, rising}
+use Rattle.spec_base.specs.Sorting.{insert_by, sort_by}
+use Rattle.spec_xlate.specs.Translation.{pipe, act, run, look, last_state, write, output, output_all, emit, emit_all, committed}
 use Rattle.spec_xlate.specs.Lookup.{length_up_to, common_length, deciding, probe, consults}
 use Rattle.spec_xlate.specs.Consulted.{act_bits, run_bits, look_bits, consulted}
 use Rattle.spec_flow_text.specs.Names.{field_named, is_field_left_out, shorthand_named, keyword_named, item_named, reserved_port_named, is_action_left_out, action_named}
@@ -45,7 +46,7 @@ files edits name = if pointwise nat_eq name (codes "edits") then Some edits else
 
 -- what is printed for words and this file
 unfoldable printed : List (List ℕ) → List ℕ → List ℕ
-unfolding verdict verdict_of case_of key_of command_in command_of command_from ports_within new_port match_in script_in port_number with_line with_lines script_of with_edit with_sync with_begin with_commit word_alone sync_time time_of seconds_with_fraction seconds_of fraction_of changes_to digits_upto decimal_upto number_upto octet octet_before_colon mac field_named is_field_left_out shorthand_named keyword_named item_named reserved_port_named is_action_left_out action_named value_in whole_value value_of bits_stated field_stated words with_part with_shorthand number_once with_valued with_bare with_item items_read.read_items kept match_of read_match up_to_end items is_closed argument_of arrow_place ends_of_arrow arrow_argument field_in written_field bits_between bits_in slice_after slice_of port_of load set_field modify actions_read.output inside_brackets resubmit drop_item actions_of_item actions_read.read_items read_actions edit_from edit_in after_edits winner none masked same joined only_at widths stages through is_met fields_needed outer_tags commit_tags commit commit_field commit_fields pipe act run look last_state write output output_all emit emit_all committed inserted rising length_up_to common_length deciding probe consults act_bits run_bits look_bits consulted act_path run_path look_path path_of last_of carried traced_text digits hexadecimal hexadecimal4 mac_text value_in_text shorthand_of shown match_printed actions_printed megaflow_match_text dp_actions_printed
+unfolding verdict verdict_of case_of key_of command_in command_of command_from ports_within new_port match_in script_in port_number with_line with_lines script_of with_edit with_sync with_begin with_commit word_alone sync_time time_of seconds_with_fraction seconds_of fraction_of changes_to digits_upto decimal_upto number_upto octet octet_before_colon mac field_named is_field_left_out shorthand_named keyword_named item_named reserved_port_named is_action_left_out action_named value_in whole_value value_of bits_stated field_stated words with_part with_shorthand number_once with_valued with_bare with_item items_read.read_items kept match_of read_match up_to_end items is_closed argument_of arrow_place ends_of_arrow arrow_argument field_in written_field bits_between bits_in slice_after slice_of port_of load set_field modify actions_read.output inside_brackets resubmit drop_item actions_of_item actions_read.read_items read_actions edit_from edit_in after_edits winner none masked same joined only_at widths stages through is_met fields_needed outer_tags commit_tags commit commit_field commit_fields pipe act run look last_state write output output_all emit emit_all committed insert_by sort_by length_up_to common_length deciding probe consults act_bits run_bits look_bits consulted act_path run_path look_path path_of last_of carried traced_text digits hexadecimal hexadecimal4 mac_text value_in_text shorthand_of shown match_printed actions_printed megaflow_match_text dp_actions_printed
 printed said edits = text_in (verdict said (files edits))
   where
     text_in : Result Accepted Refusal → List ℕ

@@ -9,7 +9,8 @@ use Rattle.spec_tables.proofs.Packets.{Stated, key_of, mask_of, match_of}
 use Rattle.spec_xlate.specs.Needs.{is_met, fields_needed}
 use Rattle.spec_xlate.specs.Tags.{outer_tags, commit_tags}
 use Rattle.spec_xlate.specs.Commit.{commit, commit_field, commit_fields}
-use Rattle.spec_xlate.specs.Translation.{Switch, switch_of, pipe, act, run, look, last_state, write, output, output_all, emit, emit_all, committed, inserted, rising}
+use Rattle.spec_base.specs.Sorting.{insert_by, sort_by}
+use Rattle.spec_xlate.specs.Translation.{Switch, switch_of, pipe, act, run, look, last_state, write, output, output_all, emit, emit_all, committed}
 use Rattle.spec_keys.specs.Stages.{through}
 use Rattle.spec_xlate.specs.Lookup.{length_up_to, common_length, deciding, probe, consults}
 use Rattle.spec_xlate.specs.Consulted.{act_bits, run_bits, look_bits, consulted}
@@ -25,7 +26,7 @@ gives actions visits stated = record { actions = actions; visits = visits; megaf
 
 -- what the switch with these rules and ports makes of a packet
 unfoldable pub shown : List Rule → List ℕ → List Stated → Shown
-unfolding none masked same joined only_at widths stages winner key_of mask_of is_met fields_needed outer_tags commit_tags commit commit_field commit_fields pipe act run look last_state write output output_all emit emit_all committed inserted rising through length_up_to common_length deciding probe consults act_bits run_bits look_bits consulted
+unfolding none masked same joined only_at widths stages winner key_of mask_of is_met fields_needed outer_tags commit_tags commit commit_field commit_fields pipe act run look last_state write output output_all emit emit_all committed insert_by sort_by through length_up_to common_length deciding probe consults act_bits run_bits look_bits consulted
 shown rules ports packet = of_key (switch_of rules ports) (key_of packet)
   where
     of_key : Switch → List ℕ → Shown

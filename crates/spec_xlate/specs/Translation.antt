@@ -1,8 +1,9 @@
 -- What the flow tables make of a packet: a plain run of actions and lookups, with no masks and no caches. The actions
 -- are those of ovs-actions(7). The limits, and what a write does to a packet that isn't what it needs, are this profile's.
-use Rattle.std.specs.Prelude.{ℕ, zero, suc, ◌+◌, ◌-◌, ◌*◌, ◌/◌, ◌^◌, Bool, ◌&&◌, not, ◌==◌, nat_le, if◌then◌else◌, List, [], ◌∷◌, ◌++◌, length, set, map, filter, Option, Some, None, bit_and}
+use Rattle.std.specs.Prelude.{ℕ, zero, suc, ◌+◌, ◌-◌, ◌*◌, ◌/◌, ◌^◌, Bool, ◌&&◌, not, ◌==◌, nat_le, nat_lt, if◌then◌else◌, List, [], ◌∷◌, ◌++◌, length, set, map, filter, Option, Some, None, bit_and}
 use Rattle.std.specs.List.{list_any}
 use Rattle.spec_base.specs.Bits.{merged}
+use Rattle.spec_base.specs.Sorting.{sort_by}
 use Rattle.spec_keys.specs.declared.field_id.FieldId.{FieldId}
 use Rattle.spec_keys.specs.declared.field_id.FieldId.TheVariants as field
 use Rattle.spec_keys.specs.Fields.{place_of}
@@ -83,13 +84,8 @@ abbrev pub in_port_of : List ℕ → ℕ
 in_port_of key = value_of key field.InPort
 
 -- the numbers in rising order
-unfoldable pub inserted : ℕ → List ℕ → List ℕ
-inserted n [] = n ∷ []
-inserted n (p ∷ ps) = if nat_le n p then n ∷ p ∷ ps else p ∷ inserted n ps
-
-unfoldable pub rising : List ℕ → List ℕ
-rising [] = []
-rising (p ∷ ps) = inserted p (rising ps)
+abbrev pub rising : List ℕ → List ℕ
+rising ns = sort_by nat_lt ns
 
 -- whether a number is that of a port of the switch that the packet didn't come in by; output sends to no other
 abbrev pub is_other_port : Switch → List ℕ → ℕ → Bool

@@ -64,6 +64,3 @@ pub use masked_map::{MaskUnion, PacketKey};
 pub use probe::Probe;
 pub use rank::{Rank, better};
 pub use subtable::Subtable;
-
-#[cfg(test)]
-mod tests;

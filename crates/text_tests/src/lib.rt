@@ -17,4 +17,6 @@ mod mirrors;
 #[cfg(test)]
 mod scripts;
 #[cfg(test)]
+mod steps;
+#[cfg(test)]
 mod values;

@@ -1,6 +1,7 @@
 -- Elements of lists.
 use Rattle.std.proofs.Common.{◌≡◌, ℕ, zero, suc, ◌<◌, Bool, true, false, ◌||◌, if◌then◌else◌, List, [], ◌∷◌, ◌++◌, length, get_or, Contains, All, map, filter, ◌⊎◌, inl, inr, refl, sym, ap, ◌∙◌, subst, arith}
 use Rattle.std.specs.List.{flat_map, list_any}
+use Rattle.spec_base.specs.Sorting.{insert_by, sort_by}
 pub use Rattle.translation_laws.specs.Members.{Among}
 
 pub Among_from-Contains : {X : Type 0} (xs : List X) (x : X) → Contains xs x → Among x xs
@@ -56,6 +57,30 @@ Among-filter p x (y ∷ ys) h = at (p y) refl h (Among-filter p x ys)
     at true e (inl q) ih = (inl q, ap p q ∙ e)
     at true e (inr h) ih = let r = ih h in (inr r.0, r.1)
     at false e h ih = let r = ih h in (inr r.0, r.1)
+
+pub Among-insert_by : {X : Type 0} (before : X → X → Bool) (x a : X) (bs : List X) → Among x (insert_by before a bs) → (x ≡ a) ⊎ Among x bs
+unfolding insert_by
+Among-insert_by before x a [] h = h
+Among-insert_by before x a (b ∷ bs) h = at (before b a) h (Among-insert_by before x a bs)
+  where
+    later : (x ≡ a) ⊎ Among x bs → (x ≡ a) ⊎ Among x (b ∷ bs)
+    later (inl e) = inl e
+    later (inr m) = inr (inr m)
+
+    at : (t : Bool) → Among x (if t then b ∷ insert_by before a bs else a ∷ b ∷ bs)
+        → (Among x (insert_by before a bs) → (x ≡ a) ⊎ Among x bs) → (x ≡ a) ⊎ Among x (b ∷ bs)
+    at true (inl e) ih = inr (inl e)
+    at true (inr m) ih = later (ih m)
+    at false h ih = h
+
+pub Among-sort_by : {X : Type 0} (before : X → X → Bool) (x : X) (xs : List X) → Among x (sort_by before xs) → Among x xs
+unfolding sort_by
+Among-sort_by before x [] h = h
+Among-sort_by before x (a ∷ rest) h = at (Among-insert_by before x a (sort_by before rest) h) (Among-sort_by before x rest)
+  where
+    at : (x ≡ a) ⊎ Among x (sort_by before rest) → (Among x (sort_by before rest) → Among x rest) → Among x (a ∷ rest)
+    at (inl e) ih = inl e
+    at (inr m) ih = inr (ih m)
 
 pub Among_in-filter : {X : Type 0} (p : X → Bool) (x : X) (xs : List X) → Among x xs → p x ≡ true → Among x (filter p xs)
 Among_in-filter p x [] h e = absurd h

@@ -4,7 +4,7 @@ use Rattle.ovs_fields.specs.Packed.{bits}
 use Rattle.ovs_fields.specs.Equality.{same_from_equal}
 use Rattle.rule_tables.specs.Views.{match_view}
 use Rattle.staged_lookup.specs.Numbered.{HasNoNumber}
-use Rattle.staged_lookup.proofs.tests.of_two_rules_with_one_key_the_greater_priority_wins.Goals as goal
+use Rattle.lookup_tests.proofs.subtables.of_two_rules_with_one_key_the_greater_priority_wins.Goals as goal
 
 abbrev rule : ℕ → ℕ → Match → Rule
 rule number priority matching = record { number = number; table = 0; priority = priority; cookie = 0; matching = matching; actions = [] }

@@ -3,7 +3,7 @@ use Rattle.std.proofs.lemmas.List.Sums.{sum_by-cons}
 use Rattle.spec_tables.specs.Rules.{Match, Rule}
 use Rattle.rule_tables.specs.Views.{match_view}
 use Rattle.address_prefixes.specs.RuleLists.{HasOneMore}
-use Rattle.address_prefixes.proofs.tests.a_mask_whose_prefixes_no_rule_states_ends_without_a_bit.Goals as goal
+use Rattle.lookup_tests.proofs.addresses.a_mask_whose_prefixes_no_rule_states_ends_without_a_bit.Goals as goal
 
 one_of_none : (r : Rule) → HasOneMore r [] (r ∷ [])
 one_of_none r p = let one = sum_by-cons (λ (x : Rule). if p x then 1 else 0) r [] in omega (arith, one)

@@ -1,4 +1,4 @@
-use super::*;
+use edge_io::{Gate, OpenGate, Point};
 use std::sync::atomic::{AtomicU64, Ordering};
 use std::thread;
 use std::thread::Threads;

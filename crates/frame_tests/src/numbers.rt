@@ -1,4 +1,6 @@
-use super::*;
+use net_bytes::{
+    be16, be32, be48, be128, checksum_update, le16, le32, put16, put32, put48, put128,
+};
 
 // The example of RFC 1071, section 3, and its sums in the two byte orders.
 const EXAMPLE: [u8; 8] = [0x00, 0x01, 0xf2, 0x03, 0xf4, 0xf5, 0xf6, 0xf7];

@@ -1,5 +1,5 @@
 use Rattle.std.proofs.Common.{[]}
-use Rattle.run_case.proofs.tests.blocks_are.Given as goal
+use Rattle.board_tests.proofs.blocks.blocks_are.Given as goal
 
 -- the name means what the test made
 abbrev pub ghosts-in_run : goal.ghosts-in_run

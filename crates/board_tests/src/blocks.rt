@@ -1,12 +1,13 @@
+//! The blocks of a run, and the frames in them.
 ghost use Rattle.std.specs.Prelude.{◌≡◌, ◌+◌, ◌^◌, ◌<◌, [], ◌∷◌, IfOk, length, map};
 ghost use Rattle.spec_tables.specs.Bundles.{AreBundles};
 ghost use Rattle.spec_case.specs.Run.{edit_count, last_version};
 ghost use Rattle.spec_case.specs.Blocks.{AreInOrder};
 ghost use Rattle.run_blocks.specs.Places.{HasPort, HasPlace, IsCounted, AreCounted};
 
-use crate::{Case, Ports, RunData};
 use ovs_fields::FieldId;
 use pcap_reader::{Trace, read_trace};
+use run_case::{Case, Ports, RunData};
 use spec_tables::SyncPoint;
 use std::alloc::{AllocError, Global};
 use std::marker::Brand;

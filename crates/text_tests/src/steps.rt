@@ -1,4 +1,4 @@
-use super::*;
+use board_steps::{EntryNumbers, Settled, Step, push_step};
 use spec_board::{Looked, PutDone};
 use std::test::Fail;
 

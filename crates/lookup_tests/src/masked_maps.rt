@@ -1,4 +1,4 @@
-use crate::{MaskedMap, PacketKey};
+use masked_map::{MaskedMap, PacketKey};
 use ovs_fields::{FieldId, Key, Mask, masked};
 use std::alloc::{AllocError, Global};
 use std::test::Fail;

@@ -1,4 +1,4 @@
-use crate::{AddressLookups, AddressPrefixes, MaskPrefixes};
+use address_prefixes::{AddressLookups, AddressPrefixes, MaskPrefixes};
 use ovs_fields::{FieldId, Key, Mask};
 use rule_tables::Match;
 use std::test::Fail;

@@ -1,4 +1,4 @@
-use crate::PrefixTrie;
+use prefix_tracker::PrefixTrie;
 use std::test::Fail;
 
 /// The bits of an IPv4 address.

@@ -1,4 +1,6 @@
-use super::*;
+use edge_memory::MemoryShelf;
+use pcap_reader::{PcapFault, Trace, read_trace};
+use pcap_writer::PcapWriter;
 use std::alloc::{AllocError, Global};
 use std::test::Fail;
 
@@ -16,7 +18,7 @@ fn frame() -> [u8; 60] {
     bytes
 }
 
-// A file that tcpdump(8) 4.99 reads as this frame.
+// A file that tcpdump(8) 4.99 reads as this frame, and writes again with the same bytes.
 fn file(alloc: Global) -> Result<Vec<u8>, AllocError> {
     let mut bytes = HEADER.to_vec(alloc)?;
     bytes.extend_from_slice(&RECORD_HEADER)?;
@@ -129,5 +131,37 @@ fn big_endian_nanoseconds_are_read(rt: HostRuntime) -> Result<(), Fail> {
     assert!(rt; trace.nanos());
     assert_eq!(rt; trace.time(1), 1_000_000_005);
     assert_eq!(rt; trace.frame(1), frame().as_slice());
+    Ok(())
+}
+
+#[test]
+fn one_frame_is_read_and_written_back(rt: HostRuntime) -> Result<(), Fail> {
+    let alloc = rt.alloc();
+    let trace = read_trace(alloc, file(alloc)?, 1)?;
+    assert_eq!(rt; trace.len(), 1);
+    let mut shelf = MemoryShelf::new(alloc, Vec::new(alloc), Vec::new(alloc));
+    let mut writer = PcapWriter::start(&mut shelf, "out", false)?;
+    writer.frame(&mut shelf, trace.time(1), trace.frame(1))?;
+    writer.end(&mut shelf)?;
+    let made = shelf.made();
+    assert_eq!(rt; made.len(), 1);
+    assert_eq!(rt; made[0].0.as_str(), "out");
+    assert_eq!(rt; made[0].1.as_slice(), file(alloc)?.as_slice());
+    Ok(())
+}
+
+#[test]
+fn file_in_nanoseconds_has_its_magic_and_unit(rt: HostRuntime) -> Result<(), Fail> {
+    let alloc = rt.alloc();
+    let mut shelf = MemoryShelf::new(alloc, Vec::new(alloc), Vec::new(alloc));
+    let mut writer = PcapWriter::start(&mut shelf, "out", true)?;
+    writer.frame(&mut shelf, 1_000_000_005, &[7, 8])?;
+    writer.end(&mut shelf)?;
+    let mut bytes = HEADER.to_vec(alloc)?;
+    bytes[..4].copy_from_slice(&[0x4d, 0x3c, 0xb2, 0xa1]);
+    bytes.extend_from_slice(&[1, 0, 0, 0, 5, 0, 0, 0, 2, 0, 0, 0, 2, 0, 0, 0, 7, 8])?;
+    let made = shelf.made();
+    assert_eq!(rt; made.len(), 1);
+    assert_eq!(rt; made[0].1.as_slice(), bytes.as_slice());
     Ok(())
 }
