@@ -14,8 +14,8 @@ use Rattle.spec_frames.specs.Ipv4 as ipv4
 use Rattle.spec_frames.specs.Ipv6 as ipv6
 use Rattle.spec_exec.specs.Places as spec
 use Rattle.spec_exec.specs.Places.{in_arp, in_ipv4, in_ipv6, in_network, port_at, place_in, ipv4_sum, header_sum, port_sum, address_sum, transport_sum, sums_of}
-use Rattle.frame_headers.specs.Within.{IsBefore}
-use Rattle.frame_layout.specs.Laid.{NetworkIsBefore, AreBefore}
+use Rattle.frame_keys.specs.Within.{IsBefore}
+use Rattle.frame_keys.specs.Laid.{NetworkIsBefore, AreBefore}
 use Rattle.action_exec.specs.declared.place.Place.{Place}
 use Rattle.action_exec.specs.declared.sum.Sum.{Sum}
 use Rattle.action_exec.specs.declared.sum.Sums.{Sums}

@@ -7,7 +7,7 @@ ghost use Rattle.action_exec.specs.Visits.{growth};
 
 use crate::field::set_field;
 use crate::tag::{pop_tag, push_tag};
-use frame_headers::HEADER_SIZE;
+use frame_keys::headers::HEADER_SIZE;
 use spec_actions::DpAction;
 use std::alloc::{AllocError, Global};
 use std::marker::Model;

@@ -5,7 +5,7 @@ ghost use Rattle.spec_frames.specs.Ethernet.{header_size};
 ghost use Rattle.spec_frames.specs.Layout.{layout_of};
 ghost use Rattle.spec_exec.specs.Places.{place_in, sums_of};
 ghost use Rattle.spec_exec.specs.Rewriting.{set_at, set_field};
-ghost use Rattle.frame_layout.specs.Laid.{AreBefore};
+ghost use Rattle.frame_keys.specs.Laid.{AreBefore};
 ghost use Rattle.action_exec.specs.Shapes.{bits_of};
 ghost use Rattle.action_exec.specs.Placed.{placed, all_listed};
 ghost use Rattle.action_exec.specs.Following.{PlaceIsBefore, SumsAreBefore};
@@ -15,7 +15,7 @@ use crate::number::put_bits;
 use crate::place::{Place, place_in};
 use crate::shape::word_count;
 use crate::sum::{Sums, sums_of};
-use frame_layout::{L3, L4, Layout, layout_of};
+use frame_keys::layout::{L3, L4, Layout, layout_of};
 use spec_keys::FieldId;
 
 /// A layout without headers: the addresses of Ethernet stand in it as in any other.

@@ -22,7 +22,7 @@
 //!
 //! # How
 //!
-//! `frame_layout` finds the headers, once for each write; the addresses of Ethernet need none. Then `place` names the
+//! `frame_keys::layout` finds the headers, once for each write; the addresses of Ethernet need none. Then `place` names the
 //! bytes of the field, `shape` how it stands in them, and `sum` the checksums that cover it.
 //!
 //! A checksum follows the words that its field is part of. The code keeps those words as they were, at most eight, then

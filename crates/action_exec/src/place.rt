@@ -6,13 +6,13 @@ ghost use Rattle.spec_frames.specs.Arp as arp;
 ghost use Rattle.spec_frames.specs.Ipv4 as ipv4;
 ghost use Rattle.spec_frames.specs.Ipv6 as ipv6;
 ghost use Rattle.spec_exec.specs.Places.{in_arp, in_ipv4, in_ipv6, in_network, port_at, place_in};
-ghost use Rattle.frame_headers.specs.Within.{IsBefore};
-ghost use Rattle.frame_layout.specs.Laid.{NetworkIsBefore, AreBefore};
+ghost use Rattle.frame_keys.specs.Within.{IsBefore};
+ghost use Rattle.frame_keys.specs.Laid.{NetworkIsBefore, AreBefore};
 ghost use Rattle.action_exec.specs.Shapes.{bits_of};
 ghost use Rattle.action_exec.specs.Placed.{placed};
 
 use crate::shape::Shape;
-use frame_layout::{L3, L4, Layout};
+use frame_keys::layout::{L3, L4, Layout};
 use spec_keys::FieldId;
 
 /// The addresses of an Ethernet header (IEEE 802.3).

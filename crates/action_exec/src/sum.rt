@@ -1,11 +1,11 @@
 //! The checksums that cover a field.
 ghost use Rattle.std.specs.Prelude.{◌≡◌};
 ghost use Rattle.spec_exec.specs.Places.{ipv4_sum, header_sum, port_sum, address_sum, transport_sum, sums_of};
-ghost use Rattle.frame_headers.specs.Within.{IsBefore};
-ghost use Rattle.frame_layout.specs.Laid.{NetworkIsBefore, AreBefore};
+ghost use Rattle.frame_keys.specs.Within.{IsBefore};
+ghost use Rattle.frame_keys.specs.Laid.{NetworkIsBefore, AreBefore};
 ghost use Rattle.action_exec.specs.Placed.{listed, all_listed};
 
-use frame_layout::{L3, L4, Layout};
+use frame_keys::layout::{L3, L4, Layout};
 use spec_keys::FieldId;
 
 /// Where checksums stand in their headers (RFC 791, RFC 9293, RFC 768 and RFC 4443).

@@ -5,7 +5,7 @@ ghost use Rattle.spec_base.specs.Bytes.{big_endian};
 ghost use Rattle.spec_frames.specs.Ethernet.{header_size, type_at, type_size, tag_size};
 ghost use Rattle.spec_exec.specs.Rewriting.{content_bits, push_tag, pop_tag};
 
-use frame_headers::tag_count;
+use frame_keys::headers::tag_count;
 use net_bytes::put16;
 use std::alloc::AllocError;
 

@@ -5,8 +5,8 @@ use Rattle.std.specs.Option.{option_map}
 use Rattle.std.proofs.lemmas.List.Splits.{length-slice_split}
 use Rattle.spec_actions.specs.Sound.{last_table}
 use Rattle.spec_actions.specs.declared.action.OfAction.TheVariants.{Resubmit}
-use Rattle.spec_numbers.specs.Characters.{comma}
-use Rattle.spec_numbers.specs.Numbers.{split_once, number_upto}
+use Rattle.spec_flow_text.specs.Characters.{comma}
+use Rattle.spec_flow_text.specs.Numbers.{split_once, number_upto}
 use Rattle.spec_flow_text.specs.declared.fault.TextFault.TheVariants as fault
 use Rattle.spec_flow_text.specs.Items.{Word, column}
 use Rattle.spec_flow_text.specs.Actions.{skipping, value_or_fault, table_of_arguments}

@@ -2,7 +2,7 @@
 use Rattle.std.specs.Prelude.{ℕ, ◌==◌, List, Result}
 use Rattle.std.specs.List.{slice_split}
 use Rattle.spec_actions.specs.declared.action.OfAction.{OfAction}
-use Rattle.spec_numbers.specs.Characters.{comma}
+use Rattle.spec_flow_text.specs.Characters.{comma}
 use Rattle.spec_flow_text.specs.declared.fault.TextFault.{TextFault}
 use Rattle.spec_flow_text.specs.Items.{Word}
 use Rattle.spec_flow_text.specs.Actions.{table_of_arguments}

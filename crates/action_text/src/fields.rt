@@ -2,7 +2,7 @@ ghost use Rattle.std.specs.Prelude.{◌≡◌, ◌≤◌, ◌==◌, length, not,
 ghost use Rattle.std.specs.List.{prefix_len};
 ghost use Rattle.spec_actions.specs.Named.{is_printed_alone};
 ghost use Rattle.spec_actions.specs.Sound.{is_written};
-ghost use Rattle.spec_numbers.specs.Characters.{left_bracket};
+ghost use Rattle.spec_flow_text.specs.Characters.{left_bracket};
 ghost use Rattle.spec_flow_text.specs.Actions.{no_field, field_in, written_field, slice_name};
 ghost use Rattle.field_text.specs.WordViews.{word_view};
 

@@ -7,12 +7,12 @@ use Rattle.spec_keys.specs.Keys.{value_of, masked}
 use Rattle.spec_tables.specs.Rules.{Rule}
 use Rattle.spec_xlate.specs.Lookup.{Prefix, prefix_of, prefixes, deciding, some_begins}
 use Rattle.translation_laws.specs.Members.{Among}
-use Rattle.prefix_tracker.specs.declared.found.Found.{Found}
-use Rattle.prefix_tracker.specs.Looks.{begun, IsFound}
-use Rattle.prefix_tracker.specs.Prefixes as tries
-use Rattle.prefix_tracker.specs.Prefixes.{Prefixes, is_same, prefix_at, times}
-use Rattle.prefix_tracker.proofs.AlikeLists.{deciding_same, some_begins_same}
-use Rattle.prefix_tracker.proofs.Times.{as_long, is_same_self, stands}
+use Rattle.address_prefixes.specs.declared.tracker.found.Found.{Found}
+use Rattle.address_prefixes.specs.Looks.{begun, IsFound}
+use Rattle.address_prefixes.specs.Prefixes as tries
+use Rattle.address_prefixes.specs.Prefixes.{Prefixes, is_same, prefix_at, times}
+use Rattle.address_prefixes.proofs.tracker.AlikeLists.{deciding_same, some_begins_same}
+use Rattle.address_prefixes.proofs.tracker.Times.{as_long, is_same_self, stands}
 use Rattle.address_prefixes.specs.declared.field_prefix.FieldPrefix.{FieldPrefix}
 use Rattle.address_prefixes.specs.OfField.{IsPrefixOf, IsTrieOf, is_of_key, HasOnceMore, AreAlike, IsThere}
 use Rattle.address_prefixes.specs.RuleLists.{HasOneMore}

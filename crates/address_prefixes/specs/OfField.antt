@@ -5,9 +5,9 @@ use Rattle.spec_keys.specs.Fields.{width_of}
 use Rattle.spec_keys.specs.Keys.{value_of}
 use Rattle.spec_tables.specs.Rules.{Rule}
 use Rattle.spec_xlate.specs.Lookup.{Prefix, prefix_length, prefixes}
-use Rattle.prefix_tracker.specs.declared.found.Found.{Found}
-use Rattle.prefix_tracker.specs.Looks.{IsFound}
-use Rattle.prefix_tracker.specs.Prefixes.{Prefixes, is_same, prefix_at, times}
+use Rattle.address_prefixes.specs.declared.tracker.found.Found.{Found}
+use Rattle.address_prefixes.specs.Looks.{IsFound}
+use Rattle.address_prefixes.specs.Prefixes.{Prefixes, is_same, prefix_at, times}
 use Rattle.address_prefixes.specs.declared.field_prefix.FieldPrefix.{FieldPrefix}
 
 -- it is the prefix of a field that a mask has

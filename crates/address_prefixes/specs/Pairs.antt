@@ -3,7 +3,7 @@ use Rattle.std.specs.Prelude.{◌≡◌, ℕ, ◌+◌, ◌<◌, ◌^◌, List, l
 use Rattle.spec_keys.specs.declared.field_id.FieldId.{FieldId}
 use Rattle.spec_keys.specs.Fields.{width_of}
 use Rattle.spec_tables.specs.Rules.{Rule}
-use Rattle.prefix_tracker.specs.Prefixes.{Prefixes, no_prefixes}
+use Rattle.address_prefixes.specs.Prefixes.{Prefixes, no_prefixes}
 use Rattle.address_prefixes.specs.declared.pair.PairPrefixes.{PairPrefixes}
 use Rattle.address_prefixes.specs.declared.pair.PairLookups.{PairLookups}
 use Rattle.address_prefixes.specs.OfField as one

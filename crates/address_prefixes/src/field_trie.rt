@@ -7,8 +7,8 @@ ghost use Rattle.ovs_fields.specs.Packed.{numbers};
 ghost use Rattle.address_prefixes.specs.OfField.{IsTrieOf, HasOnceMore, AreAlike, IsThere, IsKnown};
 
 use crate::field_prefix::FieldPrefix;
+use crate::tracker::{Found, PrefixTrie};
 use ovs_fields::{FieldId, Key, width};
-use prefix_tracker::{Found, PrefixTrie};
 use std::alloc::{AllocError, Global};
 
 /// Those of no rules. It takes no memory.

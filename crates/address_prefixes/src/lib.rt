@@ -24,7 +24,7 @@
 //!
 //! # How
 //!
-//! Each address has a trie (`prefix_tracker`) of the prefixes that rules state of it, each as often as they state it. What it
+//! Each address has a trie (`tracker`) of the prefixes that rules state of it, each as often as they state it. What it
 //! tells of a key doesn't depend on the mask, so it is asked for by the first mask that has a prefix of the address, and kept
 //! for those after it.
 //!
@@ -38,6 +38,8 @@
 //! # What is left to others
 //!
 //! The rules themselves, and the stages of a probe, between which a mask is tested.
+//!
+//! The trie that tracks prefixes stands in `tracker`.
 #![tactic(auto)]
 
 mod address_prefixes;
@@ -46,5 +48,6 @@ mod field_trie;
 mod pair;
 mod prefix;
 mod prefix_test;
+pub mod tracker;
 
-pub use address_prefixes::{AddressLookups, AddressPrefixes, MaskPrefixes};
+pub use crate::{AddressLookups, AddressPrefixes, MaskPrefixes};

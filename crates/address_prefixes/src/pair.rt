@@ -11,8 +11,8 @@ ghost use Rattle.address_prefixes.specs.RuleLists.{NoneMatches};
 use crate::field_prefix::FieldPrefix;
 use crate::field_trie::{insert_prefix, no_prefixes, remove_prefix};
 use crate::prefix_test::prefix_test;
+use crate::tracker::{Found, PrefixTrie};
 use ovs_fields::{FieldId, Key, Mask};
-use prefix_tracker::{Found, PrefixTrie};
 use std::alloc::{AllocError, Global};
 
 /// The prefixes of two addresses that a mask has.

@@ -11,8 +11,8 @@ ghost use Rattle.address_prefixes.specs.RuleLists.{NoneMatches};
 use crate::field_prefix::FieldPrefix;
 use crate::field_trie::found_in;
 use crate::prefix::leading;
+use crate::tracker::{Found, PrefixTrie};
 use ovs_fields::{FieldId, Key, Mask, width};
-use prefix_tracker::{Found, PrefixTrie};
 
 /// Consults the bits of a field that decide whether a mask goes on, where it hasn't ended, and answers whether it does.
 /// Where it doesn't, the key matches none of its rules.

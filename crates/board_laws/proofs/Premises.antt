@@ -10,7 +10,7 @@ use Rattle.spec_board.specs.Results.{translated, mask_for}
 use Rattle.spec_board.specs.Journals.{IsLegal, after}
 use Rattle.spec_board.proofs.Shown.{add, sync, shown}
 use Rattle.spec_frames.specs.Key.{key_of}
-use Rattle.key_laws.proofs.KeyLaws.{key_of-IsClean, key_of-IsKey}
+use Rattle.frame_laws.proofs.keys.KeyLaws.{key_of-IsClean, key_of-IsKey}
 use Rattle.board_laws.specs.Entries.{IsRight}
 use Rattle.board_laws.specs.Versions.{HasVersionsInOrder}
 

@@ -3,10 +3,10 @@ ghost use Rattle.std.specs.Prelude.{◌≡◌, ◌+◌, ◌^◌, ◌<◌, [], �
 ghost use Rattle.spec_tables.specs.Bundles.{AreBundles};
 ghost use Rattle.spec_case.specs.Run.{edit_count, last_version};
 ghost use Rattle.spec_case.specs.Blocks.{AreInOrder};
-ghost use Rattle.run_blocks.specs.Places.{HasPort, HasPlace, IsCounted, AreCounted};
+ghost use Rattle.run_case.specs.Places.{HasPort, HasPlace, IsCounted, AreCounted};
 
 use ovs_fields::FieldId;
-use pcap_reader::{Trace, read_trace};
+use pcap_files::reader::{Trace, read_trace};
 use run_case::{Case, Ports, RunData};
 use spec_tables::SyncPoint;
 use std::alloc::{AllocError, Global};

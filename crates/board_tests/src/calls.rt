@@ -4,24 +4,24 @@ ghost use Rattle.std.specs.List.{list_all};
 ghost use Rattle.ovs_fields.specs.Packed.{numbers};
 ghost use Rattle.spec_tables.specs.Edits.{has_sound_actions};
 ghost use Rattle.pmd_board.specs.BoardView.{state_of};
-ghost use Rattle.run_blocks.specs.Places.{HasPort, HasPlace};
+ghost use Rattle.run_case.specs.Places.{HasPort, HasPlace};
 ghost use Rattle.spec_board.specs.Effects.{is_among, key_of_entry};
 ghost use Rattle.spec_board.specs.Results.{entry_of};
 ghost use Rattle.spec_case.specs.Run.{last_version};
 
 use crate::rows::PORT;
-use flow_stats::Counts;
 use ovs_fields::Key;
 use pipe_model::SpareLists;
 use pmd_board::{
     BeginFault, Board, EndFault, LookFault, Looked, OpenFault, PutDone, PutFault, SettleFault,
     Settled, Xlated,
 };
+use port_caches::stats::Counts;
 use run_case::{Case, RunData};
-use run_edits::RunEdits;
 use run_tables::ClassifierTables;
 use std::alloc::{AllocError, Global};
 use table_versions::Tables;
+use table_versions::edits::RunEdits;
 
 /// A call of a board, with what it is to answer.
 #[derive(Clone, Copy)]

@@ -3,22 +3,22 @@ ghost use Rattle.std.specs.Prelude.{◌≡◌, ◌<◌, ◌≤◌, IsTrue, IfOk,
 ghost use Rattle.std.specs.List.{list_all};
 ghost use Rattle.spec_tables.specs.Bundles.{AreBundles};
 ghost use Rattle.spec_tables.specs.Edits.{has_sound_actions};
-ghost use Rattle.run_blocks.specs.Places.{HasPort, IsCounted, AreCounted};
+ghost use Rattle.run_case.specs.Places.{HasPort, IsCounted, AreCounted};
 ghost use Rattle.spec_case.specs.Blocks.{AreInOrder};
 ghost use Rattle.spec_case.specs.Run.{edit_count, last_version};
 
 use crate::calls::{Call, first_wrong};
 use crate::flows::{Flow, edits_of};
-use flow_stats::Counts;
-use pcap_reader::{Trace, read_trace};
+use pcap_files::reader::{Trace, read_trace};
+use port_caches::stats::Counts;
 use rule_tables::Edit;
 use run_case::{Case, Ports, RunData};
-use run_edits::RunEdits;
 use spec_tables::SyncPoint;
 use std::alloc::{AllocError, Global};
 use std::marker::Brand;
 use std::process::Abort;
 use std::test::Fail;
+use table_versions::edits::RunEdits;
 
 /// A flow limit that no row reaches.
 pub const AMPLE: u32 = 8;

@@ -2,8 +2,8 @@
 ghost use Rattle.std.specs.Prelude.{◌≡◌, ◌==◌, ◌∷◌, [], length, map, nat_eq, Option, Some, None, IfOk, IfSome};
 ghost use Rattle.std.specs.List.{list_any, IsDistinct};
 ghost use Rattle.std.specs.Option.{option_map};
-ghost use Rattle.spec_numbers.specs.Characters.{equals_sign};
-ghost use Rattle.spec_numbers.specs.Numbers.{split_once};
+ghost use Rattle.spec_flow_text.specs.Characters.{equals_sign};
+ghost use Rattle.spec_flow_text.specs.Numbers.{split_once};
 ghost use Rattle.spec_words.specs.Words.{port_number, port_word, is_named, new_port, port_words};
 ghost use Rattle.command_words.specs.PortViews.{lent, port_view, ports_view, ports_said};
 

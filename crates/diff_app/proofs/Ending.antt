@@ -10,13 +10,13 @@ use Rattle.edge_io.specs.declared.outside.Shelf as shelf
 use Rattle.edge_io.specs.declared.outside.Sink as sink
 use Rattle.edge_io.specs.Counts.{with_fault}
 use Rattle.edge_io.specs.Opened.{HasOpenedUpTo}
-use Rattle.switch_refusals.specs.declared.refusal.InputFault.{InputFault}
-use Rattle.switch_refusals.specs.declared.refusal.InputFault.TheVariants as fault
-use Rattle.switch_refusals.specs.declared.refusal.InputRefusal.TheVariants as input
-use Rattle.switch_refusals.specs.Refused.{fault_view, IsClosedAt}
-use Rattle.spec_diff_run.specs.Verdict.{Accepted, Refusal as Refused, Usage as UsageOf, Input as InputOf, verdict, files_opened}
-use Rattle.spec_diff_run.specs.Outputs.{IsCut}
-use Rattle.spec_diff_run.specs.Statuses.{differ_status, is_refusal, status_of as refusal_status}
+use Rattle.switch_input.specs.declared.refusals.refusal.InputFault.{InputFault}
+use Rattle.switch_input.specs.declared.refusals.refusal.InputFault.TheVariants as fault
+use Rattle.switch_input.specs.declared.refusals.refusal.InputRefusal.TheVariants as input
+use Rattle.switch_input.specs.Refused.{fault_view, IsClosedAt}
+use Rattle.spec_diff.specs.Verdict.{Accepted, Refusal as Refused, Usage as UsageOf, Input as InputOf, verdict, files_opened}
+use Rattle.spec_diff.specs.Outputs.{IsCut}
+use Rattle.spec_diff.specs.Statuses.{differ_status, is_refusal, status_of as refusal_status}
 use Rattle.diff_app.specs.declared.refusal.Refusal.{Refusal}
 use Rattle.diff_app.specs.declared.refusal.Refusal.TheVariants.{Usage, Reading, TooManyCubes, Printing}
 use Rattle.diff_app.specs.Refused.{status_of, text_of, IsSilent}

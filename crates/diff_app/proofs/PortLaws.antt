@@ -7,7 +7,7 @@ use Rattle.std.proofs.lemmas.List.{drop_more, length-map}
 use Rattle.command_words.specs.CommandViews.{texts}
 use Rattle.spec_words.specs.Words.{most_ports}
 use Rattle.spec_trace.specs.Words.{new_port}
-use Rattle.spec_diff_run.specs.Words.{Command, ports_with, ports_of, command_from, command_in}
+use Rattle.spec_diff.specs.Words.{Command, ports_with, ports_of, command_from, command_in}
 
 pub one_port : (before word : List ℕ) (words : List (List ℕ)) (port : ℕ) → new_port before word ≡ Some port
     → ports_with before (word ∷ words) ≡ ports_with (before ++ port ∷ []) words

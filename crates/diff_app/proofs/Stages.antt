@@ -10,20 +10,20 @@ use Rattle.rule_tables.specs.History.{History}
 use Rattle.rule_tables.proofs.Histories.{rules_of-history}
 use Rattle.pipe_model.specs.Runnable.{AreRunnable}
 use Rattle.pipe_model.proofs.Versions.{runnable-version}
-use Rattle.rule_lines.specs.Live.{IsOfEdits, live_in}
+use Rattle.dump_lines.specs.Live.{IsOfEdits, live_in}
 use Rattle.edit_script.specs.ScriptViews.{script_view}
 use Rattle.switch_input.specs.declared.edits.EditsFile.{EditsFile}
 use Rattle.edge_io.specs.Shelf.{Told}
 use Rattle.edge_io.specs.Opened.{HasOpened}
 use Rattle.switch_input.proofs.Opened.{all_left, opened_until}
-use Rattle.switch_refusals.specs.declared.refusal.InputRefusal.{InputRefusal}
-use Rattle.switch_refusals.specs.declared.refusal.InputRefusal.TheVariants as input
-use Rattle.switch_refusals.specs.Reading.{Ending, HasOpenedUntil}
-use Rattle.switch_refusals.specs.Refused as reading
-use Rattle.switch_refusals.specs.Refused.{fault_view}
-use Rattle.switch_refusals.proofs.Reading.{opened_then}
-use Rattle.spec_diff_run.specs.Words.{Command, command_of}
-use Rattle.spec_diff_run.specs.Verdict.{Input, Accepted, rules_of, accepted, case_of, verdict_of, verdict, command_in, opened_for, opened_after, files_opened, Usage as UsageOf}
+use Rattle.switch_input.specs.declared.refusals.refusal.InputRefusal.{InputRefusal}
+use Rattle.switch_input.specs.declared.refusals.refusal.InputRefusal.TheVariants as input
+use Rattle.switch_input.specs.Reading.{Ending, HasOpenedUntil}
+use Rattle.switch_input.specs.Refused as reading
+use Rattle.switch_input.specs.Refused.{fault_view}
+use Rattle.switch_input.proofs.refusals.Reading.{opened_then}
+use Rattle.spec_diff.specs.Words.{Command, command_of}
+use Rattle.spec_diff.specs.Verdict.{Input, Accepted, rules_of, accepted, case_of, verdict_of, verdict, command_in, opened_for, opened_after, files_opened, Usage as UsageOf}
 use Rattle.diff_app.specs.InputViews.{IsEditsFile}
 use Rattle.diff_app.specs.declared.refusal.Refusal.TheVariants.{Reading}
 use Rattle.diff_app.specs.Refused.{Explains}

@@ -3,13 +3,13 @@ use Rattle.std.proofs.Common.{◌≡◌, ℕ, List, [], ◌∷◌, ◌⊎◌, in
 use Rattle.std.specs.Prelude.{IsTrue}
 use Rattle.spec_run.specs.Statuses.{done_status}
 use Rattle.spec_diff.specs.Classes.{Class}
-use Rattle.spec_diff_run.specs.Statuses.{differ_status, found_status}
+use Rattle.spec_diff.specs.Statuses.{differ_status, found_status}
 use Rattle.edge_io.specs.declared.outside.Shelf as shelf
 use Rattle.edge_io.specs.declared.outside.Sink as sink
 use Rattle.diff_app.specs.declared.refusal.Refusal.{Refusal}
 use Rattle.diff_app.specs.declared.refusal.Refusal.TheVariants.{Usage, Reading, TooManyCubes, Printing}
 use Rattle.diff_app.specs.Refused.{IsUntold, refusal_of}
-use Rattle.switch_refusals.specs.declared.refusal.InputRefusal.TheVariants as input
+use Rattle.switch_input.specs.declared.refusals.refusal.InputRefusal.TheVariants as input
 use Rattle.table_diff.specs.declared.error.CompareError.{CompareError}
 use Rattle.table_diff.specs.declared.error.CompareError.TheVariants as compared
 use Rattle.diff_app.specs.Leaving.{LeavesUnread, LeavesUnfound, Leaves}

@@ -6,9 +6,9 @@ use Rattle.spec_tables.specs.Edits.{has_sound_actions}
 use Rattle.spec_script.specs.Script.{Script}
 use Rattle.rule_tables.specs.History.{history_of}
 use Rattle.pipe_model.specs.Runnable.{AreRunnable}
-use Rattle.rule_lines.specs.Live.{IsOfEdits, live_in}
+use Rattle.dump_lines.specs.Live.{IsOfEdits, live_in}
 use Rattle.switch_input.specs.declared.edits.EditsFile.{EditsFile}
-use Rattle.spec_diff_run.specs.Verdict as verdicts
+use Rattle.spec_diff.specs.Verdict as verdicts
 use Rattle.diff_app.specs.declared.inputs.Inputs.{Inputs}
 
 abbrev pub accepted_view : Inputs → verdicts.Accepted

@@ -3,3 +3,4 @@ pub mod InputViews
 pub mod Refused
 pub mod Ends
 pub mod Leaving
+pub mod Pieces

@@ -4,14 +4,14 @@ use Rattle.spec_run.specs.Statuses.{usage_status, limit_status, write_fault_stat
 use Rattle.edge_io.specs.declared.outside.Failed.TheVariants as failed
 use Rattle.edge_io.specs.declared.outside.InUse.{InUse}
 use Rattle.edge_io.specs.declared.outside.InUse.TheVariants.{Nothing}
-use Rattle.switch_refusals.specs.declared.refusal.InputRefusal.{InputRefusal}
-use Rattle.switch_refusals.specs.Reading.{Ending, Read}
-use Rattle.switch_refusals.specs.Refused as reading
-use Rattle.switch_refusals.specs.Refused.{fault_view}
-use Rattle.switch_refusals.specs.Texts.{input_status, input_text}
-use Rattle.spec_diff_run.specs.Verdict as verdicts
-use Rattle.spec_diff_run.specs.Statuses.{usage_text, cubes_text}
-use Rattle.switch_refusals.specs.declared.refusal.InputRefusal.TheVariants as input
+use Rattle.switch_input.specs.declared.refusals.refusal.InputRefusal.{InputRefusal}
+use Rattle.switch_input.specs.Reading.{Ending, Read}
+use Rattle.switch_input.specs.Refused as reading
+use Rattle.switch_input.specs.Refused.{fault_view}
+use Rattle.switch_input.specs.Texts.{input_status, input_text}
+use Rattle.spec_diff.specs.Verdict as verdicts
+use Rattle.spec_diff.specs.Statuses.{usage_text, cubes_text}
+use Rattle.switch_input.specs.declared.refusals.refusal.InputRefusal.TheVariants as input
 use Rattle.table_diff.specs.declared.error.CompareError.{CompareError}
 use Rattle.table_diff.specs.declared.error.CompareError.TheVariants as compared
 use Rattle.diff_app.specs.declared.refusal.Refusal.{Refusal}

@@ -6,7 +6,7 @@
 //! # What is promised
 //!
 //! The contract of `run_diff` is one definition, `Ends` (specs/Ends.antt): the ways to end, by the status, and what
-//! holds with each, in the words of `spec_diff_run`. What is said of files holds where the shelf tells its bytes, and
+//! holds with each, in the words of `spec_diff::run`. What is said of files holds where the shelf tells its bytes, and
 //! what is said of text where the sink does.
 //!
 //! - Where all is done, the verdict accepts the words and both files, and exactly the text of a difference is
@@ -29,11 +29,14 @@
 //!
 //! # What is left to others
 //!
-//! Edits to `switch_input`, the comparison to `table_diff`, its text to `diff_lines`, texts and statuses that the
-//! switch has too to `switch_refusals`, and all that touches the system to `edge_io`.
+//! Edits to `switch_input`, the comparison to `table_diff`, its text to `lines`, texts and statuses that the
+//! switch has too to `switch_input::refusals`, and all that touches the system to `edge_io`.
+//!
+//! The lines of a difference stand in `lines`.
 #![tactic(auto)]
 
 mod inputs;
+pub mod lines;
 mod refusal;
 mod run;
 mod say;
@@ -41,4 +44,4 @@ mod status;
 mod words;
 
 pub use run::run_diff;
-pub use switch_refusals::OUT_OF_MEMORY;
+pub use switch_input::refusals::OUT_OF_MEMORY;

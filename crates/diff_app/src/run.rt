@@ -5,23 +5,23 @@ ghost use Rattle.edge_io.specs.declared.outside.InUse.TheVariants.{Nothing};
 ghost use Rattle.edge_io.specs.Counts.{HasCause, with_fault};
 ghost use Rattle.command_words.specs.CommandViews.{texts};
 ghost use Rattle.spec_diff.specs.Progress.{IsUnfinished, cube_limit};
-ghost use Rattle.spec_diff_run.specs.Verdict.{old_switch, new_switch, verdict};
-ghost use Rattle.spec_diff_run.specs.Statuses.{differ_status, found_status, status_of as refusal_status};
-ghost use Rattle.spec_diff_run.specs.Outputs.{Tells};
-ghost use Rattle.spec_diff_run.specs.Texts.{text_of_classes};
+ghost use Rattle.spec_diff.specs.Verdict.{old_switch, new_switch, verdict};
+ghost use Rattle.spec_diff.specs.Statuses.{differ_status, found_status, status_of as refusal_status};
+ghost use Rattle.spec_diff.specs.Outputs.{Tells};
+ghost use Rattle.spec_diff.specs.Texts.{text_of_classes};
 ghost use Rattle.table_diff.specs.Cubes.{classes_view};
 ghost use Rattle.diff_app.specs.InputViews.{accepted_view, AreComparable};
 ghost use Rattle.diff_app.specs.Ends.{Ends, IsCompared};
 ghost use Rattle.diff_app.specs.Leaving.{Leaves};
 
 use crate::inputs::{Inputs, read_inputs};
+use crate::lines::print_difference;
 use crate::refusal::Refusal;
 use crate::say::say_refusal;
 use crate::status::{DIFFER, status_of};
-use diff_lines::print_difference;
 use edge_io::{Failed, Shelf, Sink, say_all};
 use std::alloc::{AllocError, Global};
-use switch_refusals::DONE;
+use switch_input::refusals::DONE;
 use table_diff::{Class, CompareError, compare};
 
 /// The text of a difference, and the status that goes with it.
@@ -117,7 +117,7 @@ fn end<S: Shelf, K: Sink>(alloc: Global, words: &[String], shelf: &mut S, say: &
 /// `--brief` one line for each pair of actions. A last line counts both. Nothing is printed where no packet is
 /// treated differently, and nothing is written to the shelf.
 ///
-/// The answer is the exit status: 0 where no packet is treated differently, 1 where some is. `spec_diff_run` has the
+/// The answer is the exit status: 0 where no packet is treated differently, 1 where some is. `spec_diff::run` has the
 /// others, and the text that is printed with each. Of a text a prefix may be missing its end where the sink fails.
 pub fn run_diff<S: Shelf, K: Sink>(
     alloc: Global,

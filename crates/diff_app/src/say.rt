@@ -1,13 +1,13 @@
 //! The text of a refusal, printed.
 ghost use Rattle.std.specs.Prelude.{◌≡◌, IsTrue};
 ghost use Rattle.spec_run.specs.Statuses.{Prints};
-ghost use Rattle.spec_diff_run.specs.Statuses.{usage_text, cubes_text};
+ghost use Rattle.spec_diff.specs.Statuses.{usage_text, cubes_text};
 ghost use Rattle.diff_app.specs.Refused.{text_of, IsSilent};
 
 use crate::refusal::Refusal;
 use edge_io::{Failed, Sink};
 use itoa::Buffer;
-use switch_refusals::{say_input_refusal, say_out_of_memory, say_pieces};
+use switch_input::refusals::{say_input_refusal, say_out_of_memory, say_pieces};
 use table_diff::CUBE_LIMIT;
 
 // Prints which words the program takes.

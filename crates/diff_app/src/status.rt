@@ -1,10 +1,10 @@
-//! The exit status of a refusal, as `spec_diff_run` has it.
+//! The exit status of a refusal, as `spec_diff::run` has it.
 ghost use Rattle.std.specs.Prelude.{◌≡◌};
 ghost use Rattle.diff_app.specs.Refused.{status_of};
 
 use crate::refusal::Refusal;
 use edge_io::Failed;
-use switch_refusals::{LIMIT, OUT_OF_MEMORY, USAGE, WRITE_FAULT, input_status};
+use switch_input::refusals::{LIMIT, OUT_OF_MEMORY, USAGE, WRITE_FAULT, input_status};
 
 /// Some packet is treated differently.
 pub const DIFFER: u8 = 1;

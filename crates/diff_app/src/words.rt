@@ -5,7 +5,7 @@ ghost use Rattle.std.specs.Option.{option_map};
 ghost use Rattle.command_words.specs.CommandViews.{texts, text_view};
 ghost use Rattle.spec_words.specs.Words.{name_in};
 ghost use Rattle.spec_trace.specs.Words.{new_port};
-ghost use Rattle.spec_diff_run.specs.Words.{ports_of, command_from, command_in, command_of};
+ghost use Rattle.spec_diff.specs.Words.{ports_of, command_from, command_in, command_of};
 ghost use Rattle.diff_app.specs.Commands.{command_view};
 
 use command_words::read_port_number;
@@ -73,7 +73,7 @@ fn name_in(text: &str) -> Option<&str>
     Some(text)
 }
 
-#[tactic(auto, unfolding(spec_diff_run::specs::Words::command_from))]
+#[tactic(auto, unfolding(spec_diff::specs::Words::command_from))]
 fn command_from<'a>(
     alloc: Global,
     brief: bool,
@@ -102,7 +102,7 @@ fn command_from<'a>(
 }
 
 // Both names and one port or more.
-#[tactic(auto, unfolding(spec_diff_run::specs::Words::command_in))]
+#[tactic(auto, unfolding(spec_diff::specs::Words::command_in))]
 fn command_in(
     alloc: Global,
     brief: bool,
@@ -120,7 +120,7 @@ fn command_in(
 }
 
 /// Reads the words after the program's name: `[--brief] OLD NEW PORT..`.
-#[tactic(auto, unfolding(spec_diff_run::specs::Words::command_of))]
+#[tactic(auto, unfolding(spec_diff::specs::Words::command_of))]
 pub fn read_command(alloc: Global, words: &[String]) -> Result<Option<Command<'_>>, AllocError>
     ensures { IfOk result (λ found. option_map command_view found ≡ command_of (texts words.now)) }
 {

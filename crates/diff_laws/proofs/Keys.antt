@@ -22,7 +22,7 @@ use Rattle.spec_case.specs.Run.{Run, frames_of}
 use Rattle.spec_board.specs.Results.{key_at}
 use Rattle.spec_diff.specs.Classes.{IsFrameKey, one_if, holding, from_port}
 use Rattle.translation_laws.proofs.KeyLaws.{same_refl}
-use Rattle.key_laws.proofs.Forms.{Tags, no_tags, tags_of, ethernet_key, with_addresses, by_length}
+use Rattle.frame_laws.proofs.keys.Forms.{Tags, no_tags, tags_of, ethernet_key, with_addresses, by_length}
 use Rattle.board_laws.specs.Entries.{AreOfBytes}
 use Rattle.board_laws.proofs.Kept.{keys_of_bytes, key_clean}
 

@@ -4,7 +4,7 @@ ghost use Rattle.spec_case.specs.Run.{Run};
 ghost use Rattle.spec_script.specs.Script.{Script};
 ghost use Rattle.spec_board.specs.Texts.{Journal};
 ghost use Rattle.spec_run.specs.Journals.{HasEditsApart, AreJournals};
-ghost use Rattle.spec_diff_run.specs.Verdict.{rules_of};
+ghost use Rattle.spec_diff.specs.Verdict.{rules_of};
 ghost use Rattle.diff_laws.specs.Runs.{AreByAllEdits, HasEditsFirst, last_switch};
 
 /// The journals of a run decide each frame under the tables that all edits make: without workers, given steps and

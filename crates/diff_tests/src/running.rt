@@ -4,7 +4,7 @@ ghost use Rattle.edge_io.specs.declared.outside.InUse.TheVariants.{Nothing};
 
 use diff_app::run_diff;
 use edge_io::Shelf;
-use edge_memory::{MemoryShelf, MemorySink};
+use edge_io::memory::{MemoryShelf, MemorySink};
 use std::alloc::{AllocError, Global};
 
 /// What is compared, and how it ends.

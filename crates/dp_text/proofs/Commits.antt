@@ -11,7 +11,7 @@ use Rattle.spec_actions.specs.declared.action.DpAction.{DpAction}
 use Rattle.spec_actions.specs.declared.action.DpAction.TheVariants.{PopVlan, PushVlan, Set}
 use Rattle.spec_xlate.specs.Tags.{VlanTag, tags_of, outer_tags, commit_tags}
 use Rattle.spec_xlate.specs.Commit.{fields_before_tags, fields_after_tags, commit_field, commit_fields, commit}
-use Rattle.spec_dp_text.specs.Within.{is_within_field}
+use Rattle.spec_flow_text.specs.Within.{is_within_field}
 use Rattle.dp_text.proofs.Numbers.{is_type_place, FitsFields, fits_from_key, value_fits}
 
 abbrev pub are_within : List DpAction → Type 0

@@ -4,7 +4,7 @@ use Rattle.std.proofs.lemmas.Bool.{and_parts}
 use Rattle.spec_keys.specs.declared.field_id.FieldId.{FieldId}
 use Rattle.spec_keys.specs.Fields.{width_of}
 use Rattle.spec_actions.specs.declared.action.DpAction.TheVariants.{Set}
-use Rattle.spec_dp_text.specs.Within.{is_within_field}
+use Rattle.spec_flow_text.specs.Within.{is_within_field}
 use Rattle.field_text.specs.Views.{FitsWidth}
 
 pub set_fits : (f : FieldId) (value mask : ℕ) → IsTrue (is_within_field (Set f value mask)) → FitsWidth f (record { value = value; mask = mask })

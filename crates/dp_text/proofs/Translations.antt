@@ -24,7 +24,7 @@ use Rattle.spec_base.specs.Bits.{merged}
 use Rattle.spec_xlate.specs.Translation.{Switch, State, Mode, deepest, action_limit, emit, emit_all, committed, in_port_of, is_other_port, other_ports, output, output_all, slice_bits, slice_of, with_value, written, in_field, written_bits, write, vid_bits, pcp_bits, pcp_unit, write_tag, lower_ttl, act, in_mode, run, visited, follow, with_lookups_left, enter, look, start, last_state, kept, pipe}
 use Rattle.spec_xlate.specs.Translation.Mode.{Going, ListEnded, Stopped}
 use Rattle.named_fields.proofs.NamedLaws.{named-within, writable-within}
-use Rattle.spec_dp_text.specs.Within.{is_within_field}
+use Rattle.spec_flow_text.specs.Within.{is_within_field}
 use Rattle.dp_text.proofs.Numbers.{is_type_place, FitsFields, fits_from_key, value_fits, value_set, popped_fits, pushed_fits, tagged_fits}
 use Rattle.dp_text.proofs.Commits.{are_within, joined, commit_from_fits}
 

@@ -7,7 +7,7 @@
 //!
 //! # What is promised
 //!
-//! - The text is the one that `spec_dp_text` gives a list. Out of memory is the only error, and then the string has what
+//! - The text is the one that `spec_flow_text::dp_text` gives a list. Out of memory is the only error, and then the string has what
 //!   it had, and perhaps a part of the text after it.
 //! - It is asked of a list that its values and masks are within the fields that they are written to. Of keys within
 //!   the widths of the fields each list that commit gives is so (`commit_is_within_fields`), and with it that of every

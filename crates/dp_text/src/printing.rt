@@ -1,8 +1,8 @@
 ghost use Rattle.std.specs.Prelude.{◌≡◌, IsTrue};
 ghost use Rattle.text_numbers.specs.Added.{Adds};
 ghost use Rattle.field_text.specs.Views.{FitsWidth};
-ghost use Rattle.spec_dp_text.specs.Printed as printed;
-ghost use Rattle.spec_dp_text.specs.Within.{is_within_field, AreWithinFields};
+ghost use Rattle.spec_flow_text.specs.DpTextPrinted as printed;
+ghost use Rattle.spec_flow_text.specs.Within.{is_within_field, AreWithinFields};
 
 use field_text::{Bits, ItemPrinter, name_of, own_name, print_list, print_value, within_mask};
 use ovs_fields::FieldId;
@@ -99,7 +99,7 @@ impl ItemPrinter for DpActionPrinter {
 /// Adds the text of a list of datapath actions (ovs-actions(7)): the actions with commas between them, or `drop`.
 ///
 /// The only error is out of memory, and then the string has what it had, and perhaps a part of the text.
-#[tactic(auto, unfolding(spec_dp_text::specs::Printed::dp_actions_printed))]
+#[tactic(auto, unfolding(spec_flow_text::specs::DpTextPrinted::dp_actions_printed))]
 pub fn print_dp_actions(list: &[DpAction], out: &mut String) -> Result<(), AllocError>
     requires { AreWithinFields list.now }
     ensures { Adds out.old out.new (printed.dp_actions_printed list.now) result }

@@ -5,3 +5,8 @@ pub mod Sink
 pub mod ReadAll
 pub mod Opened
 pub mod Filling
+pub mod Calls
+pub mod Memory
+pub mod Slots
+pub mod Stored
+pub mod Real

@@ -45,14 +45,18 @@
 //! - A `Gate` is told of points at which threads meet, and may hold them, so that a test picks the order.
 //!   It promises nothing. `OpenGate` returns at once.
 //!
-//! Left to others: the system's files and standard output (`edge_real`), files and text in memory for tests
-//! (`edge_memory`), which files are read and written, in which order, what their bytes mean, and which text
+//! Left to others: the system's files and standard output (`real`), files and text in memory for tests
+//! (`memory`), which files are read and written, in which order, what their bytes mean, and which text
 //! a refusal becomes.
+//!
+//! Files and text in memory stand in `memory`, those of the system in `real`.
 #![tactic(auto)]
 
 mod counts;
+pub mod memory;
 mod outside;
 mod reading;
+pub mod real;
 mod writing;
 
 pub use counts::{FaultCounts, counted_fault};

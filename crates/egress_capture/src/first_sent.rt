@@ -11,7 +11,7 @@ ghost use Rattle.egress_capture.specs.Sending.{sends_to_one, first_frame_to, rec
 
 use action_exec::{FrameBuffer, is_output};
 use edge_io::{Failed, Shelf};
-use pcap_writer::PcapWriter;
+use pcap_files::writer::PcapWriter;
 use spec_actions::DpAction;
 use std::alloc::AllocError;
 

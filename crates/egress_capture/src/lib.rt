@@ -3,7 +3,7 @@
 //! # What?
 //!
 //! Frames come in at all ports of a switch, and the frames that leave by one port stand in one file. They stand there
-//! in the order of their arrivals (`frame_arrivals`).
+//! in the order of their arrivals (`run_boards::arrivals`).
 //!
 //! # What is promised
 //!
@@ -30,9 +30,12 @@
 //!
 //! That every frame is decided (`run_boards`, whose `Finished` has it as its type), the name of the file, and that
 //! files are written for all ports.
+//!
+//! The files of mirrors stand in `mirror`.
 #![tactic(auto)]
 
 mod first_sent;
+pub mod mirror;
 mod port_file;
 mod port_filter;
 mod sending;

@@ -7,14 +7,14 @@ ghost use Rattle.spec_run.specs.Journals.{actions_for};
 ghost use Rattle.spec_run.specs.Outputs.{frames_out, sent_to};
 ghost use Rattle.edge_io.specs.declared.outside.InUse.TheVariants.{Nothing, Created};
 ghost use Rattle.edge_io.specs.Written.{WritesAll, WritesFile};
-ghost use Rattle.frame_arrivals.specs.Arrivals.{IsArrival};
+ghost use Rattle.run_boards.specs.Arrivals.{IsArrival};
 ghost use Rattle.egress_capture.specs.Filters.{PassesAll, AreFilters};
 
 use crate::port_filter::PortFilter;
 use crate::sending::send;
 use action_exec::FrameBuffer;
 use edge_io::{Failed, Shelf, write_file};
-use pcap_writer::PcapWriter;
+use pcap_files::writer::PcapWriter;
 use run_boards::Finished;
 use run_case::{Case, RunData};
 use spec_case::Arrival;

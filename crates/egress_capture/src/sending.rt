@@ -11,7 +11,7 @@ ghost use Rattle.egress_capture.specs.Sending.{sends_to, frame_of, frames_to, ne
 
 use action_exec::{FrameBuffer, is_output};
 use edge_io::{Failed, Shelf};
-use pcap_writer::PcapWriter;
+use pcap_files::writer::PcapWriter;
 use spec_actions::DpAction;
 
 fn is_output_to(action: &DpAction, port: u16) -> bool

@@ -10,9 +10,9 @@ use Rattle.spec_run.specs.Verdict.{Files, Refusal, Accepted, command_in, run_in,
 use Rattle.spec_run.specs.Journals.{HasEditsApart}
 use Rattle.spec_run.specs.Outputs.{Decided, summary_by, has_steps, ran_of}
 use Rattle.spec_run.specs.Statuses.{done_status, read_fault_status, write_fault_status, out_of_memory_status, is_refusal}
-use Rattle.summary_laws.proofs.Counted.{add_up}
-use Rattle.summary_laws.proofs.MadeRuns.{followed, accepted_apart}
-use Rattle.summary_laws.proofs.SentPlainly.{send_plainly}
+use Rattle.output_laws.proofs.summaries.Counted.{add_up}
+use Rattle.output_laws.proofs.summaries.MadeRuns.{followed, accepted_apart}
+use Rattle.output_laws.proofs.summaries.SentPlainly.{send_plainly}
 use Rattle.switch_input.specs.Known.{IsKnownInput, IsKnownCommand, IsKnown}
 use Rattle.switch_app.specs.Ends.{IsAllDone, Ends, AllDone, TurnedDown, ReadingFailed, FileFailed, SummaryFailed, RunOut, RunOutLate}
 use Rattle.ending_laws.specs.Printed.{PrintsSums, PrintsPlainly, PrintsMade}

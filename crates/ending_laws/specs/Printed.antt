@@ -7,7 +7,7 @@ use Rattle.spec_dumps.specs.declared.ran.Ran.{Ran}
 use Rattle.spec_dumps.specs.Summary.{summary}
 use Rattle.spec_run.specs.Verdict.{MirroredRun, run_in, made_list, made_sources}
 use Rattle.spec_run.specs.Journals.{AreWhole}
-use Rattle.summary_laws.specs.Sums.{AddUp, summary_with, plain_sent, plain_dropped}
+use Rattle.output_laws.specs.Sums.{AddUp, summary_with, plain_sent, plain_dropped}
 
 -- The summary of the run was printed, by whole journals, whose counts add up.
 pub record PrintsSums (run : Run) (ran : Option Ran) (said saying : List ℕ) : Type 0 where

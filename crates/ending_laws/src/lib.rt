@@ -22,7 +22,7 @@
 //!
 //! # How
 //!
-//! The end of a run that is done has the journals by which it is. `summary_laws` says of whole journals what is asked here.
+//! The end of a run that is done has the journals by which it is. `output_laws::summaries` says of whole journals what is asked here.
 //!
 //! # What is left to others
 //!

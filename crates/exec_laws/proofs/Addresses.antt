@@ -14,7 +14,7 @@ use Rattle.spec_actions.specs.declared.action.DpAction.TheVariants.{Set}
 use Rattle.spec_base.specs.Bits.{merged}
 use Rattle.spec_exec.specs.Writing.{with_number}
 use Rattle.spec_exec.specs.Rewriting.{corrected, set_field, after_action}
-use Rattle.key_laws.proofs.Forms.{Tags, tags_of, ethernet_key, ethernet_of, whole-key}
+use Rattle.frame_laws.proofs.keys.Forms.{Tags, tags_of, ethernet_key, ethernet_of, whole-key}
 use Rattle.frame_laws.proofs.HeaderLaws.{carried-least}
 use Rattle.exec_laws.proofs.Bytes.{big_endian_at-lt}
 use Rattle.exec_laws.proofs.Replacing.{with_number-length, with_number-reads, with_number-after, with_number-apart}

@@ -17,7 +17,7 @@ use Rattle.spec_frames.specs.Key.{shown}
 use Rattle.spec_exec.specs.Writing.{with_number}
 use Rattle.spec_exec.specs.Places.{Place, Sum, address_sum}
 use Rattle.spec_exec.specs.Rewriting.{followed, corrected}
-use Rattle.key_laws.proofs.Forms.{by_length, by_network}
+use Rattle.frame_laws.proofs.keys.Forms.{by_length, by_network}
 use Rattle.frame_laws.proofs.TransportLaws.{Told, transport-tells}
 use Rattle.frame_laws.proofs.HeaderLaws.{HasSizes, is_ipv4-HasSizes}
 use Rattle.exec_laws.proofs.Replacing.{number-same, with_number-length, with_number-before}

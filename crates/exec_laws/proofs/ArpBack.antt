@@ -20,7 +20,7 @@ use Rattle.spec_frames.specs.Layout.{place_of_network, layout_with, layout_of}
 use Rattle.spec_actions.specs.declared.action.DpAction.TheVariants.{Set}
 use Rattle.spec_exec.specs.Writing.{with_number}
 use Rattle.spec_exec.specs.Rewriting.{corrected, set_field, after_action}
-use Rattle.key_laws.proofs.Forms.{Tags, by_length, by_network, ethernet_key, whole-key, whole-layout}
+use Rattle.frame_laws.proofs.keys.Forms.{Tags, by_length, by_network, ethernet_key, whole-key, whole-layout}
 use Rattle.frame_laws.proofs.HeaderLaws.{carried-least}
 use Rattle.exec_laws.proofs.Bytes.{big_endian_at-lt}
 use Rattle.exec_laws.specs.ReadBack.{ReadsBack}

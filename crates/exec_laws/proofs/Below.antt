@@ -5,7 +5,7 @@ use Rattle.spec_frames.specs.declared.headers.UpperLayer.{UpperLayer}
 use Rattle.spec_frames.specs.declared.headers.Fragment.{Fragment}
 use Rattle.spec_frames.specs.declared.headers.Fragment.TheVariants.{Whole, First, Later}
 use Rattle.spec_frames.specs.Ipv6.{is_extension, is_present, extension_size, fragment, reached, after_extension, upper_layer}
-use Rattle.key_laws.proofs.Chains.{part-cases, upper_layer-keeps}
+use Rattle.frame_laws.proofs.keys.Chains.{part-cases, upper_layer-keeps}
 use Rattle.exec_laws.proofs.Replacing.{number-same}
 
 size-least : (number : ℕ) (frame : List ℕ) (at : ℕ) → 8 ≤ extension_size number frame at

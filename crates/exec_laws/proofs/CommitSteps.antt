@@ -18,7 +18,7 @@ use Rattle.spec_actions.specs.declared.action.DpAction.TheVariants.{PopVlan, Pus
 use Rattle.spec_xlate.specs.Tags.{VlanTag, is_tag, outer_tag, inner_tag, no_tag, is_same_tag, is_full, tags_of, outer_tags, commit_tags}
 use Rattle.spec_xlate.specs.Commit.{fields_before_tags, fields_after_tags, commit, commit_field, commit_fields}
 use Rattle.translation_laws.specs.Applied.{applied, is_tag_or_none, is_proper}
-use Rattle.key_laws.proofs.KeyLaws.{key_of-IsKey}
+use Rattle.frame_laws.proofs.keys.KeyLaws.{key_of-IsKey}
 use Rattle.std.specs.List.{list_all}
 use Rattle.std.proofs.lemmas.List.Elements.{All-cons, All-nil, All-head, All-tail}
 use Rattle.exec_laws.proofs.Within.{count_of, counted-tagged, act-whole}

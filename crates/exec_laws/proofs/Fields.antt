@@ -15,7 +15,7 @@ use Rattle.spec_frames.specs.Ipv6 as ipv6
 use Rattle.spec_frames.specs.Transport.{transport}
 use Rattle.spec_frames.specs.Key.{with_value, shown, with_datagram, with_transport, with_network}
 use Rattle.spec_xlate.specs.Tags.{VlanTag, outer_tag, inner_tag, with_tags}
-use Rattle.key_laws.proofs.Forms.{Tags, ethernet_key, with_addresses}
+use Rattle.frame_laws.proofs.keys.Forms.{Tags, ethernet_key, with_addresses}
 
 -- ---- tags
 

@@ -17,7 +17,7 @@ use Rattle.spec_frames.specs.Network.{network_at, network}
 use Rattle.spec_frames.specs.Transport.{transport}
 use Rattle.spec_frames.specs.Key.{with_value, ip_frag, shown, with_numbers, with_datagram, with_ipv4, with_transport, with_network, key_of}
 use Rattle.spec_frames.specs.Layout.{place_of_network, layout_of}
-use Rattle.key_laws.proofs.Forms.{Tags, by_length, by_network, ethernet_key, whole-key}
+use Rattle.frame_laws.proofs.keys.Forms.{Tags, by_length, by_network, ethernet_key, whole-key}
 use Rattle.frame_laws.proofs.HeaderLaws.{carried-least}
 use Rattle.exec_laws.proofs.Replacing.{number-same}
 use Rattle.exec_laws.proofs.Addresses.{shown_tags}

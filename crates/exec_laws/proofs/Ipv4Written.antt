@@ -18,7 +18,7 @@ use Rattle.spec_frames.specs.Key.{ip_frag, key_of}
 use Rattle.spec_exec.specs.Writing.{with_number}
 use Rattle.spec_exec.specs.Places.{Place, Sum}
 use Rattle.spec_exec.specs.Rewriting.{corrected}
-use Rattle.key_laws.proofs.Forms.{whole-layout}
+use Rattle.frame_laws.proofs.keys.Forms.{whole-layout}
 use Rattle.frame_laws.proofs.HeaderLaws.{carried-least}
 use Rattle.spec_frames.specs.Ethernet.{header_size}
 use Rattle.exec_laws.proofs.Replacing.{number-same, with_number-length, with_number-before, with_number-after}

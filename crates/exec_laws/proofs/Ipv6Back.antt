@@ -22,7 +22,7 @@ use Rattle.spec_actions.specs.declared.action.DpAction.TheVariants.{Set}
 use Rattle.spec_exec.specs.Writing.{with_number}
 use Rattle.spec_exec.specs.Places.{Place, Sum, address_sum}
 use Rattle.spec_exec.specs.Rewriting.{corrected, set_field, after_action}
-use Rattle.key_laws.proofs.Forms.{whole-layout}
+use Rattle.frame_laws.proofs.keys.Forms.{whole-layout}
 use Rattle.frame_laws.proofs.TransportLaws.{Told, transport-tells}
 use Rattle.spec_frames.specs.Ethernet.{header_size}
 use Rattle.exec_laws.proofs.Bytes.{byte, big_endian_at-lt}

@@ -20,7 +20,7 @@ use Rattle.spec_frames.specs.Network.{network_at, network}
 use Rattle.spec_frames.specs.Transport.{transport}
 use Rattle.spec_frames.specs.Key.{with_value, ip_frag, shown, with_numbers, with_datagram, with_ipv6, with_transport, with_network, key_of}
 use Rattle.spec_frames.specs.Layout.{place_of_network, layout_with, layout_of}
-use Rattle.key_laws.proofs.Forms.{Tags, by_length, by_network, ethernet_key, whole-key, whole-layout}
+use Rattle.frame_laws.proofs.keys.Forms.{Tags, by_length, by_network, ethernet_key, whole-key, whole-layout}
 use Rattle.frame_laws.proofs.TransportLaws.{Told}
 use Rattle.frame_laws.proofs.HeaderLaws.{IsPlaced, network-IsPlaced, carried-least}
 use Rattle.exec_laws.proofs.Replacing.{number-same}

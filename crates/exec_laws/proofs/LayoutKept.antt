@@ -16,7 +16,7 @@ use Rattle.spec_exec.specs.Writing.{with_number}
 use Rattle.spec_exec.specs.Rewriting.{after_action}
 use Rattle.exec_laws.specs.ReadBack.{AreBytes}
 use Rattle.exec_laws.proofs.Replacing.{with_number-length, with_number-after}
-use Rattle.key_laws.proofs.Forms.{whole-layout}
+use Rattle.frame_laws.proofs.keys.Forms.{whole-layout}
 use Rattle.exec_laws.proofs.Moved.{upper_on, datagram_on, network_on}
 use Rattle.exec_laws.proofs.Addresses.{set-whole, src-set, dst-set, network-moved, count-same, carried-same, sized_on, same_on}
 use Rattle.exec_laws.proofs.Ipv4Key.{HasIpv4, network-of, kept-has, kept-count, kept-upper, kept-end}

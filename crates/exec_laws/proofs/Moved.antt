@@ -21,7 +21,7 @@ use Rattle.spec_frames.specs.Ipv6.{is_extension, is_present, extension_size, fra
 use Rattle.spec_frames.specs.Network.{by_ipv6, network_at, network}
 use Rattle.spec_frames.specs.Transport.{carries, unless_later, transport}
 use Rattle.spec_frames.specs.Key.{shown, with_transport, with_network}
-use Rattle.key_laws.proofs.Forms.{by_network}
+use Rattle.frame_laws.proofs.keys.Forms.{by_network}
 use Rattle.frame_laws.proofs.TransportLaws.{Fits, Told, transport-tells}
 use Rattle.frame_laws.proofs.HeaderLaws.{IsPlaced, network-IsPlaced}
 

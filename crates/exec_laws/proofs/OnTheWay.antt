@@ -8,7 +8,7 @@ use Rattle.spec_keys.specs.Fields.{place_of, width_of}
 use Rattle.spec_base.specs.Bytes.{big_endian_at}
 use Rattle.spec_keys.specs.Keys.{value_of}
 use Rattle.spec_keys.specs.Protocols.{is_tag_type}
-use Rattle.key_laws.proofs.Forms.{Tags}
+use Rattle.frame_laws.proofs.keys.Forms.{Tags}
 use Rattle.spec_frames.specs.Ethernet.{header_size, type_at, inner_at, is_tag_at, tag_count, carried}
 use Rattle.spec_frames.specs.Network.{network}
 use Rattle.spec_frames.specs.Layout.{layout_of}

@@ -26,7 +26,7 @@ use Rattle.spec_actions.specs.declared.action.DpAction.TheVariants.{Set}
 use Rattle.spec_exec.specs.Writing.{with_number}
 use Rattle.spec_exec.specs.Places.{Place, Sum, port_at, port_sum}
 use Rattle.spec_exec.specs.Rewriting.{corrected, set_at, set_field, after_action}
-use Rattle.key_laws.proofs.Forms.{Tags, ethernet_key, ethernet_of, whole-key, whole-layout}
+use Rattle.frame_laws.proofs.keys.Forms.{Tags, ethernet_key, ethernet_of, whole-key, whole-layout}
 use Rattle.frame_laws.proofs.TransportLaws.{Told, transport-tells}
 use Rattle.frame_laws.proofs.PortLaws.{part_of, network-Shows, ports_of_whole}
 use Rattle.frame_laws.proofs.HeaderLaws.{IsPlaced, network-IsPlaced}

@@ -11,7 +11,7 @@ use Rattle.spec_frames.specs.Ipv4 as ipv4
 use Rattle.spec_frames.specs.Ipv6 as ipv6
 use Rattle.spec_frames.specs.Ipv6.{upper_layer}
 use Rattle.spec_frames.specs.Network.{network_at, network}
-use Rattle.key_laws.proofs.Forms.{by_network}
+use Rattle.frame_laws.proofs.keys.Forms.{by_network}
 use Rattle.frame_laws.proofs.HeaderLaws.{IsPlaced, network-IsPlaced, carried-least}
 use Rattle.exec_laws.proofs.Replacing.{number-same}
 use Rattle.exec_laws.proofs.Kept.{carried-kept}

@@ -4,7 +4,7 @@ use Rattle.spec_base.specs.Bytes.{big_endian, big_endian_at}
 use Rattle.spec_keys.specs.declared.field_id.FieldId.TheVariants.{Reg3, DlSrc, DlType, VlanTci, VlanTpid, VlanTci2, VlanTpid2, NwTtl, TpDst}
 use Rattle.spec_keys.specs.Keys.{none, same, value_of}
 use Rattle.spec_frames.specs.Ethernet.{is_tag_at, tag_count, tci_at, carried, carried_by}
-use Rattle.spec_checksum.specs.Checksum.{updated}
+use Rattle.spec_exec.specs.Checksum.{updated}
 use Rattle.spec_frames.specs.Ipv4.{is_ipv4, ipv4}
 use Rattle.spec_frames.specs.Network.{network_at}
 use Rattle.spec_frames.specs.Transport.{transport}

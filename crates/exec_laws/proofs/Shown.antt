@@ -14,7 +14,7 @@ use Rattle.spec_frames.specs.Transport.{transport}
 use Rattle.spec_frames.specs.Layout.{place_of_network, layout_with, layout_of}
 use Rattle.spec_frames.specs.Key.{key_of}
 use Rattle.spec_exec.specs.Places.{in_arp, in_ipv4, in_ipv6, in_network, port_at, place_in}
-use Rattle.key_laws.proofs.Forms.{whole-layout}
+use Rattle.frame_laws.proofs.keys.Forms.{whole-layout}
 use Rattle.exec_laws.specs.ReadBack.{shows}
 use Rattle.exec_laws.proofs.Moved.{carried_on, network_on, l4_on, transport-on}
 use Rattle.exec_laws.proofs.Addresses.{network-from}

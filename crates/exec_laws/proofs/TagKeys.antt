@@ -7,7 +7,7 @@ use Rattle.spec_frames.specs.Network.{network}
 use Rattle.spec_frames.specs.Key.{key_of}
 use Rattle.spec_xlate.specs.Tags.{VlanTag, outer_tag, inner_tag, no_tag, with_tags, popped}
 use Rattle.spec_exec.specs.Rewriting.{push_tag, pop_tag}
-use Rattle.key_laws.proofs.Forms.{Tags}
+use Rattle.frame_laws.proofs.keys.Forms.{Tags}
 use Rattle.exec_laws.specs.Become.{has_third_tag}
 use Rattle.exec_laws.proofs.Addresses.{shown_tags, keyed_by, key-is}
 use Rattle.exec_laws.proofs.Fields.{network-says}

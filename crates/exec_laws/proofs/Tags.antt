@@ -16,7 +16,7 @@ use Rattle.translation_laws.specs.Applied.{is_tag_or_none}
 use Rattle.exec_laws.proofs.Fields.{outer_of, inner_of}
 use Rattle.spec_actions.specs.declared.action.DpAction.TheVariants.{PopVlan, PushVlan}
 use Rattle.spec_exec.specs.Rewriting.{content_bits, push_tag, pop_tag, after_action}
-use Rattle.key_laws.proofs.Forms.{Tags}
+use Rattle.frame_laws.proofs.keys.Forms.{Tags}
 use Rattle.frame_laws.proofs.HeaderLaws.{carried-IsTyped}
 use Rattle.exec_laws.specs.Become.{has_third_tag}
 use Rattle.exec_laws.proofs.Replacing.{number-of, number-same}

@@ -15,7 +15,7 @@ use Rattle.spec_frames.specs.Layout.{layout_with, layout_of}
 use Rattle.spec_actions.specs.declared.action.DpAction.TheVariants.{PopVlan, Set}
 use Rattle.spec_exec.specs.Places.{place_in}
 use Rattle.spec_exec.specs.Rewriting.{pop_tag, after_action}
-use Rattle.key_laws.proofs.Forms.{whole-layout}
+use Rattle.frame_laws.proofs.keys.Forms.{whole-layout}
 use Rattle.exec_laws.specs.ReadBack.{AreBytes}
 use Rattle.exec_laws.specs.Become.{has_third_tag}
 use Rattle.exec_laws.proofs.Within.{act-whole, set-length}

@@ -20,7 +20,7 @@ use Rattle.translation_laws.specs.Applied.{applied, is_frame_field, is_proper}
 use Rattle.translation_laws.proofs.CommitLaws.{commit-Turns}
 use Rattle.spec_exec.specs.Places.{in_network}
 use Rattle.spec_exec.specs.Sent.{Piece, is_output, sent}
-use Rattle.key_laws.proofs.KeyLaws.{key_of-IsClean}
+use Rattle.frame_laws.proofs.keys.KeyLaws.{key_of-IsClean}
 use Rattle.exec_laws.specs.ReadBack.{shows}
 use Rattle.exec_laws.specs.Sends.{after_actions}
 use Rattle.exec_laws.specs.Become.{is_of_tags, turned, CanTurn, is_register, without_registers, CanBecome}

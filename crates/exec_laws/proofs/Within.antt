@@ -17,7 +17,7 @@ use Rattle.spec_actions.specs.declared.action.DpAction.TheVariants.{Set}
 use Rattle.spec_exec.specs.Writing.{with_number}
 use Rattle.spec_exec.specs.Places.{Place, in_arp, in_ipv4, in_ipv6, in_network, port_at, place_in, Sum, ipv4_sum, header_sum, port_sum, address_sum, transport_sum, sums_of}
 use Rattle.spec_exec.specs.Rewriting.{followed, corrected, with_bits, set_at, set_field, content_bits, push_tag, pop_tag, changed, after_action}
-use Rattle.key_laws.proofs.Forms.{whole-layout}
+use Rattle.frame_laws.proofs.keys.Forms.{whole-layout}
 use Rattle.frame_laws.proofs.HeaderLaws.{network_follows, transport_follows}
 use Rattle.exec_laws.proofs.Replacing.{big_endian-length, with_number-length}
 

@@ -2,3 +2,8 @@ pub mod ReadBack
 pub mod Elsewhere
 pub mod Sends
 pub mod Become
+pub mod Made
+pub mod Outputs
+pub mod Received
+pub mod Followed
+pub mod Right

@@ -46,14 +46,20 @@
 //!
 //! # What is left to others
 //!
-//! That checksums that were right stay right is the matter of `checksum_laws`. That a program rewrites frames as
+//! That checksums that were right stay right is the matter of `checksums`. That a program rewrites frames as
 //! `spec_exec` says is the contract of the crates that execute actions.
+//!
+//! # The parts
+//!
+//! Which frames are sent stands in `sending`, that right checksums stay right in `checksums`.
 #![tactic(auto)]
 
+pub mod checksums;
 mod commits;
 mod layouts;
 mod lengths;
 mod read_back;
+pub mod sending;
 mod sends;
 
 pub use commits::{

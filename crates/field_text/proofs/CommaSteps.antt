@@ -2,7 +2,7 @@
 use Rattle.std.proofs.Common.{◌≡◌, ℕ, suc, ◌+◌, ◌-◌, ◌<◌, ◌≤◌, List, [], ◌∷◌, ◌++◌, length, get_or, take, drop, map, refl, sym, ap, ◌∙◌, arith, add-one, append_assoc, append-nil, drop-cons, drop_of_length-le}
 use Rattle.std.specs.List.{join_with_byte}
 use Rattle.std.proofs.lemmas.List.{take_all}
-use Rattle.spec_numbers.specs.Characters.{comma}
+use Rattle.spec_flow_text.specs.Characters.{comma}
 use Rattle.spec_flow_text.specs.Printed.{list_printed}
 use Rattle.text_numbers.specs.Added.{IsPrefix}
 use Rattle.field_text.specs.CommaLists.{after_commas}

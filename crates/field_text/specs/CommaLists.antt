@@ -1,6 +1,6 @@
 -- Texts of items that stand after another one.
 use Rattle.std.specs.Prelude.{ℕ, List, [], ◌∷◌, ◌++◌}
-use Rattle.spec_numbers.specs.Characters.{comma}
+use Rattle.spec_flow_text.specs.Characters.{comma}
 
 -- the text of each after a comma
 unfoldable pub after_commas : {A : Type 0} → (A → List ℕ) → List A → List ℕ

@@ -1,7 +1,7 @@
 ghost use Rattle.std.specs.Prelude.{◌≡◌, ◌≤◌, ◌==◌, drop, length, position, not, IfOk};
 ghost use Rattle.std.specs.List.{prefix_len};
 ghost use Rattle.std.specs.Char.{is_ascii};
-ghost use Rattle.spec_numbers.specs.Characters.{number_sign};
+ghost use Rattle.spec_flow_text.specs.Characters.{number_sign};
 ghost use Rattle.spec_flow_text.specs.Items.{is_white, is_separator};
 ghost use Rattle.spec_flow_text.specs.Matches.{uncommented, ascii_from};
 ghost use Rattle.field_text.specs.WordViews.{text_read};

@@ -1,6 +1,6 @@
 ghost use Rattle.std.specs.Prelude.{ℕ, Bool, List, ◌∷◌, IsTrue};
 ghost use Rattle.std.specs.List.{list_all};
-ghost use Rattle.spec_numbers.specs.Characters.{comma};
+ghost use Rattle.spec_flow_text.specs.Characters.{comma};
 ghost use Rattle.spec_flow_text.specs.Printed.{list_printed};
 ghost use Rattle.text_numbers.specs.Added.{Adds};
 ghost use Rattle.field_text.specs.CommaLists.{after_commas};

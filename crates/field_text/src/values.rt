@@ -2,7 +2,7 @@ ghost use Rattle.std.specs.Prelude.{◌≡◌, ℕ, ◌<◌, ◌≤◌, ◌^◌,
 ghost use Rattle.std.specs.Option.{option_map, option_and_then};
 ghost use Rattle.spec_base.specs.Bits.{all_bits};
 ghost use Rattle.spec_actions.specs.Named.{named};
-ghost use Rattle.spec_numbers.specs.Numbers.{number_upto, last_port, nonzero};
+ghost use Rattle.spec_flow_text.specs.Numbers.{number_upto, last_port, nonzero};
 ghost use Rattle.spec_flow_text.specs.Names.{meaning_of};
 ghost use Rattle.spec_flow_text.specs.Values as values;
 ghost use Rattle.field_text.specs.Views.{bits_view, limit, AreBelow, Fits};

@@ -1,6 +1,6 @@
-use edge_memory::MemoryShelf;
-use pcap_reader::{PcapFault, Trace, read_trace};
-use pcap_writer::PcapWriter;
+use edge_io::memory::MemoryShelf;
+use pcap_files::reader::{PcapFault, Trace, read_trace};
+use pcap_files::writer::PcapWriter;
 use std::alloc::{AllocError, Global};
 use std::test::Fail;
 

@@ -3,7 +3,7 @@
 //!
 //! A contract says what is read where there is memory, so a body that always says that there is none would meet it. Such a
 //! body fails here. The tests stand in a crate of their own, since a crate with tests is proved twice. Those of the
-//! system's files stand in `edge_real`.
+//! system's files stand in `edge_io::real`.
 #![tactic(auto)]
 
 #[cfg(test)]

@@ -1,8 +1,8 @@
 ghost use Rattle.std.specs.Prelude.{◌≡◌, OnOk};
 ghost use Rattle.edge_io.specs.declared.outside.InUse.TheVariants.{Nothing};
 
+use edge_io::memory::{FixedSink, MemoryShelf, MemorySink, SteadyShelf, SteadySink};
 use edge_io::{Failed, ReadFault, Shelf, read_all, say_all, write_all};
-use edge_memory::{FixedSink, MemoryShelf, MemorySink, SteadyShelf, SteadySink};
 use std::alloc::Global;
 use std::test::Fail;
 

@@ -12,13 +12,13 @@ use Rattle.spec_xlate.specs.Translation.{Switch, pipe}
 use Rattle.spec_keys.specs.Keys.{IsKey}
 use Rattle.spec_board.specs.Results.{entry_of, numbers_of, switch_at}
 use Rattle.board_laws.specs.Entries.{IsMade}
-use Rattle.spec_dp_text.specs.Within.{AreWithinFields}
+use Rattle.spec_flow_text.specs.Within.{AreWithinFields}
 use Rattle.spec_dumps.specs.Megaflows.{megaflow_line}
 use Rattle.megaflow_table.specs.declared.entry.Entry as flows
 use Rattle.megaflow_table.specs.Entries as table
 use Rattle.port_caches.specs.declared.lists.HeldList.{HeldList}
 use Rattle.port_caches.specs.Views.{entry_view, actions_at}
-use Rattle.megaflow_lines.specs.Views.{entry_with}
+use Rattle.dump_lines.specs.Views.{entry_with}
 use Rattle.flow_dump.specs.Numbered.{line_of_number}
 
 -- ---- entries, and as they are kept

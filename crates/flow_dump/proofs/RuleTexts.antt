@@ -22,12 +22,12 @@ use Rattle.edge_io.specs.declared.outside.Shelf as shelf
 use Rattle.edge_io.specs.Written.{WritesFile}
 use Rattle.rule_tables.specs.History.{History, applied, history_of}
 use Rattle.rule_tables.proofs.Histories.{applied-edit_history, rules_of-history}
-use Rattle.rule_lines.specs.declared.places.RulePlace.{RulePlace}
-use Rattle.rule_lines.specs.Live.{IsOfEdits, live_in, is_gone_in}
-use Rattle.rule_lines.specs.Places.{place_of}
-use Rattle.rule_lines.proofs.Added.{added_as-rule_added}
-use Rattle.rule_lines.proofs.Listed.{IsListed, listed}
-use Rattle.rule_sums.specs.Counted.{AreCounts}
+use Rattle.dump_lines.specs.declared.rules.places.RulePlace.{RulePlace}
+use Rattle.dump_lines.specs.Live.{IsOfEdits, live_in, is_gone_in}
+use Rattle.dump_lines.specs.Places.{place_of}
+use Rattle.dump_lines.proofs.rules.Added.{added_as-rule_added}
+use Rattle.dump_lines.proofs.rules.Listed.{IsListed, listed}
+use Rattle.flow_dump.specs.Counted.{AreCounts}
 use Rattle.flow_dump.specs.RuleTexts.{counts_in, live_text, gone_text, lines_of}
 
 module _ (run : Run) (journals : List Journal) (counts : List RuleCounts) (are : AreCounts run journals counts) (whole : AreBundles run.bundles (edit_count run)) (sound : IsTrue (list_all has_sound_actions run.edits)) where

@@ -3,3 +3,5 @@ pub mod Boards
 pub mod StepCounts
 pub mod Numbered
 pub mod RuleTexts
+pub mod Counted
+pub mod Sums

@@ -4,8 +4,8 @@ use Rattle.std.specs.List.{flat_map, range_with_len}
 use Rattle.rule_tables.specs.History.{History, applied}
 use Rattle.spec_dumps.specs.declared.rule_counts.RuleCounts.{RuleCounts}
 use Rattle.spec_dumps.specs.Rules.{gone_line_with}
-use Rattle.rule_lines.specs.declared.places.RulePlace.{RulePlace}
-use Rattle.rule_lines.specs.Live.{live_line, is_gone_in}
+use Rattle.dump_lines.specs.declared.rules.places.RulePlace.{RulePlace}
+use Rattle.dump_lines.specs.Live.{live_line, is_gone_in}
 
 -- the counts of a rule, in a list by numbers
 abbrev pub counts_in : List RuleCounts → ℕ → RuleCounts

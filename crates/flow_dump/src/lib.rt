@@ -27,8 +27,8 @@
 //!
 //! What is written of each board, its journal or its megaflows, is a choice that one walk over the boards takes.
 //!
-//! The counts of all rules are summed once, over the boards and their megaflows (`rule_sums`), and the rules sorted once
-//! (`rule_lines`).
+//! The counts of all rules are summed once, over the boards and their megaflows (`sums`), and the rules sorted once
+//! (`dump_lines::rules`).
 //!
 //! A port lends the list of its megaflows' numbers, which rise, and each is looked up once. What a megaflow does can be
 //! printed since it is a translation of a key: that is a law of boards.
@@ -38,9 +38,11 @@
 //!
 //! # What is left to others
 //!
-//! The text of a step (`board_steps`), of a rule (`rule_lines`) and of a megaflow (`megaflow_lines`), that the boards are
+//! The text of a step (`board_steps`), of a rule (`dump_lines::rules`) and of a megaflow (`dump_lines::megaflows`), that the boards are
 //! finished and in the order of the words (`run_boards`), and the name of the file. What a shelf does with a file that
 //! was written in part: it may still be in use.
+//!
+//! What all boards counted of a rule stands in `sums`.
 #![tactic(auto)]
 
 mod boards;
@@ -50,6 +52,7 @@ mod megaflows;
 mod rules;
 mod step_counts;
 mod summary;
+pub mod sums;
 
 pub use boards::{write_journals, write_megaflows};
 pub use rules::write_rules;

@@ -1,18 +1,18 @@
 ghost use Rattle.std.specs.Prelude.{◌≡◌, Some, IsSome};
 ghost use Rattle.std.specs.Option.{option_map};
 ghost use Rattle.spec_board.specs.Results.{entry_of};
-ghost use Rattle.spec_dp_text.specs.Within.{AreWithinFields};
+ghost use Rattle.spec_flow_text.specs.Within.{AreWithinFields};
 ghost use Rattle.spec_dumps.specs.Megaflows.{megaflow_line, port_megaflows_text};
 ghost use Rattle.edge_io.specs.declared.outside.InUse.TheVariants.{Created};
 ghost use Rattle.edge_io.specs.Written.{WritesAll};
 ghost use Rattle.pmd_board.specs.BoardView.{journal_view, state_of};
-ghost use Rattle.megaflow_lines.specs.Views.{entry_with};
+ghost use Rattle.dump_lines.specs.Views.{entry_with};
 ghost use Rattle.flow_dump.specs.Numbered.{line_of_number};
 
 use board_laws::{entries_are_found, entries_cover_what_they_were_made_for};
 use dp_text::translation_is_within_fields;
+use dump_lines::megaflows::push_megaflow;
 use edge_io::{Failed, Shelf, write_all};
-use megaflow_lines::push_megaflow;
 use megaflow_table::Entry;
 use pmd_board::Board;
 use run_case::Case;

@@ -5,12 +5,12 @@ ghost use Rattle.spec_dumps.specs.Rules.{rules_text};
 ghost use Rattle.edge_io.specs.declared.outside.InUse.TheVariants.{Nothing, Created};
 ghost use Rattle.edge_io.specs.Written.{WritesAll, WritesFile};
 ghost use Rattle.rule_tables.specs.History.{applied, history_of};
-ghost use Rattle.rule_lines.specs.Live.{IsOfEdits, IsLiveIn, live_line};
+ghost use Rattle.dump_lines.specs.Live.{IsOfEdits, IsLiveIn, live_line};
 ghost use Rattle.flow_dump.specs.RuleTexts.{live_text, gone_text, lines_of};
 
+use crate::sums::count_rules;
+use dump_lines::rules::{RulePlace, is_gone, live_in_order, push_gone, push_live};
 use edge_io::{Failed, Shelf, write_all, write_file};
-use rule_lines::{RulePlace, is_gone, live_in_order, push_gone, push_live};
-use rule_sums::count_rules;
 use rule_tables::VersionedRules;
 use run_boards::Finished;
 use run_case::{Case, RunData};

@@ -1,1 +1,3 @@
 pub mod Folded
+pub mod Within
+pub mod Laid

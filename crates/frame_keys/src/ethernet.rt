@@ -5,7 +5,7 @@ ghost use Rattle.spec_frames.specs.Key.{with_outer_tag, with_inner_tag, with_tag
 ghost use Rattle.frame_keys.specs.Folded.{folded};
 
 use crate::field::set_field;
-use frame_headers::{INNER_TAG_AT, OUTER_TAG_AT, tci_at, tpid_at};
+use crate::headers::{INNER_TAG_AT, OUTER_TAG_AT, tci_at, tpid_at};
 use net_bytes::be48;
 use ovs_fields::{FieldId, Key};
 

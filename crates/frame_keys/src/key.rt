@@ -6,14 +6,14 @@ ghost use Rattle.spec_frames.specs.Network.{network};
 ghost use Rattle.spec_frames.specs.Key.{with_ethernet, port_size, with_ports, with_icmp, with_transport, shown, ip_frag, with_datagram, with_network, key_of as key_numbers};
 ghost use Rattle.ovs_fields.specs.Packed.{numbers};
 ghost use Rattle.frame_keys.specs.Folded.{folded};
-ghost use Rattle.frame_headers.specs.Within.{IsWithin, IsBefore};
+ghost use Rattle.frame_keys.specs.Within.{IsWithin, IsBefore};
 
 use crate::arp::set_arp;
 use crate::ethernet::set_ethernet;
 use crate::field::{key_at, set_field};
+use crate::headers::{HEADER_SIZE, carried, network_at, tag_count, transport};
 use crate::ipv4::set_ipv4;
 use crate::ipv6::set_ipv6;
-use frame_headers::{HEADER_SIZE, carried, network_at, tag_count, transport};
 use net_bytes::be16;
 use ovs_fields::{FieldId, Key};
 use spec_frames::{Datagram, Fragment, L4, Network};

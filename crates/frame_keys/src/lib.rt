@@ -15,19 +15,25 @@
 //!
 //! # How
 //!
-//! `frame_headers` finds the headers, and reads the network header once. Each header has a module here, which gives a
+//! `headers` finds the headers, and reads the network header once. Each header has a module here, which gives a
 //! key its fields. Nothing is copied, and each number is read where it stands.
 //!
 //! # What is left to others
 //!
 //! Which frame is asked about, and all that a key is compared with.
+//!
+//! # The parts
+//!
+//! The headers of a frame stand in `headers`, where they begin in `layout`.
 #![tactic(auto)]
 
 mod arp;
 mod ethernet;
 mod field;
+pub mod headers;
 mod ipv4;
 mod ipv6;
 mod key;
+pub mod layout;
 
 pub use key::key_of;

@@ -21,9 +21,9 @@ use Rattle.spec_frames.specs.Network.{by_ipv6, network_at, network}
 use Rattle.spec_frames.specs.Transport.{tcp_size, udp_size, icmp_size, icmp6_size, transport}
 use Rattle.spec_frames.specs.Layout.{place_of_network, layout_with, layout_of}
 use Rattle.frame_laws.specs.Headers.{FollowsType, FollowsIp}
-use Rattle.key_laws.proofs.Forms.{by_network, by_length}
+use Rattle.frame_laws.proofs.keys.Forms.{by_network, by_length}
 use Rattle.frame_laws.proofs.TransportLaws.{Fits, Told, transport-tells}
-use Rattle.key_laws.proofs.Chains.{upper_layer-keeps}
+use Rattle.frame_laws.proofs.keys.Chains.{upper_layer-keeps}
 
 -- ---- the type field
 

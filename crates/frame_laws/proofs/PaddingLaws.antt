@@ -25,7 +25,7 @@ use Rattle.spec_frames.specs.Transport.{tcp_size, udp_size, icmp_size, icmp6_siz
 use Rattle.spec_frames.specs.Key.{shown, with_transport, with_network, key_of}
 use Rattle.spec_frames.specs.Layout.{place_of_network, layout_with, layout_of}
 use Rattle.frame_laws.specs.Headers.{end_by, packet_end}
-use Rattle.key_laws.proofs.Forms.{by_network, ethernet_of, short-layout, whole-key, whole-layout}
+use Rattle.frame_laws.proofs.keys.Forms.{by_network, ethernet_of, short-layout, whole-key, whole-layout}
 use Rattle.frame_laws.proofs.TransportLaws.{Fits, Told, transport-tells}
 use Rattle.frame_laws.proofs.HeaderLaws.{tag_count-few, carried-least, HasSizes, is_ipv4-HasSizes}
 

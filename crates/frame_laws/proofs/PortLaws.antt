@@ -19,7 +19,7 @@ use Rattle.spec_frames.specs.Transport.{unless_later, transport}
 use Rattle.spec_frames.specs.Layout.{layout_of}
 use Rattle.spec_frames.specs.Key.{port_size, ip_frag, shown, with_datagram, with_transport, with_network, key_of}
 use Rattle.frame_laws.specs.Numbers.{HasPorts}
-use Rattle.key_laws.proofs.Forms.{Tags, no_tags, tags_of, ethernet_key, with_addresses, by_length}
+use Rattle.frame_laws.proofs.keys.Forms.{Tags, no_tags, tags_of, ethernet_key, with_addresses, by_length}
 
 -- ---- the fields of a key by its network header
 

@@ -16,7 +16,7 @@ use Rattle.spec_frames.specs.Layout.{place_of_network, layout_of}
 use Rattle.spec_frames.specs.Key.{ip_frag, key_of}
 use Rattle.frame_laws.specs.Headers.{is_ipv4, is_ipv6, is_ip, upper_at, upper_size}
 use Rattle.frame_laws.specs.Numbers.{Carries}
-use Rattle.key_laws.proofs.Forms.{by_length}
+use Rattle.frame_laws.proofs.keys.Forms.{by_length}
 use Rattle.frame_laws.proofs.PortLaws.{part_of, protocol_in, Shows, network-Shows}
 
 -- A packet is no later fragment and carries this protocol, with so many bytes at least, from this offset on.

@@ -19,7 +19,7 @@
 //!
 //! # How
 //!
-//! The forms of keys and layouts are those of `key_laws`, which has the two laws of keys themselves. What an IPv6 packet
+//! The forms of keys and layouts are those of `keys`, which has the two laws of keys themselves. What an IPv6 packet
 //! carries is reached by a chain of extension headers, of at most 8, and what is said of it is proved by induction on how
 //! many may still follow. Each of them is known to have 8 bytes before the packet's end before its size is read, so that
 //! nothing after that end is.
@@ -28,8 +28,11 @@
 //!
 //! That a program finds the key and the layout defined is the contract of the crates that read frames. Sums over the
 //! bytes of a packet, as checksums, are no matter of these laws.
+//!
+//! What readers of frames need of keys stands in `keys`.
 #![tactic(auto)]
 
+pub mod keys;
 mod keys;
 mod places;
 mod ports;

@@ -1,4 +1,4 @@
-use frame_layout::{L3, L4, Layout, layout_of};
+use frame_keys::layout::{L3, L4, Layout, layout_of};
 use std::alloc::{AllocError, Global};
 use std::test::Fail;
 

@@ -8,8 +8,8 @@ use Rattle.spec_case.specs.Run.{Run, frames_of}
 use Rattle.spec_case.specs.Blocks.{block_of}
 use Rattle.spec_board.specs.State.{place_at, is_pending}
 use Rattle.spec_board.specs.Refusals.{look_fault}
-use Rattle.run_blocks.specs.Places.{HasPlace}
-use Rattle.run_blocks.proofs.Blocks.{block_of-after}
+use Rattle.run_case.specs.Places.{HasPlace}
+use Rattle.run_case.proofs.blocks.Blocks.{block_of-after}
 use Rattle.board_laws.proofs.PlaceLaws.{pending_from, pending_upto}
 use Rattle.run_xlate.specs.Views.{XlateView}
 use Rattle.pmd_board.specs.BoardView.{BoardView, IsLawful, state_of}

@@ -3,7 +3,7 @@ use Rattle.std.specs.Prelude.{◌≡◌, ℕ, ◌≤◌, List, Some}
 use Rattle.spec_case.specs.Run.{Run}
 use Rattle.spec_board.specs.State.{Entry, State}
 use Rattle.spec_board.specs.Results.{key_at, entry_of}
-use Rattle.run_blocks.specs.Places.{HasPlace}
+use Rattle.run_case.specs.Places.{HasPlace}
 
 -- There is such a place, and this is the key of its frame.
 pub record IsKeyOfPlace (run : Run) (port place : ℕ) (key : List ℕ) : Type 0 where

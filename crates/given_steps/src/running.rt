@@ -13,11 +13,11 @@ ghost use Rattle.given_steps.specs.Running.{without_kept};
 use crate::schedule::{boards_after, scheduled_boards, take_given};
 use run_boards::{Boards, Finished};
 use run_case::{Case, RunData};
-use run_edits::RunEdits;
 use spec_case::RunStep;
 use spec_dumps::Ran;
 use std::alloc::{AllocError, Global};
 use step_runner::finish;
+use table_versions::edits::RunEdits;
 use table_versions::{RunTables, Tables};
 
 /// Carries out given steps on the boards of a run, one after the other, and answers the boards, how many steps there were

@@ -12,9 +12,9 @@ use crate::steps::take_step;
 use pmd_board::Board;
 use run_boards::Boards;
 use run_case::{Case, RunData};
-use run_edits::RunEdits;
 use spec_case::RunStep;
 use std::alloc::{AllocError, Global};
+use table_versions::edits::RunEdits;
 use table_versions::{RunTables, Tables};
 
 // ---- boards that begin and end

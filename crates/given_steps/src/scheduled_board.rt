@@ -1,5 +1,5 @@
 ghost use Rattle.std.specs.Prelude.{◌≡◌, []};
-ghost use Rattle.run_blocks.specs.Places.{HasPort};
+ghost use Rattle.run_case.specs.Places.{HasPort};
 ghost use Rattle.pmd_board.specs.BoardView.{IsLawful, state_of};
 
 use crate::kept::KeptXlates;

@@ -1,6 +1,6 @@
 -- The lines of a text, one after the other, as a loop reads them.
 use Rattle.std.proofs.Common.{◌≡◌, ℕ, ◌+◌, List, Some, None, Result, Ok, Err, refl, sym, ◌∙◌}
-use Rattle.spec_numbers.specs.Numbers.{split_once}
+use Rattle.spec_flow_text.specs.Numbers.{split_once}
 use Rattle.text_numbers.proofs.Cuts.{none_cut, some_split}
 use Rattle.spec_script.specs.declared.fault.FileFault.{FileFault}
 use Rattle.spec_script.specs.declared.fault.FileFault.TheVariants.{Line, SyncOrder, LineTooLong, TooManyEdits, TooManySyncs, TooManySteps, TooManyMirrors, OutOfMemory}

@@ -1,4 +1,4 @@
-use prefix_tracker::PrefixTrie;
+use address_prefixes::tracker::PrefixTrie;
 use std::test::Fail;
 
 /// The bits of an IPv4 address.

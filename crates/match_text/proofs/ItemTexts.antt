@@ -2,7 +2,7 @@
 use Rattle.std.proofs.Common.{◌≡◌, ℕ, ◌+◌, ◌<◌, ◌≤◌, Bool, true, false, List, [], ◌∷◌, ◌++◌, map, length, get_or, drop, refl, sym, ap, ◌∙◌, append_assoc, append-nil}
 use Rattle.std.specs.List.{join_with_byte, flat_map}
 use Rattle.std.proofs.lemmas.List.{drop_more, drop_all}
-use Rattle.spec_numbers.specs.Characters.{comma}
+use Rattle.spec_flow_text.specs.Characters.{comma}
 use Rattle.spec_flow_text.specs.Printed.{Shown, shown_text}
 use Rattle.text_numbers.specs.Added.{IsPrefix}
 use Rattle.match_text.specs.Shown.{lead, items_text, begun_after}

@@ -1,6 +1,6 @@
 -- The items of a match as they are printed, as the definitions see them.
 use Rattle.std.specs.Prelude.{ℕ, Bool, true, false, List, [], ◌∷◌, ◌++◌, Option, Some, None}
-use Rattle.spec_numbers.specs.Characters.{comma}
+use Rattle.spec_flow_text.specs.Characters.{comma}
 use Rattle.spec_flow_text.specs.Printed as printed
 use Rattle.field_text.specs.Views.{bits_view, Fits}
 use Rattle.match_text.specs.declared.shown.Shown.{Shown}

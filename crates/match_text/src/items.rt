@@ -1,8 +1,8 @@
 ghost use Rattle.std.specs.Prelude.{◌≡◌, ◌≤◌, ◌+◌, ◌==◌, true, length, codes, IfOk, IfSome};
 ghost use Rattle.std.specs.Option.{option_map, option_or};
 ghost use Rattle.std.specs.List.{list_any};
-ghost use Rattle.spec_numbers.specs.Characters.{slash};
-ghost use Rattle.spec_numbers.specs.Numbers.{strip_prefix};
+ghost use Rattle.spec_flow_text.specs.Characters.{slash};
+ghost use Rattle.spec_flow_text.specs.Numbers.{strip_prefix};
 ghost use Rattle.spec_flow_text.specs.Given.{Gives};
 ghost use Rattle.spec_actions.specs.Sound.{last_table};
 ghost use Rattle.spec_flow_text.specs.Items.{◌>>=◌ as ◌then◌, deletes, is_plain_cookie, last_priority, greatest_cookie, number_once, with_valued, with_bare, with_item, list_start, is_separator, words, read_items};

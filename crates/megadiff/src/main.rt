@@ -5,13 +5,13 @@
 //! ones: the words after the program's name, the files of the system by names from the current folder, and standard
 //! output.
 //!
-//! What is not proved is what the system does. `edge_real` promises only that each failed call is counted, and from
+//! What is not proved is what the system does. `edge_io::real` promises only that each failed call is counted, and from
 //! there on `run_diff` answers for what it is told.
 #![tactic(auto)]
 
 use diff_app::{OUT_OF_MEMORY, run_diff};
+use edge_io::real::{RealShelf, StdoutSink};
 use edge_io::say_all;
-use edge_real::{RealShelf, StdoutSink};
 use std::env;
 use std::io::{self, ErrorKind};
 use std::process::ExitCode;

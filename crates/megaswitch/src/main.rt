@@ -5,12 +5,12 @@
 //! real ones: the words after the program's name, the files of the system by names from the current folder, and
 //! standard output.
 //!
-//! What is not proved is what the system does. No contract can say what a disk holds or takes; `edge_real` promises
+//! What is not proved is what the system does. No contract can say what a disk holds or takes; `edge_io::real` promises
 //! only that each failed call is counted, and from there on `run_switch` answers for what it is told.
 #![tactic(auto)]
 
+use edge_io::real::{RealShelf, StdoutSink};
 use edge_io::{OpenGate, say_all};
-use edge_real::{RealShelf, StdoutSink};
 use std::env;
 use std::io::{self, ErrorKind};
 use std::process::ExitCode;

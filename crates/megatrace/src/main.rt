@@ -4,12 +4,12 @@
 //! with, over any files and any standard output that keep to the traits of `edge_io`. This file hands it the real ones: the
 //! words after the program's name, the files of the system by names from the current folder, and standard output.
 //!
-//! What is not proved is what the system does. `edge_real` promises only that each failed call is counted, and from there on
+//! What is not proved is what the system does. `edge_io::real` promises only that each failed call is counted, and from there on
 //! `run_trace` answers for what it is told.
 #![tactic(auto)]
 
+use edge_io::real::{RealShelf, StdoutSink};
 use edge_io::say_all;
-use edge_real::{RealShelf, StdoutSink};
 use std::env;
 use std::io::{self, ErrorKind};
 use std::process::ExitCode;

@@ -3,7 +3,7 @@ use Rattle.std.proofs.Common.{◌≡◌, ℕ, ◌+◌, ◌-◌, ◌*◌, ◌/◌
 use Rattle.std.specs.Prelude.{All, Any, sum, fold}
 use Rattle.std.proofs.lemmas.List.Elements.{All-head, All-tail, All-append, All-cons}
 use Rattle.std.proofs.lemmas.List.Sums.{sum_by-append, sum_by-cons, get_or-le-sum_by, sum_by-le}
-use Rattle.spec_checksum.specs.Checksum.{words, complement, ones_add, ones_sum, checksum, updated}
+use Rattle.spec_exec.specs.Checksum.{words, complement, ones_add, ones_sum, checksum, updated}
 use Rattle.net_bytes.specs.Update.{IsWord, IsRecomputed}
 
 -- What a total comes to where each carry is added at the end: congruent to it, and 0 only where it is 0.

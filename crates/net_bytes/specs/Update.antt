@@ -1,6 +1,6 @@
 -- The update of a checksum, against computing it anew.
 use Rattle.std.specs.Prelude.{◌≡◌, ℕ, ◌-◌, ◌<◌, List, ◌∷◌, ◌++◌, All, Any}
-use Rattle.spec_checksum.specs.Checksum.{words, checksum, updated}
+use Rattle.spec_exec.specs.Checksum.{words, checksum, updated}
 
 -- a word of 16 bits
 abbrev pub IsWord : ℕ → Type 0

@@ -1,6 +1,6 @@
 //! Checksums of the Internet protocols, and their update (RFC 1071 and 1624).
 ghost use Rattle.std.specs.Prelude.{◌≡◌};
-ghost use Rattle.spec_checksum.specs.Checksum.{checksum, ones_add, updated};
+ghost use Rattle.spec_exec.specs.Checksum.{checksum, ones_add, updated};
 ghost use Rattle.net_bytes.specs.Update.{UpdateIsRecomputing};
 
 // The sum in ones' complement: what is carried out of the word is added again at its end.
@@ -12,7 +12,7 @@ fn ones_add(a: u16, b: u16) -> u16
 }
 
 /// The checksum of words of 16 bits, of which the one in its own place is 0.
-#[tactic(auto, unfolding(spec_checksum::specs::Checksum::checksum))]
+#[tactic(auto, unfolding(spec_exec::specs::Checksum::checksum))]
 pub fn checksum_of(words: &[u16]) -> u16
     ensures { result ≡ checksum words.now }
 {
@@ -27,7 +27,7 @@ pub fn checksum_of(words: &[u16]) -> u16
 ///
 /// The checksum was `sum`, and the word was `from` and is `to` now. It is the checksum of the words as they are now, but
 /// for the two zeros of ones' complement (`update_is_recomputing`).
-#[tactic(auto, unfolding(spec_checksum::specs::Checksum::updated))]
+#[tactic(auto, unfolding(spec_exec::specs::Checksum::updated))]
 pub fn checksum_update(sum: u16, from: u16, to: u16) -> u16
     ensures { result ≡ updated sum from to }
 {

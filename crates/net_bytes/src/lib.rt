@@ -13,8 +13,8 @@
 //!
 //! - A number that is read is exactly the one of `spec_base` at the offset. `be48` says too that it has 48 bits.
 //! - A write puts the number's bytes at the offset. The bytes before and after stay, and so does the length.
-//! - The checksum of words is the one of `spec_checksum`.
-//! - The updated checksum is the one of equation 3 of RFC 1624, as `spec_checksum` states it.
+//! - The checksum of words is the one of `spec_exec::checksum`.
+//! - The updated checksum is the one of equation 3 of RFC 1624, as `spec_exec::checksum` states it.
 //! - Updating is recomputing (`update_is_recomputing`): for all words the updated checksum is the one of the words as
 //!   they are now. Only where these are all 0 do the two differ: the update gives 0, and recomputing gives 65,535. No
 //!   header of IPv4 is all 0, since its first four bits are not.

@@ -21,7 +21,7 @@ use Rattle.spec_frames.specs.Key.{key_of}
 use Rattle.spec_case.specs.declared.arrival.Arrival.{Arrival}
 use Rattle.spec_case.specs.Run.{Run, frame_at}
 use Rattle.spec_netflow.specs.Flows.{Decided, Flow, came_in, source_port, destination_port, control_bits_at, control_bits, packets, is_of, most_octets, has_room, takes, joined, with_packet, flows_of, flows}
-use Rattle.key_laws.proofs.KeyLaws.{key_of-IsKey}
+use Rattle.frame_laws.proofs.keys.KeyLaws.{key_of-IsKey}
 use Rattle.netflow_laws.specs.Widths.{IsWithin, AreWithin, IsOfWidths, AreOfWidths}
 use Rattle.netflow_laws.proofs.EachPacket.{OfPacket, each_packet, packets_at_most}
 use Rattle.netflow_laws.proofs.IcmpPorts.{type_and_code}

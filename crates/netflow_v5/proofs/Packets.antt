@@ -5,7 +5,7 @@ use Rattle.spec_frames.specs.declared.layout.L3.TheVariants as network
 use Rattle.spec_frames.specs.Ethernet.{carried}
 use Rattle.spec_frames.specs.Ipv4.{total_size}
 use Rattle.spec_frames.specs.Layout.{layout_of, place_of_network}
-use Rattle.key_laws.proofs.Forms.{by_length, by_network}
+use Rattle.frame_laws.proofs.keys.Forms.{by_length, by_network}
 use Rattle.frame_laws.proofs.HeaderLaws.{is_ipv4-HasSizes}
 
 -- where the header is one of IPv4, its total length is above 0

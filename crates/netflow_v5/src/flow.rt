@@ -4,13 +4,13 @@ ghost use Rattle.spec_keys.specs.Protocols.{icmp_protocol};
 ghost use Rattle.spec_frames.specs.declared.layout.L3.TheVariants.{Ipv4};
 ghost use Rattle.spec_frames.specs.Layout.{layout_of};
 ghost use Rattle.spec_netflow.specs.Flows.{first_output, control_bits, alone};
-ghost use Rattle.frame_headers.specs.Within.{IsBefore};
-ghost use Rattle.frame_layout.specs.Laid.{AreBefore};
+ghost use Rattle.frame_keys.specs.Within.{IsBefore};
+ghost use Rattle.frame_keys.specs.Laid.{AreBefore};
 ghost use Rattle.netflow_v5.specs.Views.{HasNumbers, told_source, told_destination, flow_view};
 
 use crate::class::FlowClass;
 use frame_keys::key_of;
-use frame_layout::{L4, Layout};
+use frame_keys::layout::{L4, Layout};
 use net_bytes::be16;
 use spec_actions::DpAction;
 use spec_netflow::FlowRecord;

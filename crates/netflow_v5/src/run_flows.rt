@@ -3,11 +3,11 @@ ghost use Rattle.std.specs.Prelude.{◌≡◌, ◌/◌, ◌<◌, ◌^◌, All, I
 ghost use Rattle.spec_pcap.specs.Pcap.{second};
 ghost use Rattle.spec_run.specs.Journals.{actions_for};
 ghost use Rattle.spec_netflow.specs.Flows.{came_in, time_at, first_time, last_time, uptime, export_time, packet_of, with_packet, flows};
-ghost use Rattle.frame_arrivals.specs.Arrivals.{IsArrival};
+ghost use Rattle.run_boards.specs.Arrivals.{IsArrival};
 
 use crate::flow::alone;
 use crate::flow_table::FlowTable;
-use frame_layout::{L3, layout_of};
+use frame_keys::layout::{L3, layout_of};
 use run_boards::Finished;
 use run_case::{Case, RunData};
 use spec_case::Arrival;

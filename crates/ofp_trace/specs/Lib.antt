@@ -1,3 +1,4 @@
 pub mod Notes
 pub mod Watching
 pub mod Winners
+pub mod Pieces

@@ -26,9 +26,12 @@
 //!
 //! # What is left to others
 //!
-//! What a trace is printed as (`trace_lines`), and which tables and which packet it is of (`trace_app`).
+//! What a trace is printed as (`lines`), and which tables and which packet it is of (`trace_app`).
+//!
+//! The lines of a trace stand in `lines`.
 #![tactic(auto)]
 
+pub mod lines;
 mod path;
 mod tracing;
 mod watched;

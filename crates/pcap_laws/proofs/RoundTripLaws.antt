@@ -13,8 +13,8 @@ use Rattle.spec_pcap.specs.declared.format.Format.{Format}
 use Rattle.spec_pcap.specs.declared.format.ByteOrder.TheVariants.{LittleEndian}
 use Rattle.spec_pcap.specs.Pcap.{Frame, preceded, second, snap_length, header_length, record_header_length, unit_of, header, record_header, record_of, file_of, format_of, record_fault, record_frame, captured_at, record_end, frames_from}
 use Rattle.pcap_laws.specs.RoundTrip.{IsKept, WrittenIsRead}
-use Rattle.pcap_reader.proofs.Walk.{Walked, frames_from-end, frames_from-record}
-use Rattle.pcap_reader.proofs.Captures.{capture_of-frames}
+use Rattle.pcap_files.proofs.reader.Walk.{Walked, frames_from-end, frames_from-record}
+use Rattle.pcap_files.proofs.reader.Captures.{capture_of-frames}
 
 -- a number after a prefix is the number in the rest
 little_endian_at-append : (n : ℕ) (prefix rest : List ℕ) (at : ℕ)

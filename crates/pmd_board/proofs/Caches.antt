@@ -27,10 +27,10 @@ use Rattle.board_laws.proofs.Looked.{frame_le}
 use Rattle.board_laws.proofs.NumberLaws.{entry_of-among, entry_of-some}
 use Rattle.board_laws.proofs.Stated.{bounded_step}
 use Rattle.board_laws.proofs.Used.{used_after}
-use Rattle.pcap_reader.specs.Records.{IsShort}
+use Rattle.pcap_files.specs.Records.{IsShort}
 use Rattle.exact_cache.specs.SameSlots.{AreSameSlots}
 use Rattle.exact_cache.proofs.SameSlots.{same_slots-with_cached, same_slots-transitive}
-use Rattle.flow_stats.specs.Sums.{total_of}
+use Rattle.port_caches.specs.Sums.{total_of}
 use Rattle.port_caches.specs.Views.{AreCachesOf, Caches}
 use Rattle.port_caches.specs.Steps.{AreRules, CanHit, HasFewTotals, IsFrameOf, IsSame, put_state, settle_effect, settle_result, settle_state}
 use Rattle.pmd_board.specs.Remembered.{slots_after}

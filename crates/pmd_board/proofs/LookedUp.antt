@@ -11,7 +11,7 @@ use Rattle.spec_board.specs.Effects.{advanced, decided_as, decided_by}
 use Rattle.spec_board.specs.Refusals.{look_fault}
 use Rattle.board_laws.proofs.PlaceLaws.{waiting_written}
 use Rattle.board_laws.proofs.Refusals.{may_look}
-use Rattle.run_blocks.specs.Places.{HasPlace}
+use Rattle.run_case.specs.Places.{HasPlace}
 use Rattle.port_caches.specs.Views.{IsHeld, KeepsHeld}
 use Rattle.pmd_board.specs.declared.board.Board.TheInside.{Inside}
 use Rattle.pmd_board.specs.declared.place.Place as rust_places

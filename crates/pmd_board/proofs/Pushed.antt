@@ -18,7 +18,7 @@ use Rattle.board_laws.proofs.Journals.{after_step, legal_step}
 use Rattle.board_laws.proofs.Looked.{next_after}
 use Rattle.board_laws.proofs.Once.{decided_in}
 use Rattle.board_laws.proofs.Stated.{apart_after, decided_after, few_entries, list_is_live, places_after, recent_after, right_after, slots_after, versions_after}
-use Rattle.run_blocks.specs.Places.{HasPort}
+use Rattle.run_case.specs.Places.{HasPort}
 use Rattle.board_steps.specs.declared.step.Step as rust
 use Rattle.board_steps.specs.StepViews.{step_view, steps_view}
 use Rattle.pmd_board.specs.declared.board.Board.TheInside.{Inside}

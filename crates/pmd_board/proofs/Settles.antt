@@ -19,7 +19,7 @@ use Rattle.board_laws.specs.Entries.{HasKeys}
 use Rattle.board_laws.proofs.Kept.{kept_after}
 use Rattle.board_laws.proofs.NumberLaws.{among_number, entry_of-among, entry_of-some, is_among-Among}
 use Rattle.board_laws.proofs.Refusals.{may_put}
-use Rattle.pcap_reader.specs.Records.{IsShort}
+use Rattle.pcap_files.specs.Records.{IsShort}
 use Rattle.port_caches.specs.Views.{AreCachesOf, Caches}
 use Rattle.port_caches.specs.Steps.{AreRules, HasFewTotals, IsFrameOf, IsPut, IsSettled, put_state, settle_effect, settle_state}
 use Rattle.pmd_board.specs.declared.board.Board.TheInside.{Inside}

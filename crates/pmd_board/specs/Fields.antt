@@ -7,8 +7,8 @@ use Rattle.spec_case.specs.Blocks.{AreInOrder, hi, last_block, last_place}
 use Rattle.spec_board.specs.State as states
 use Rattle.spec_board.specs.Journals.{IsLegal}
 use Rattle.board_laws.specs.Entries.{HasKeys}
-use Rattle.pcap_reader.specs.Records.{IsShort}
-use Rattle.run_blocks.specs.Places.{HasPort}
+use Rattle.pcap_files.specs.Records.{IsShort}
+use Rattle.run_case.specs.Places.{HasPort}
 use Rattle.board_steps.specs.StepViews.{steps_view}
 use Rattle.port_caches.specs.declared.lists.HeldList.{HeldList}
 use Rattle.port_caches.specs.Views.{AreCachesOf, IsHeld, actions_at}

@@ -7,10 +7,10 @@ ghost use Rattle.spec_case.specs.Blocks.{AreInOrder, hi, last_block, last_place}
 ghost use Rattle.spec_board.specs.State as states;
 ghost use Rattle.spec_board.specs.Results.{entry_of};
 ghost use Rattle.spec_board.specs.Journals.{IsLegal};
-ghost use Rattle.run_blocks.specs.Places.{HasPort};
+ghost use Rattle.run_case.specs.Places.{HasPort};
 ghost use Rattle.board_laws.specs.Entries.{HasKeys};
 ghost use Rattle.pmd_board.specs.BoardView.{AreEntries, IsDecision, IsLawful, last_settled, state_of};
-ghost use Rattle.flow_stats.specs.Sums.{total_of};
+ghost use Rattle.port_caches.specs.Sums.{total_of};
 ghost use Rattle.pmd_board.specs.Fields.{AreBounds, steps_left as left};
 ghost use Rattle.board_steps.specs.StepViews.{settled_view, steps_view};
 
@@ -54,7 +54,7 @@ impl<C: Case> Model for Board<C> {
 
     ghost Value = { BoardView };
 
-    ghost use Rattle.flow_stats.specs.Sums.{total_of};
+    ghost use Rattle.port_caches.specs.Sums.{total_of};
     ghost use Rattle.pmd_board.specs.Fields.{view_of, IsKept};
 
     ghost view = { view_of };

@@ -10,7 +10,7 @@ use Rattle.spec_actions.specs.declared.action.DpAction.{DpAction}
 use Rattle.spec_board.specs.State as states
 use Rattle.spec_board.specs.Results as board
 use Rattle.spec_board.specs.Effects.{credited_by, is_among}
-use Rattle.flow_stats.specs.Sums.{IsCountable}
+use Rattle.port_caches.specs.Sums.{IsCountable}
 use Rattle.megaflow_table.specs.declared.entry.Entry.{Entry}
 use Rattle.megaflow_table.specs.Entries as flow
 use Rattle.port_caches.specs.declared.lists.HeldList.{HeldList}

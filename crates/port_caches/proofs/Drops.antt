@@ -4,7 +4,7 @@ use Rattle.std.specs.Prelude.{filter, ◌≢◌, not}
 use Rattle.std.proofs.lemmas.Bool.{cond-true, cond-false, eq-eqb, ne_eqb, not_from_true, not_from_false}
 use Rattle.translation_laws.proofs.MemberLaws.{Among}
 use Rattle.spec_board.specs.State.{Total}
-use Rattle.flow_stats.specs.Sums.{IsCountable}
+use Rattle.port_caches.specs.Sums.{IsCountable}
 use Rattle.spec_board.specs.Effects.{credited, credited_by, is_among}
 use Rattle.megaflow_table.specs.declared.entry.Entry.{Entry}
 use Rattle.megaflow_table.specs.Entries.{ForEntry, entry_of, without, numbers_of}

@@ -13,8 +13,8 @@ use Rattle.spec_board.specs.Results as board
 use Rattle.spec_board.specs.Effects as effects
 use Rattle.spec_board.specs.declared.put_done.PutDone.{PutDone}
 use Rattle.spec_board.specs.declared.put_done.PutDone.TheVariants.{Idle, Removed, Kept, Replaced}
-use Rattle.flow_stats.specs.Sums.{IsCountable, total_of}
-use Rattle.flow_stats.proofs.SameTotals.{same_totals-credited_by}
+use Rattle.port_caches.specs.Sums.{IsCountable, total_of}
+use Rattle.port_caches.proofs.stats.SameTotals.{same_totals-credited_by}
 use Rattle.megaflow_table.specs.declared.entry.Entry.{Entry}
 use Rattle.megaflow_table.specs.Entries as flow
 use Rattle.port_caches.specs.declared.lists.HeldList.{HeldList}

@@ -10,8 +10,8 @@ use Rattle.spec_board.specs.Steps as steps
 use Rattle.spec_board.specs.Cache.{slot_at}
 use Rattle.spec_board.specs.Results.{covering, numbers_of, overlaps, settled_anew, settled_beside}
 use Rattle.spec_board.specs.Effects.{credited, credited_by, is_among, new_entry, settled_by}
-use Rattle.flow_stats.specs.Sums.{IsCountable, total_of}
-use Rattle.flow_stats.proofs.SameTotals.{same_totals-credited, same_totals-credited_by}
+use Rattle.port_caches.specs.Sums.{IsCountable, total_of}
+use Rattle.port_caches.proofs.stats.SameTotals.{same_totals-credited, same_totals-credited_by}
 use Rattle.port_caches.specs.Views.{AreCachesOf, Caches}
 use Rattle.port_caches.specs.Steps.{HasFewTotals, IsCredited, IsFrameOf, IsSame, IsSameCache, IsSettled, settle_effect, settle_result, settle_state}
 

@@ -3,3 +3,4 @@ pub mod Views
 pub mod Steps
 pub mod Drops
 pub mod Kept
+pub mod Sums

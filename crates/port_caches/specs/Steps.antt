@@ -7,7 +7,7 @@ use Rattle.spec_board.specs.State.{Entry, State}
 use Rattle.spec_board.specs.Results.{covering, entry_of, put_of, settled_beside}
 use Rattle.spec_board.specs.Effects.{credited, decided_by, dropped, new_entry, paid, put_by, settled_by, with_entry, with_put}
 use Rattle.spec_board.specs.declared.put_done.PutDone.{PutDone}
-use Rattle.flow_stats.specs.Sums.{total_of}
+use Rattle.port_caches.specs.Sums.{total_of}
 use Rattle.port_caches.specs.Views.{Caches, AreCachesOf}
 use Rattle.port_caches.specs.Lists.{IsHeld, KeepsHeld}
 

@@ -3,7 +3,7 @@ use Rattle.std.specs.Prelude.{◌≡◌, ℕ, List}
 use Rattle.spec_board.specs.State.{Entry, Slot, State, Total}
 use Rattle.ovs_fields.specs.Packed.{numbers, bits}
 use Rattle.exact_cache.specs.SameSlots.{AreSameSlots}
-use Rattle.flow_stats.specs.Sums.{total_of}
+use Rattle.port_caches.specs.Sums.{total_of}
 use Rattle.megaflow_table.specs.declared.entry.Entry as flows
 use Rattle.port_caches.specs.declared.lists.HeldList.{HeldList}
 pub use Rattle.port_caches.specs.Lists.{actions_at, IsHeld, KeepsHeld}

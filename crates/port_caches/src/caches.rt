@@ -7,7 +7,7 @@ ghost use Rattle.spec_board.specs.State.{State, opening};
 ghost use Rattle.std.specs.Option.{option_map};
 ghost use Rattle.spec_board.specs.Results.{entry_of, numbers_of, covering, looked, put_of};
 ghost use Rattle.spec_board.specs.Effects.{credited};
-ghost use Rattle.flow_stats.specs.Sums.{IsCountable, total_of};
+ghost use Rattle.port_caches.specs.Sums.{IsCountable, total_of};
 ghost use Rattle.spec_board.specs.Cache.{cached, with_cached};
 ghost use Rattle.exact_cache.specs.SameSlots.{AreSameSlots};
 ghost use Rattle.board_steps.specs.StepViews.{settled_view};
@@ -16,9 +16,9 @@ ghost use Rattle.port_caches.specs.Steps.{AreRules, CanHit, HasFewTotals, IsCred
 
 use crate::entries::{displace, judged, named_by, new_entry, pay, spare_lists, visits_of};
 use crate::lists::{HeldList, WrittenList, hold, list_for, push_list, reserve_lists};
+use crate::stats::Totals;
 use board_steps::{EntryNumbers, Settled};
 use exact_cache::{ExactCache, HashedKey};
-use flow_stats::Totals;
 use megaflow_table::Megaflows;
 use ovs_fields::{Key, Mask};
 use pipe_model::{Plain, SpareLists};

@@ -4,7 +4,7 @@ ghost use Rattle.std.specs.Prelude.{◌≡◌, ◌++◌, ◌∷◌, ◌+◌, ◌
 ghost use Rattle.spec_keys.specs.Keys.{same};
 ghost use Rattle.ovs_fields.specs.Packed.{numbers, bits};
 ghost use Rattle.pipe_model.specs.Plains.{translation_in};
-ghost use Rattle.flow_stats.specs.Sums.{IsCountable, total_of};
+ghost use Rattle.port_caches.specs.Sums.{IsCountable, total_of};
 ghost use Rattle.spec_board.specs.State.{State};
 ghost use Rattle.spec_board.specs.Results as board;
 ghost use Rattle.megaflow_table.specs.declared.entry.Entry.{Entry};
@@ -15,8 +15,8 @@ ghost use Rattle.port_caches.specs.Drops.{ArePayable, credited_with, entries_aft
 ghost use Rattle.port_caches.specs.Steps.{AreRules};
 ghost use Rattle.port_caches.specs.declared.lists.HeldList.{HeldList};
 
+use crate::stats::Totals;
 use dp_actions::ActionList;
-use flow_stats::Totals;
 use megaflow_table::{Entry, Megaflows, Visits};
 use ovs_fields::{Key, Mask, covers};
 use pipe_model::{Plain, SpareLists};

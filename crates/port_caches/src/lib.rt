@@ -57,15 +57,18 @@
 //!
 //! That a translation is the one of a key, when a look is followed by `hit` and `remember`, versions, places and the
 //! journal are the board's. So is that counts fit: `hit`, `settle` and `put` ask for it.
+//!
+//! The totals of rules stand in `stats`.
 #![tactic(auto)]
 
 mod caches;
 mod entries;
 mod lists;
+pub mod stats;
 mod threads;
 
+pub use crate::stats::Totals;
 pub use board_steps::{EntryNumbers, Settled};
 pub use caches::{EntryHit, KeyLook, PortCaches, Revalidated, SettledFrame};
 pub use exact_cache::HashedKey;
-pub use flow_stats::Totals;
 pub use megaflow_table::{Entry, Megaflows};

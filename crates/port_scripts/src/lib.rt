@@ -27,7 +27,7 @@
 //! # What is left to others
 //!
 //! Opening and reading the files, and how long they may be; numbers (`text_numbers`), words, items and comments
-//! (`field_text`); whether a step is met where it stands (`spec_board`); and what a mirror copies (`port_mirror`).
+//! (`field_text`); whether a step is met where it stands (`spec_board`); and what a mirror copies (`egress_capture::mirror`).
 #![tactic(auto)]
 
 mod mirror_line;

@@ -2,11 +2,11 @@
 ghost use Rattle.std.specs.Prelude.{◌≡◌};
 
 use run_case::Case;
-use run_edits::RunEdits;
 use std::process::Abort;
 use std::sync::Wait;
 use table_publish::{Editor, PublishFault, Seer};
 use table_versions::RunTables;
+use table_versions::edits::RunEdits;
 
 /// Publishes the next bundle, which is to be answered so.
 pub fn publishes<C: Case, T: RunTables<C>, R: Wait + Abort>(

@@ -8,7 +8,6 @@ use crate::calls::{enters, publishes};
 use crate::edits::{EDITS, bundles_of, edits_of};
 use rule_tables::Edit;
 use run_case::Case;
-use run_edits::RunEdits;
 use run_tables::ClassifierTables;
 use std::alloc::Global;
 use std::marker::{Brand, Model, PhantomData};
@@ -17,6 +16,7 @@ use std::sync::{Mutex, Wait};
 use std::test::*;
 use table_publish::{Editor, News, Seer, publish};
 use table_versions::RunTables;
+use table_versions::edits::RunEdits;
 
 // Names one publication.
 trait Publication {

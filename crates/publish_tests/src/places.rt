@@ -8,7 +8,6 @@ use crate::calls::publishes;
 use crate::edits::{EDITS, bundles_of, edits_of};
 use rule_tables::Edit;
 use run_case::Case;
-use run_edits::RunEdits;
 use run_tables::ClassifierTables;
 use std::alloc::Global;
 use std::marker::Brand;
@@ -16,6 +15,7 @@ use std::process::Abort;
 use std::sync::Wait;
 use std::test::*;
 use table_publish::publish;
+use table_versions::edits::RunEdits;
 
 const SEERS: usize = 2;
 

@@ -1,7 +1,7 @@
 //! Runs over great traces, which are made while they are read.
 
 use crate::made::{MadeFile, MadeShelf, Piece};
-use edge_memory::MemorySink;
+use edge_io::memory::MemorySink;
 use std::alloc::{AllocError, Global};
 use std::sync::Wait;
 use std::test::Fail;

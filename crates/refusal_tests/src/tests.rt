@@ -8,7 +8,7 @@ use crate::refusals::{
     TRACE_FAULTS, TraceFault,
 };
 use edge_io::Shelf;
-use edge_memory::{MemoryShelf, MemorySink};
+use edge_io::memory::{MemoryShelf, MemorySink};
 use std::alloc::{AllocError, Global};
 use std::sync::Wait;
 use std::test::Fail;

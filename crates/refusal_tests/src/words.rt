@@ -1,5 +1,5 @@
 //! Words that are refused, before any file is opened.
-use edge_memory::MemoryShelf;
+use edge_io::memory::MemoryShelf;
 use std::alloc::{AllocError, Global};
 use std::sync::Wait;
 use std::test::Fail;

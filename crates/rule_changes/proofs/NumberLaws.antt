@@ -12,10 +12,10 @@ use Rattle.rule_tables.specs.History.{History, applied, newest, rules_of}
 use Rattle.rule_tables.specs.Views.{rule_view}
 use Rattle.pipe_model.specs.Runnable.{IsAmong, AreRunnable}
 use Rattle.pipe_model.proofs.Rising.{Rise}
-use Rattle.rule_lines.specs.Live.{IsOfEdits, live_in}
-use Rattle.rule_lines.proofs.Added.{live_as}
-use Rattle.rule_lines.proofs.Rising.{is_live-rule_numbered}
-use Rattle.rule_lines.proofs.Listed.{rise_live}
+use Rattle.dump_lines.specs.Live.{IsOfEdits, live_in}
+use Rattle.dump_lines.proofs.rules.Added.{live_as}
+use Rattle.dump_lines.proofs.rules.Rising.{is_live-rule_numbered}
+use Rattle.dump_lines.proofs.rules.Listed.{rise_live}
 use Rattle.rule_changes.specs.Live.{IsLiveRule}
 
 pub record IsNumbered (n : ℕ) (rules : List Rule) (r : Rule) : Type 0 where

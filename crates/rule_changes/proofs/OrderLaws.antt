@@ -8,7 +8,7 @@ use Rattle.translation_laws.specs.Members.{Among}
 use Rattle.rule_tables.specs.declared.rule.Rule as stored
 use Rattle.rule_tables.specs.History.{History}
 use Rattle.rule_tables.specs.Views.{match_view}
-use Rattle.rule_lines.specs.Live.{live_in}
+use Rattle.dump_lines.specs.Live.{live_in}
 use Rattle.rule_changes.specs.declared.pair.Pair.{Pair}
 use Rattle.rule_changes.specs.declared.pair.Side.{Side}
 use Rattle.rule_changes.specs.Live.{IsLiveRule}

@@ -6,7 +6,7 @@ use Rattle.spec_tables.specs.Live.{rule_numbered}
 use Rattle.rule_tables.specs.declared.rule.Rule.{Rule}
 use Rattle.rule_tables.specs.History.{History}
 use Rattle.rule_tables.specs.Views.{match_view}
-use Rattle.rule_lines.specs.Live.{live_in}
+use Rattle.dump_lines.specs.Live.{live_in}
 
 -- A rule of this number is live in the last version, with these actions.
 pub record IsLiveRule (h : History) (number : ℕ) (r : Rule) (list : List OfAction) : Type 0 where

@@ -5,7 +5,7 @@ ghost use Rattle.spec_tables.specs.Live.{rule_numbered};
 ghost use Rattle.translation_laws.specs.Members.{Among};
 ghost use Rattle.rule_tables.specs.Views.{match_view};
 ghost use Rattle.pipe_model.specs.Runnable.{IsAmong, AreRunnable};
-ghost use Rattle.rule_lines.specs.Live.{IsOfEdits, live_in};
+ghost use Rattle.dump_lines.specs.Live.{IsOfEdits, live_in};
 ghost use Rattle.rule_changes.specs.Pairs.{IsCovered};
 ghost use Rattle.rule_changes.specs.Changes.{AreAllChanges};
 

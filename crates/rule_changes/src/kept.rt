@@ -7,7 +7,7 @@ ghost use Rattle.ovs_fields.specs.Packed.{bits};
 ghost use Rattle.spec_tables.specs.Rules as tables;
 ghost use Rattle.spec_tables.specs.Live.{rule_numbered};
 ghost use Rattle.pipe_model.specs.Runnable.{AreRunnable};
-ghost use Rattle.rule_lines.specs.Live.{IsOfEdits, live_in};
+ghost use Rattle.dump_lines.specs.Live.{IsOfEdits, live_in};
 ghost use Rattle.rule_changes.specs.Lockstep.{keeps, written_with};
 ghost use Rattle.rule_changes.specs.Changes.{AllKeep};
 

@@ -1,6 +1,6 @@
 ghost use Rattle.std.specs.Prelude.{◌≡◌, None, IfSome, IfNone};
 ghost use Rattle.spec_tables.specs.Live.{rule_numbered};
-ghost use Rattle.rule_lines.specs.Live.{IsOfEdits, live_in};
+ghost use Rattle.dump_lines.specs.Live.{IsOfEdits, live_in};
 ghost use Rattle.rule_changes.specs.Live.{IsLiveRule};
 
 use rule_tables::{OfAction, Rule, VersionedRules};

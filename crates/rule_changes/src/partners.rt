@@ -1,6 +1,6 @@
 //! Which rule of the new version may be a rule of the old one. Whether it is gets tested, so nothing is proved of the
 //! choice.
-ghost use Rattle.rule_lines.specs.Live.{IsOfEdits};
+ghost use Rattle.dump_lines.specs.Live.{IsOfEdits};
 
 use crate::live_rule::live_rule;
 use rule_tables::{Match, Rule, VersionedRules};

@@ -10,8 +10,8 @@ use Rattle.spec_tables.specs.declared.edit_word.EditWord.{EditWord}
 use Rattle.spec_tables.specs.declared.edit_word.EditWord.TheVariants.{Add, Modify, ModifyStrict, Delete, DeleteStrict}
 use Rattle.spec_tables.specs.Rules as tables
 use Rattle.spec_tables.specs.Edits.{Edit, is_named_by, is_reached_by}
-use Rattle.match_signatures.specs.declared.signature.Signature.{Signature}
-use Rattle.match_signatures.specs.Signatures.{signature_of, includes}
+use Rattle.rule_tables.specs.declared.signatures.signature.Signature.{Signature}
+use Rattle.rule_tables.specs.Signatures.{signature_of, includes}
 use Rattle.rule_tables.specs.declared.rule.Rule.{Rule}
 use Rattle.rule_tables.specs.declared.stored.StoredRule.{StoredRule}
 use Rattle.rule_tables.specs.Signed.{signature_in}

@@ -8,3 +8,4 @@ pub mod Signed
 pub mod Stored
 pub mod Versions
 pub mod Views
+pub mod Signatures

@@ -1,7 +1,7 @@
 -- The signatures of rules.
 use Rattle.ovs_fields.specs.Packed.{numbers, bits}
-use Rattle.match_signatures.specs.declared.signature.Signature.{Signature}
-use Rattle.match_signatures.specs.Signatures.{signature_of}
+use Rattle.rule_tables.specs.declared.signatures.signature.Signature.{Signature}
+use Rattle.rule_tables.specs.Signatures.{signature_of}
 use Rattle.rule_tables.specs.declared.rule.Rule.{Rule}
 
 -- the signature of a rule's match

@@ -12,8 +12,8 @@ use Rattle.rule_tables.specs.declared.identity.RuleIdentity.{RuleIdentity}
 use Rattle.rule_tables.specs.declared.rule.Rule.{Rule}
 use Rattle.rule_tables.specs.declared.stored.Modification.{Modification}
 use Rattle.rule_tables.specs.declared.stored.StoredRule.{StoredRule}
-use Rattle.match_signatures.specs.declared.signature.Signature.{Signature}
-use Rattle.match_signatures.specs.Signatures.{includes}
+use Rattle.rule_tables.specs.declared.signatures.signature.Signature.{Signature}
+use Rattle.rule_tables.specs.Signatures.{includes}
 use Rattle.rule_tables.specs.Signed.{signature_in}
 use Rattle.rule_tables.specs.Views.{match_view, rule_view}
 

@@ -7,7 +7,7 @@ ghost use Rattle.rule_tables.specs.Stored.{is_modify, picks, IsWanted};
 use crate::actions::Actions;
 use crate::matching::Match;
 use crate::rule::Rule;
-use match_signatures::{Signature, rules_include_their_edits};
+use crate::signatures::{Signature, rules_include_their_edits};
 use spec_tables::EditWord;
 use std::alloc::{AllocError, Global};
 use std::marker::Model;

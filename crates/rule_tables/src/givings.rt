@@ -7,8 +7,8 @@ ghost use Rattle.rule_tables.specs.Givings.{is_place, most_givings, IsLedTo, Are
 
 use crate::edit::Edit;
 use crate::identity::RuleIdentity;
+use crate::signatures::Signature;
 use crate::stored::{Modification, StoredRule};
-use match_signatures::Signature;
 use spec_actions::OfAction;
 use spec_tables::EditWord;
 use std::alloc::Global;

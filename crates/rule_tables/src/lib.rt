@@ -51,7 +51,7 @@
 //! since routes to nested networks share their key.
 //!
 //! On which rules a loose word acts is no question of one identity. It passes over the signatures of the matches of all
-//! stored rules (`match_signatures`), which stand side by side, and only those rules are tested whose signature includes that
+//! stored rules (`signatures`), which stand side by side, and only those rules are tested whose signature includes that
 //! of the edit.
 //!
 //! `apply` takes all memory of a bundle before it changes anything: copies of the edits, and room for a rule, its signature
@@ -77,6 +77,8 @@
 //! # What is left to others
 //!
 //! `scan` is the plain answer beside which a classifier is judged.
+//!
+//! Matches in a few bits, by which most rules that an edit doesn't reach are passed over, stand in `signatures`.
 #![tactic(auto)]
 
 mod actions;
@@ -87,6 +89,7 @@ mod identity;
 mod matching;
 mod rule;
 mod search;
+pub mod signatures;
 mod stored;
 mod versions;
 

@@ -8,7 +8,7 @@ use crate::actions::Actions;
 use crate::edit::Edit;
 use crate::identity::RuleIdentity;
 use crate::rule::Rule;
-use match_signatures::Signature;
+use crate::signatures::Signature;
 use std::collections::HashMap;
 
 /// What a modify made: after it the rules that its edit picks have the actions of the edit, and its cookie where it has

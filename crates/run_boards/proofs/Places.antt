@@ -2,8 +2,8 @@
 use Rattle.std.proofs.Common.{◌≡◌, ℕ, zero, suc, ◌+◌, ◌-◌, ◌≤◌, refl, ap, arith}
 use Rattle.spec_case.specs.Run.{Run, last_version}
 use Rattle.spec_case.specs.Blocks.{AreInOrder, hi, last_block, last_place}
-use Rattle.run_blocks.specs.Places.{place_before}
-use Rattle.run_blocks.proofs.Blocks.{last_place-le}
+use Rattle.run_case.specs.Places.{place_before}
+use Rattle.run_case.proofs.blocks.Blocks.{last_place-le}
 
 -- the place before the next block is the last of this one
 pub place_before-next : (run : Run) (port block : ℕ) → place_before run port (block + 1) ≡ last_place run port block

@@ -14,7 +14,7 @@ use Rattle.spec_board.specs.Decisions.{Decision}
 use Rattle.spec_board.specs.Schedules as schedules
 use Rattle.spec_board.specs.Texts.{Journal}
 use Rattle.spec_run.specs.Journals.{journal_in, IsWhole, AreWhole, IsByLastVersion, steps_of, steps_in}
-use Rattle.run_blocks.specs.Places.{HasPlace}
+use Rattle.run_case.specs.Places.{HasPlace}
 use Rattle.pmd_board.specs.BoardView.{BoardView, journal_view, journals_view, state_of}
 use Rattle.run_boards.specs.Progress.{AreDecided}
 use Rattle.run_boards.specs.Scheduled.{under_way, schedule_of, IsKnown}

@@ -9,7 +9,7 @@ use Rattle.spec_board.specs.Journals.{IsFinished}
 use Rattle.spec_board.specs.Schedules as schedules
 use Rattle.spec_board.specs.Texts.{Journal}
 use Rattle.spec_run.specs.Journals.{journal_in, AreWhole, actions_for}
-use Rattle.frame_arrivals.specs.Arrivals.{IsArrival}
+use Rattle.run_boards.specs.Arrivals.{IsArrival}
 use Rattle.pmd_board.specs.BoardView.{BoardView, journals_view, state_of}
 use Rattle.run_boards.specs.declared.decided_frame.DecidedFrame.{DecidedFrame}
 

@@ -4,15 +4,15 @@ ghost use Rattle.spec_case.specs.Arrivals.{in_order, arrivals as came_in};
 ghost use Rattle.spec_xlate.specs.Translation.{action_limit};
 ghost use Rattle.spec_board.specs.Journals.{IsFinished};
 ghost use Rattle.spec_run.specs.Journals.{AreWhole, actions_for, steps_of};
-ghost use Rattle.run_blocks.specs.Places.{HasPort};
-ghost use Rattle.frame_arrivals.specs.Arrivals.{IsArrival};
+ghost use Rattle.run_case.specs.Places.{HasPort};
+ghost use Rattle.run_boards.specs.Arrivals.{IsArrival};
 ghost use Rattle.pmd_board.specs.BoardView.{journals_view, state_of};
 ghost use Rattle.run_boards.specs.Finished.{AreFinished, IsDecidedFrame};
 ghost use Rattle.run_boards.specs.Scheduled.{IsKnown};
 
+use crate::arrivals::arrivals_of;
 use crate::boards::Boards;
 use crate::decided_frame::DecidedFrame;
-use frame_arrivals::arrivals_of;
 use pmd_board::Board;
 use run_case::{Case, RunData};
 use spec_actions::DpAction;

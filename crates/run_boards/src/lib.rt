@@ -24,9 +24,12 @@
 //! # What is left to others
 //!
 //! Which steps the boards take: `step_runner`, `given_steps` and `worker_phase`. What is written of finished boards:
-//! `egress_capture`, `port_mirror`, `flow_dump` and `netflow_v5`.
+//! `egress_capture`, `egress_capture::mirror`, `flow_dump` and `netflow_v5`.
+//!
+//! The order of arrivals stands in `arrivals`.
 #![tactic(auto)]
 
+pub mod arrivals;
 mod boards;
 mod decided_frame;
 mod finished;

@@ -4,7 +4,7 @@ ghost use Rattle.ovs_fields.specs.Packed.{numbers};
 ghost use Rattle.spec_frames.specs.Key.{key_of};
 ghost use Rattle.spec_case.specs.Run.{frame_at};
 ghost use Rattle.spec_case.specs.Blocks.{block_of};
-ghost use Rattle.run_blocks.specs.Places.{HasPort, HasPlace};
+ghost use Rattle.run_case.specs.Places.{HasPort, HasPlace};
 
 use crate::case::Case;
 use ovs_fields::Key;

@@ -3,7 +3,7 @@
 //! # What?
 //!
 //! What a run is given is known only once it has been read: the ports of the words, the edits and the sync points of
-//! their file, and a trace of each port. `RunData` holds it, but for the edits themselves, which `run_edits` holds.
+//! their file, and a trace of each port. `RunData` holds it, but for the edits themselves, which `table_versions::edits` holds.
 //! Boards, tables and threads each keep a part of the run, and all must speak of the same one. A `Case` is the name by
 //! which they do: `RunData<C>`, `Keyed<C>` and the types of the crates above are of the run `C.run`, and a contract
 //! tells what they hold without another word.
@@ -25,21 +25,24 @@
 //! The function that has read the files calls one function under the name `Brand`, and picks there what the name means;
 //! below that call `C.run` is what was read. A name costs nothing when the program runs.
 //!
-//! Where a port's blocks end is found once (`run_blocks`). A port's trace is found by going through the ports, of which
+//! Where a port's blocks end is found once (`blocks`). A port's trace is found by going through the ports, of which
 //! there are few. Frames aren't copied, but lent from the bytes of their file.
 //!
 //! # What is left to others
 //!
 //! Reading the files, and that they meet what `RunData::new` requires. The most entries of a cache and the steps of a
 //! schedule are parts of `C.run`, but aren't held here: who keeps them ties them to it.
+//!
+//! Which frames are of which block stands in `blocks`.
 #![tactic(auto)]
 
+pub mod blocks;
 mod case;
 mod keyed;
 mod run_data;
 mod threads;
 
+pub use crate::blocks::Ports;
 pub use case::Case;
 pub use keyed::Keyed;
-pub use run_blocks::Ports;
 pub use run_data::RunData;

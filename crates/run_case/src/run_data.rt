@@ -3,14 +3,14 @@ ghost use Rattle.spec_pcap.specs.Pcap.{second, snap_length};
 ghost use Rattle.spec_tables.specs.Bundles.{AreBundles};
 ghost use Rattle.spec_case.specs.Run.{edit_count, last_version, frame_at, frames_of, is_nanos};
 ghost use Rattle.spec_case.specs.Blocks.{AreInOrder, block_ends, last_block, last_place, lo, hi};
-ghost use Rattle.pcap_reader.specs.Records.{IsShort};
-ghost use Rattle.run_blocks.specs.Places.{HasPort, HasPlace, AreCounted, ends_of};
+ghost use Rattle.pcap_files.specs.Records.{IsShort};
+ghost use Rattle.run_case.specs.Places.{HasPort, HasPlace, AreCounted, ends_of};
 
+use crate::blocks::{BlockEnds, Ports, all_block_ends, block_of};
 use crate::case::Case;
 use crate::keyed::Keyed;
 use frame_keys::key_of;
-use pcap_reader::Trace;
-use run_blocks::{BlockEnds, Ports, all_block_ends, block_of};
+use pcap_files::reader::Trace;
 use spec_tables::SyncPoint;
 use std::alloc::{AllocError, Global};
 use std::marker::PhantomData;

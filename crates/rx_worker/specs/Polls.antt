@@ -1,7 +1,7 @@
 -- Polls of a port.
 use Rattle.std.specs.Prelude.{◌≡◌, ℕ, ◌+◌, ◌≤◌, List, [], ◌∷◌, ◌++◌, length}
 use Rattle.spec_case.specs.Run.{Run, frames_of}
-use Rattle.run_blocks.specs.Places.{HasPort}
+use Rattle.run_case.specs.Places.{HasPort}
 use Rattle.upcalls.specs.declared.upcall.Upcall.{Upcall}
 use Rattle.rx_worker.specs.declared.batch.Polled.{Polled}
 

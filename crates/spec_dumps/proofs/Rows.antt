@@ -5,12 +5,12 @@ use Rattle.spec_keys.specs.declared.field_id.FieldId.TheVariants as field
 use Rattle.spec_keys.specs.Keys.{none, masked, same, joined, only_at}
 use Rattle.spec_keys.specs.Fields.{widths}
 use Rattle.spec_actions.specs.declared.action.OfAction.TheVariants.{Output}
-use Rattle.spec_numbers.specs.Printed.{hexadecimal, hexadecimal4, mac_text, ipv4_text, ipv6_text}
+use Rattle.spec_flow_text.specs.NumbersPrinted.{hexadecimal, hexadecimal4, mac_text, ipv4_text, ipv6_text}
 use Rattle.spec_tables.specs.declared.edit_word.EditWord.TheVariants.{Delete, DeleteStrict}
 use Rattle.spec_tables.specs.Edits.{after_edits}
 use Rattle.spec_tables.proofs.Packets.{is, key_of, mask_of, match_of}
 use Rattle.spec_flow_text.specs.Printed.{value_in_text, shorthand_of, shown as items_shown, match_printed, actions_printed}
-use Rattle.spec_dp_text.specs.Printed.{dp_actions_printed}
+use Rattle.spec_flow_text.specs.DpTextPrinted.{dp_actions_printed}
 use Rattle.spec_case.specs.declared.run_step.RunStep.TheVariants as given
 use Rattle.spec_case.specs.Run.{Run}
 use Rattle.spec_exec.specs.Sent.{sent}

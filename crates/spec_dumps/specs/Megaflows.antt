@@ -7,9 +7,9 @@ use Rattle.spec_keys.specs.declared.field_id.FieldId.{FieldId}
 use Rattle.spec_keys.specs.Fields.{fields}
 use Rattle.spec_pcap.specs.Pcap.{second}
 use Rattle.spec_tables.specs.Rules.{Match}
-use Rattle.spec_numbers.specs.Characters.{comma, dot, equals_sign, hyphen}
+use Rattle.spec_flow_text.specs.Characters.{comma, dot, equals_sign, hyphen}
 use Rattle.spec_flow_text.specs.Printed.{Shown, shown_text, shown_bits, bits_of, own_name}
-use Rattle.spec_dp_text.specs.Printed.{dp_actions_printed}
+use Rattle.spec_flow_text.specs.DpTextPrinted.{dp_actions_printed}
 use Rattle.spec_case.specs.Run.{Run}
 use Rattle.spec_board.specs.State.{Entry}
 use Rattle.spec_board.specs.Texts.{Journal, line_of}

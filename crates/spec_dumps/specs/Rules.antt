@@ -7,8 +7,8 @@ use Rattle.std.specs.Ordering.{nat_cmp, is_lt, ordering_then}
 use Rattle.std.specs.declared.cmp.Ordering.{Ordering}
 use Rattle.std.specs.Fmt.{decimal}
 use Rattle.spec_base.specs.Sorting.{sort_by}
-use Rattle.spec_numbers.specs.Characters.{comma}
-use Rattle.spec_numbers.specs.Printed.{hexadecimal}
+use Rattle.spec_flow_text.specs.Characters.{comma}
+use Rattle.spec_flow_text.specs.NumbersPrinted.{hexadecimal}
 use Rattle.spec_tables.specs.Rules.{Rule}
 use Rattle.spec_tables.specs.Bundles.{version}
 use Rattle.spec_tables.specs.Live.{rule_added, is_live}

@@ -2,7 +2,7 @@
 use Rattle.std.specs.Prelude.{ℕ, ◌+◌, ◌==◌, Bool, true, false, List, [], ◌∷◌, ◌++◌, length, count_by, Option, Some, None, codes}
 use Rattle.std.specs.List.{sum_by, range_with_len, join_with_byte}
 use Rattle.std.specs.Fmt.{decimal}
-use Rattle.spec_numbers.specs.Characters.{space}
+use Rattle.spec_flow_text.specs.Characters.{space}
 use Rattle.spec_actions.specs.declared.action.DpAction.{DpAction}
 use Rattle.spec_case.specs.Run.{Run, frames_of, frame_at, edit_count}
 use Rattle.spec_case.specs.Blocks.{last_block}

@@ -2,7 +2,7 @@
 use Rattle.std.specs.Prelude.{◌≡◌, ℕ, List, [], ◌∷◌, ◌++◌, map, replicate, refl}
 use Rattle.spec_base.specs.Bytes.{big_endian, big_endian_at}
 use Rattle.spec_keys.specs.declared.field_id.FieldId.TheVariants.{InPort, DlDst, VlanTci, NwSrc, NwDst, Ipv6Src, Ipv6Dst, NwTos, NwTtl, ArpSha, ArpTha, TpSrc, TpDst}
-use Rattle.spec_checksum.specs.Checksum.{updated}
+use Rattle.spec_exec.specs.Checksum.{updated}
 use Rattle.spec_frames.specs.Ethernet.{is_tag_at, tag_count, carried, carried_by}
 use Rattle.spec_frames.specs.Arp.{is_arp}
 use Rattle.spec_frames.specs.Ipv4.{is_ipv4, ipv4}

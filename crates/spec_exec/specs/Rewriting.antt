@@ -4,7 +4,7 @@ use Rattle.spec_base.specs.Bits.{all_bits, merged}
 use Rattle.spec_base.specs.Bytes.{big_endian, big_endian_at}
 use Rattle.spec_keys.specs.declared.field_id.FieldId.{FieldId}
 use Rattle.spec_keys.specs.Fields.{width_of}
-use Rattle.spec_checksum.specs.Checksum.{updated}
+use Rattle.spec_exec.specs.Checksum.{updated}
 use Rattle.spec_keys.specs.Protocols.{tag_bit}
 use Rattle.spec_frames.specs.Ethernet.{header_size, type_at, type_size, tag_size}
 use Rattle.spec_frames.specs.Layout.{layout_of}

@@ -5,7 +5,7 @@ use Rattle.spec_keys.specs.Keys.{none, joined, only_at}
 use Rattle.spec_actions.specs.declared.action.OfAction.TheVariants.{Output}
 use Rattle.spec_tables.specs.declared.edit_word.EditWord.TheVariants.{Add, Modify, ModifyStrict, Delete, DeleteStrict}
 use Rattle.spec_tables.specs.Edits.{Edit}
-use Rattle.spec_numbers.specs.Numbers.{digits_upto, decimal_upto, number_upto}
+use Rattle.spec_flow_text.specs.Numbers.{digits_upto, decimal_upto, number_upto}
 use Rattle.spec_flow_text.specs.declared.fault.TextFault.{TextFault}
 use Rattle.spec_flow_text.specs.declared.fault.TextFault.TheVariants.{Syntax, UnknownName, Unsupported, BadValue}
 use Rattle.spec_flow_text.specs.Names.{field_named, is_field_left_out, shorthand_named, keyword_named, item_named, reserved_port_named, is_action_left_out, action_named}

@@ -10,7 +10,7 @@ use Rattle.spec_actions.specs.declared.named_field.NamedField.TheVariants as nam
 use Rattle.spec_actions.specs.declared.action.OfAction.{OfAction}
 use Rattle.spec_actions.specs.declared.action.OfAction.TheVariants.{Output, Set}
 use Rattle.spec_tables.specs.Rules.{Match}
-use Rattle.spec_numbers.specs.Printed.{hexadecimal, hexadecimal4, mac_text, ipv4_text, ipv6_text, prefix_length_up_to, ipv4_mask_text, ipv6_mask_text}
+use Rattle.spec_flow_text.specs.NumbersPrinted.{hexadecimal, hexadecimal4, mac_text, ipv4_text, ipv6_text, prefix_length_up_to, ipv4_mask_text, ipv6_mask_text}
 use Rattle.spec_flow_text.specs.Printed.{value_in_text, shorthand_of, shown, match_printed, actions_printed}
 
 -- the numbers of one field, and those of more of them

@@ -6,8 +6,8 @@ use Rattle.spec_keys.specs.declared.field_id.FieldId.TheVariants as key
 use Rattle.spec_actions.specs.declared.named_field.NamedField.TheVariants as field
 use Rattle.spec_actions.specs.declared.action.OfAction.{OfAction}
 use Rattle.spec_actions.specs.declared.action.OfAction.TheVariants.{Output, Resubmit, Set, DecTtl, SetVid}
-use Rattle.spec_numbers.specs.Numbers.{digits_upto, decimal_upto, number_upto, octet, octet_before_colon, mac}
-use Rattle.spec_numbers.specs.Addresses.{decimal_octet_before_dot, ipv4, group, groups_of_ipv4, last_groups, groups, eight_groups, split_at_elision, groups_round_zeros, elided_groups, ipv6, prefix_length, ipv4_mask, ipv6_mask}
+use Rattle.spec_flow_text.specs.Numbers.{digits_upto, decimal_upto, number_upto, octet, octet_before_colon, mac}
+use Rattle.spec_flow_text.specs.Addresses.{decimal_octet_before_dot, ipv4, group, groups_of_ipv4, last_groups, groups, eight_groups, split_at_elision, groups_round_zeros, elided_groups, ipv6, prefix_length, ipv4_mask, ipv6_mask}
 use Rattle.spec_flow_text.specs.declared.fault.TextFault.{TextFault}
 use Rattle.spec_flow_text.specs.declared.fault.TextFault.TheVariants.{Syntax, UnknownName, Unsupported, BadValue}
 use Rattle.spec_flow_text.specs.declared.part.MatchPrerequisite.TheVariants as needs

@@ -13,8 +13,8 @@ use Rattle.spec_actions.specs.declared.action.OfAction.{OfAction}
 use Rattle.spec_actions.specs.declared.action.OfAction.TheVariants.{Output, OutputField, InPort, All, Flood, Resubmit, Goto, Set, Move, DecTtl, PushVlan, PopVlan, SetVid, SetPcp}
 use Rattle.spec_actions.specs.Named.{named}
 use Rattle.spec_actions.specs.Sound.{is_written, is_sound_slice, last_table, last_vid, last_pcp}
-use Rattle.spec_numbers.specs.Characters.{comma, dot, colon, hyphen, greater_than, left_parenthesis, right_parenthesis, left_bracket, right_bracket}
-use Rattle.spec_numbers.specs.Numbers.{where_found, split_once, strip_prefix, number_upto, last_port, nonzero}
+use Rattle.spec_flow_text.specs.Characters.{comma, dot, colon, hyphen, greater_than, left_parenthesis, right_parenthesis, left_bracket, right_bracket}
+use Rattle.spec_flow_text.specs.Numbers.{where_found, split_once, strip_prefix, number_upto, last_port, nonzero}
 use Rattle.spec_flow_text.specs.declared.names.ActionName.{ActionName}
 use Rattle.spec_flow_text.specs.declared.names.ActionName.TheVariants as action
 use Rattle.spec_flow_text.specs.declared.fault.TextFault.{TextFault}

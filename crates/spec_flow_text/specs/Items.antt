@@ -10,8 +10,8 @@ use Rattle.spec_keys.specs.Protocols.{tag_bit}
 use Rattle.spec_actions.specs.Sound.{last_table}
 use Rattle.spec_tables.specs.declared.edit_word.EditWord.{EditWord}
 use Rattle.spec_tables.specs.declared.edit_word.EditWord.TheVariants.{Delete, DeleteStrict}
-use Rattle.spec_numbers.specs.Characters.{tab, carriage_return, space, comma, slash, equals_sign}
-use Rattle.spec_numbers.specs.Numbers.{split_once, number_upto, strip_prefix}
+use Rattle.spec_flow_text.specs.Characters.{tab, carriage_return, space, comma, slash, equals_sign}
+use Rattle.spec_flow_text.specs.Numbers.{split_once, number_upto, strip_prefix}
 use Rattle.spec_flow_text.specs.declared.names.ItemName.{ItemName}
 use Rattle.spec_flow_text.specs.declared.names.ItemName.TheVariants as item
 use Rattle.spec_flow_text.specs.declared.shorthand.Shorthand.{Shorthand}

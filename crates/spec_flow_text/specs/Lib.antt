@@ -6,3 +6,9 @@ pub mod Actions
 pub mod Printed
 pub mod Lines
 pub mod Given
+pub mod Addresses
+pub mod Characters
+pub mod Numbers
+pub mod NumbersPrinted
+pub mod DpTextPrinted
+pub mod Within

@@ -6,7 +6,7 @@ use Rattle.spec_actions.specs.declared.action.OfAction.{OfAction}
 use Rattle.spec_tables.specs.declared.edit_word.EditWord.{EditWord}
 use Rattle.spec_tables.specs.declared.edit_word.EditWord.TheVariants.{Add, Modify, ModifyStrict, Delete, DeleteStrict}
 use Rattle.spec_tables.specs.Edits.{Edit}
-use Rattle.spec_numbers.specs.Numbers.{where_found}
+use Rattle.spec_flow_text.specs.Numbers.{where_found}
 use Rattle.spec_flow_text.specs.declared.fault.TextFault.{TextFault}
 use Rattle.spec_flow_text.specs.Names.{meaning_of}
 use Rattle.spec_flow_text.specs.Items.{◌>>=◌, Word, is_white}

@@ -10,7 +10,7 @@ use Rattle.spec_keys.specs.Fields.{place_of}
 use Rattle.spec_keys.specs.Keys.{none, number_at, joined, only_at}
 use Rattle.spec_tables.specs.declared.edit_word.EditWord.{EditWord}
 use Rattle.spec_tables.specs.Rules.{Match}
-use Rattle.spec_numbers.specs.Characters.{number_sign}
+use Rattle.spec_flow_text.specs.Characters.{number_sign}
 use Rattle.spec_flow_text.specs.declared.part.Part.{Part}
 use Rattle.spec_flow_text.specs.declared.fault.TextFault.{TextFault}
 use Rattle.spec_flow_text.specs.declared.fault.TextFault.TheVariants.{Syntax}

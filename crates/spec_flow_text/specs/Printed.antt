@@ -16,8 +16,8 @@ use Rattle.spec_actions.specs.declared.action.OfAction.{OfAction}
 use Rattle.spec_actions.specs.declared.action.OfAction.TheVariants.{Output, OutputField, InPort, All, Flood, Resubmit, Goto, Set, Move, DecTtl, PushVlan, PopVlan, SetVid, SetPcp}
 use Rattle.spec_actions.specs.Named.{named, dscp_bits}
 use Rattle.spec_tables.specs.Rules.{Match}
-use Rattle.spec_numbers.specs.Characters.{comma, dot, slash, equals_sign, left_bracket, right_bracket, right_parenthesis}
-use Rattle.spec_numbers.specs.Printed.{hexadecimal, hexadecimal4, mac_text, ipv4_text, ipv6_text, ipv4_mask_text, ipv6_mask_text}
+use Rattle.spec_flow_text.specs.Characters.{comma, dot, slash, equals_sign, left_bracket, right_bracket, right_parenthesis}
+use Rattle.spec_flow_text.specs.NumbersPrinted.{hexadecimal, hexadecimal4, mac_text, ipv4_text, ipv6_text, ipv4_mask_text, ipv6_mask_text}
 use Rattle.spec_flow_text.specs.declared.shorthand.Shorthand.{Shorthand}
 use Rattle.spec_flow_text.specs.declared.shorthand.Shorthand.TheVariants as short
 use Rattle.spec_flow_text.specs.Names.{name_of, word_of}

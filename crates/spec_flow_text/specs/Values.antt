@@ -10,9 +10,9 @@ use Rattle.spec_actions.specs.declared.named_field.NamedField.{NamedField}
 use Rattle.spec_actions.specs.declared.named_field.NamedField.TheVariants.{InPort, DlSrc, DlDst, VlanVid, VlanPcp, NwSrc, NwDst, ArpSpa, ArpTpa, Ipv6Src, Ipv6Dst, NwProto, ArpOp, NwTos, IpDscp, NwEcn, NwTtl, IpFrag, ArpSha, ArpTha, TpSrc, TpDst, TcpSrc, TcpDst, UdpSrc, UdpDst, IcmpType, IcmpCode, Icmpv6Type, Icmpv6Code}
 use Rattle.spec_actions.specs.Named.{named, dscp_bits}
 use Rattle.spec_actions.specs.Sound.{last_vid}
-use Rattle.spec_numbers.specs.Characters.{slash}
-use Rattle.spec_numbers.specs.Numbers.{◌>>=◌, where_found, split_once, number_upto, last_port, nonzero, mac}
-use Rattle.spec_numbers.specs.Addresses.{ipv4, ipv6, ipv4_mask, ipv6_mask}
+use Rattle.spec_flow_text.specs.Characters.{slash}
+use Rattle.spec_flow_text.specs.Numbers.{◌>>=◌, where_found, split_once, number_upto, last_port, nonzero, mac}
+use Rattle.spec_flow_text.specs.Addresses.{ipv4, ipv6, ipv4_mask, ipv6_mask}
 use Rattle.spec_flow_text.specs.declared.part.ValueForm.{ValueForm}
 use Rattle.spec_flow_text.specs.declared.part.ValueForm.TheVariants as form
 use Rattle.spec_flow_text.specs.declared.part.MatchPrerequisite.{MatchPrerequisite}

@@ -9,10 +9,16 @@
 //! - `Lines`: the edit of a line, whose word may stand in front.
 //! - `Printed`: the one text of a match and of an action list.
 //! - `Given`: what is said of a function that reads text, beside what is defined.
+//!
+//! # The parts
+//!
+//! Numbers and addresses as they are written stand in `numbers`, the text of megaflows and of datapath actions in `dp_text`.
 #![tactic(auto)]
 
+pub mod dp_text;
 mod fault;
 mod names;
+pub mod numbers;
 mod part;
 mod shorthand;
 

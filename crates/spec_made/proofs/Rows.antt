@@ -1,7 +1,7 @@
 -- Worked rows: what number 7 makes, computed apart from the definitions.
 use Rattle.std.specs.Prelude.{◌≡◌, [], ◌∷◌, codes, refl}
 use Rattle.std.specs.Fmt.{digits}
-use Rattle.spec_checksum.specs.Checksum.{checksum}
+use Rattle.spec_exec.specs.Checksum.{checksum}
 use Rattle.spec_made.specs.Made.{state, draw, subnet_line, register_line, made_frame, frames_made}
 
 the_first_draws : (draw 7 1 ≡ 1059165278) × ((draw 7 2 ≡ 2052263231) × (draw 7 3 ≡ 1946856753))

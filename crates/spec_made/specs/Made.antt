@@ -5,7 +5,7 @@ use Rattle.std.specs.List.{flat_map, range_with_len}
 use Rattle.std.specs.Fmt.{decimal}
 use Rattle.std.specs.Fn.{iterate}
 use Rattle.spec_base.specs.Bytes.{big_endian}
-use Rattle.spec_checksum.specs.Checksum.{checksum}
+use Rattle.spec_exec.specs.Checksum.{checksum}
 use Rattle.spec_pcap.specs.Pcap.{Frame, second, file_of}
 
 -- ---- numbers

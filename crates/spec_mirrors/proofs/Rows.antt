@@ -1,6 +1,6 @@
 -- Worked rows: mirrors files.
 use Rattle.std.specs.Prelude.{◌≡◌, ℕ, Bool, true, false, List, [], ◌∷◌, ◌++◌, replicate, Ok, Err, codes, refl}
-use Rattle.spec_numbers.specs.Numbers.{digits_upto, decimal_upto}
+use Rattle.spec_flow_text.specs.Numbers.{digits_upto, decimal_upto}
 use Rattle.spec_flow_text.specs.declared.fault.TextFault.TheVariants.{Syntax, UnknownName, BadValue, Repeated}
 use Rattle.spec_flow_text.specs.Items.{words}
 use Rattle.spec_script.specs.declared.fault.FileFault.{FileFault}

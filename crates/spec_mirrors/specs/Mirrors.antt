@@ -6,8 +6,8 @@
 use Rattle.std.specs.Prelude.{ℕ, ◌+◌, ◌==◌, nat_lt, Bool, true, false, not, if◌then◌else◌, List, [], ◌∷◌, ◌++◌, length, Option, Some, None, Result, Ok, Err, codes}
 use Rattle.std.specs.List.{list_any}
 use Rattle.std.specs.Option.{ok_or}
-use Rattle.spec_numbers.specs.Characters.{equals_sign}
-use Rattle.spec_numbers.specs.Numbers.{split_once, decimal_upto, last_port}
+use Rattle.spec_flow_text.specs.Characters.{equals_sign}
+use Rattle.spec_flow_text.specs.Numbers.{split_once, decimal_upto, last_port}
 use Rattle.spec_flow_text.specs.declared.fault.TextFault.{TextFault}
 use Rattle.spec_flow_text.specs.declared.fault.TextFault.TheVariants.{Syntax, UnknownName, BadValue, Repeated}
 use Rattle.spec_flow_text.specs.Names.{meaning_of}

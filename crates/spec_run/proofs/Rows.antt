@@ -10,7 +10,7 @@ use Rattle.spec_pcap.specs.Pcap.{Frame, format_of, record_fault, capture_of, fra
 use Rattle.spec_tables.specs.Rules.{winner}
 use Rattle.spec_tables.specs.Edits.{after_edits}
 use Rattle.spec_tables.specs.Changes.{changes_to}
-use Rattle.spec_numbers.specs.Numbers.{digits_upto, decimal_upto, number_upto, octet, octet_before_colon, mac}
+use Rattle.spec_flow_text.specs.Numbers.{digits_upto, decimal_upto, number_upto, octet, octet_before_colon, mac}
 use Rattle.clap.proofs.OnLiterals.{clap_on_literals}
 use Rattle.spec_words.specs.Words as command_line
 use Rattle.spec_words.specs.Words.{port_number, port_word, new_port, port_words, command_of}

@@ -8,7 +8,7 @@ use Rattle.spec_pcap.specs.declared.fault.PcapFault.TheVariants.{ShortHeader, Ma
 use Rattle.spec_pcap.specs.Pcap.{Frame, Capture, format_of, record_fault, capture_of, frames_from, header, record_header, file_of}
 use Rattle.spec_case.specs.Run.{Run}
 use Rattle.spec_tables.specs.Changes.{changes_to}
-use Rattle.spec_numbers.specs.Numbers.{digits_upto, decimal_upto}
+use Rattle.spec_flow_text.specs.Numbers.{digits_upto, decimal_upto}
 use Rattle.clap.proofs.OnLiterals.{clap_on_literals}
 use Rattle.spec_words.specs.Words as command_line
 use Rattle.spec_words.specs.Words.{PortWord, port_number, port_word, new_port, port_words, command_of}

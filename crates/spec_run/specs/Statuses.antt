@@ -4,7 +4,7 @@ use Rattle.std.specs.Fmt.{decimal}
 use Rattle.spec_base.specs.Counts.{Rose}
 use Rattle.spec_pcap.specs.declared.fault.PcapFault.{PcapFault}
 use Rattle.spec_pcap.specs.declared.fault.PcapFault.TheVariants.{ShortHeader, Magic, Version, LinkType, ShortRecord, TooLong, Fraction, TooManyFrames, OutOfMemory}
-use Rattle.spec_numbers.specs.Characters.{dot}
+use Rattle.spec_flow_text.specs.Characters.{dot}
 use Rattle.spec_board.specs.Texts.{line_of}
 use Rattle.spec_flow_text.specs.declared.fault.TextFault.{TextFault}
 use Rattle.spec_flow_text.specs.declared.fault.TextFault.TheVariants as text

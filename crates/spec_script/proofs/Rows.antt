@@ -7,7 +7,7 @@ use Rattle.spec_tables.specs.declared.edit_word.EditWord.TheVariants.{Add}
 use Rattle.spec_tables.specs.declared.sync_point.SyncPoint.{SyncPoint}
 use Rattle.spec_tables.specs.Edits.{Edit}
 use Rattle.spec_tables.specs.Bundles.{each_alone}
-use Rattle.spec_numbers.specs.Numbers.{digits_upto, decimal_upto, number_upto}
+use Rattle.spec_flow_text.specs.Numbers.{digits_upto, decimal_upto, number_upto}
 use Rattle.spec_flow_text.specs.declared.fault.TextFault.TheVariants.{Syntax, UnknownName, BadValue, Repeated}
 use Rattle.spec_flow_text.specs.Names.{field_named, is_field_left_out, shorthand_named, keyword_named, item_named, reserved_port_named, is_action_left_out, action_named}
 use Rattle.spec_flow_text.specs.Values.{value_in, whole_value, value_of, bits_stated, field_stated}

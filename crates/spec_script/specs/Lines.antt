@@ -1,7 +1,7 @@
 -- A file of lines, which are read one after the other. The first line that is wrong decides. From `#` on a line is comment.
 use Rattle.std.specs.Prelude.{ℕ, ◌+◌, ◌==◌, nat_lt, Bool, true, false, if◌then◌else◌, List, [], ◌∷◌, ◌++◌, length, Result, Ok, Err}
 use Rattle.std.specs.List.{list_all, slice_split}
-use Rattle.spec_numbers.specs.Characters.{line_feed}
+use Rattle.spec_flow_text.specs.Characters.{line_feed}
 use Rattle.spec_flow_text.specs.declared.fault.TextFault.{TextFault}
 use Rattle.spec_flow_text.specs.Items.{is_white}
 use Rattle.spec_flow_text.specs.Matches.{uncommented}

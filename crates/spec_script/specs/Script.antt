@@ -8,8 +8,8 @@
 -- bundle (ovs-ofctl(8), `bundle`), and each other edit is one by itself. From `#` on a line is comment.
 use Rattle.std.specs.Prelude.{ℕ, ◌+◌, ◌-◌, ◌*◌, ◌^◌, nat_lt, nat_le, Bool, true, false, if◌then◌else◌, List, [], ◌∷◌, ◌++◌, length, slice_get, Option, Some, None, Result, Ok, Err, codes, bytes_eq, is_some}
 use Rattle.std.specs.Option.{ok_or, option_map, option_map_or, option_and_then, is_none}
-use Rattle.spec_numbers.specs.Characters.{dot}
-use Rattle.spec_numbers.specs.Numbers.{where_found, split_once, digits_upto, decimal_upto}
+use Rattle.spec_flow_text.specs.Characters.{dot}
+use Rattle.spec_flow_text.specs.Numbers.{where_found, split_once, digits_upto, decimal_upto}
 use Rattle.spec_tables.specs.declared.sync_point.SyncPoint.{SyncPoint}
 use Rattle.spec_tables.specs.Edits.{Edit}
 use Rattle.spec_tables.specs.Bundles.{edits_through}

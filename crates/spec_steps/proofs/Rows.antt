@@ -2,7 +2,7 @@
 use Rattle.std.specs.Prelude.{◌≡◌, ℕ, List, [], ◌∷◌, replicate, Ok, Err, codes, refl}
 use Rattle.spec_case.specs.declared.run_step.RunStep.{RunStep}
 use Rattle.spec_case.specs.declared.run_step.RunStep.TheVariants.{Edit, Rx, Snap, Settle, Sweep, Check, Put, Swept, Open}
-use Rattle.spec_numbers.specs.Numbers.{digits_upto, decimal_upto, number_upto}
+use Rattle.spec_flow_text.specs.Numbers.{digits_upto, decimal_upto, number_upto}
 use Rattle.spec_flow_text.specs.declared.fault.TextFault.{TextFault}
 use Rattle.spec_flow_text.specs.declared.fault.TextFault.TheVariants.{Syntax, UnknownName, BadValue}
 use Rattle.spec_flow_text.specs.Items.{words}

@@ -7,8 +7,8 @@
 use Rattle.std.specs.Prelude.{ℕ, ◌==◌, nat_lt, Bool, true, ◌||◌, if◌then◌else◌, List, [], ◌∷◌, length, Option, Some, None, Result, Ok, Err, codes}
 use Rattle.std.specs.List.{find}
 use Rattle.std.specs.Option.{ok_or, option_and_then}
-use Rattle.spec_numbers.specs.Characters.{tab, space}
-use Rattle.spec_numbers.specs.Numbers.{decimal_upto}
+use Rattle.spec_flow_text.specs.Characters.{tab, space}
+use Rattle.spec_flow_text.specs.Numbers.{decimal_upto}
 use Rattle.spec_case.specs.declared.run_step.RunStep.{RunStep}
 use Rattle.spec_case.specs.declared.run_step.RunStep.TheVariants as given
 use Rattle.spec_flow_text.specs.declared.fault.TextFault.{TextFault}

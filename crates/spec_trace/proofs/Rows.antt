@@ -9,9 +9,9 @@ use Rattle.spec_keys.specs.Stages.{through}
 use Rattle.spec_tables.specs.Rules.{winner}
 use Rattle.spec_tables.specs.Edits.{after_edits}
 use Rattle.spec_tables.specs.Changes.{changes_to}
-use Rattle.spec_numbers.specs.Characters.{comma, line_feed}
-use Rattle.spec_numbers.specs.Numbers.{digits_upto, decimal_upto, number_upto, octet, octet_before_colon, mac}
-use Rattle.spec_numbers.specs.Printed.{hexadecimal, hexadecimal4, mac_text}
+use Rattle.spec_flow_text.specs.Characters.{comma, line_feed}
+use Rattle.spec_flow_text.specs.Numbers.{digits_upto, decimal_upto, number_upto, octet, octet_before_colon, mac}
+use Rattle.spec_flow_text.specs.NumbersPrinted.{hexadecimal, hexadecimal4, mac_text}
 use Rattle.spec_words.specs.Words.{port_number}
 use Rattle.spec_xlate.specs.Needs.{is_met, fields_needed}
 use Rattle.spec_xlate.specs.Tags.{outer_tags, commit_tags}
@@ -29,7 +29,7 @@ use Rattle.spec_flow_text.specs.Actions as actions_read
 use Rattle.spec_flow_text.specs.Actions.{up_to_end, items, is_closed, argument_of, arrow_place, ends_of_arrow, arrow_argument, field_in, written_field, bits_between, bits_in, slice_after, slice_of, port_of, load, set_field, modify, inside_brackets, resubmit, drop_item, actions_of_item, read_actions}
 use Rattle.spec_flow_text.specs.Lines.{edit_from, edit_in}
 use Rattle.spec_flow_text.specs.Printed.{value_in_text, shorthand_of, shown, match_printed, actions_printed}
-use Rattle.spec_dp_text.specs.Printed.{dp_actions_printed}
+use Rattle.spec_flow_text.specs.DpTextPrinted.{dp_actions_printed}
 use Rattle.spec_dumps.specs.Megaflows.{megaflow_match_text}
 use Rattle.spec_script.specs.Lines.{with_lines}
 use Rattle.spec_script.specs.Script.{with_line, script_of, with_edit, with_sync, with_begin, with_commit, word_alone, sync_time, time_of, seconds_with_fraction, seconds_of, fraction_of}

@@ -19,12 +19,12 @@ use Rattle.spec_keys.specs.Fields.{fields}
 use Rattle.spec_keys.specs.Keys.{value_of}
 use Rattle.spec_tables.specs.Rules.{Rule}
 use Rattle.spec_tables.specs.Live.{rule_numbered}
-use Rattle.spec_numbers.specs.Characters.{space}
+use Rattle.spec_flow_text.specs.Characters.{space}
 use Rattle.spec_xlate.specs.Translation.{Switch, switch_of, pipe}
 use Rattle.spec_xlate.specs.Lookup.{union}
 use Rattle.spec_xlate.specs.Consulted.{whole, consulted}
 use Rattle.spec_flow_text.specs.Printed.{match_printed, actions_printed}
-use Rattle.spec_dp_text.specs.Printed.{dp_actions_printed}
+use Rattle.spec_flow_text.specs.DpTextPrinted.{dp_actions_printed}
 use Rattle.spec_board.specs.Texts.{line_of}
 use Rattle.spec_dumps.specs.Megaflows.{megaflow_match_text}
 use Rattle.spec_trace.specs.declared.lookup.Lookup.{Lookup}

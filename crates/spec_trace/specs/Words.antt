@@ -2,8 +2,8 @@
 use Rattle.std.specs.Prelude.{ℕ, zero, suc, ◌==◌, ◌||◌, if◌then◌else◌, List, [], ◌∷◌, ◌++◌, length, Option, Some, None}
 use Rattle.std.specs.List.{list_any}
 use Rattle.std.specs.Option.{option_map}
-use Rattle.spec_numbers.specs.Characters.{comma, line_feed}
-use Rattle.spec_numbers.specs.Numbers.{◌>>=◌, where_found, split_once}
+use Rattle.spec_flow_text.specs.Characters.{comma, line_feed}
+use Rattle.spec_flow_text.specs.Numbers.{◌>>=◌, where_found, split_once}
 use Rattle.spec_words.specs.Words.{most_ports, name_in, port_number}
 
 -- the name of the file of edits, the flow, and the ports of the switch in their order

@@ -7,7 +7,7 @@ use Rattle.clap.specs.Faults.{is_simple_and_free}
 use Rattle.clap.specs.declared.builder.value_parser.Reading.{Reading}
 use Rattle.clap.specs.declared.parser.matches.ValueSource.{ValueSource}
 use Rattle.clap.proofs.OnLiterals.{clap_on_literals}
-use Rattle.spec_numbers.specs.Numbers.{digits_upto, decimal_upto}
+use Rattle.spec_flow_text.specs.Numbers.{digits_upto, decimal_upto}
 use Rattle.spec_words.specs.Words.{Command, Input, FilesNamed, Files, Made, PortWord, app, port_number, port_word, new_port, port_words, ports_of, files_in, command_in, command_of}
 
 -- of this command `clap` says exactly which words it takes, and what they say

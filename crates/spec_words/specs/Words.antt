@@ -12,8 +12,8 @@ use Rattle.std.specs.Str.{bytes_eq}
 use Rattle.clap.specs.Words.{App, Row, Rule, new_app, new_rule, with_rule, matches_of, first_of, all_of, fault_of, Kinds}
 use Rattle.clap.specs.Simple.{on_top}
 use Rattle.clap.specs.declared.builder.action.ArgAction.TheVariants.{SetTrue, Append}
-use Rattle.spec_numbers.specs.Characters.{equals_sign}
-use Rattle.spec_numbers.specs.Numbers.{◌>>=◌, split_once, decimal_upto, last_port, nonzero}
+use Rattle.spec_flow_text.specs.Characters.{equals_sign}
+use Rattle.spec_flow_text.specs.Numbers.{◌>>=◌, split_once, decimal_upto, last_port, nonzero}
 
 -- ---- the command
 

@@ -12,8 +12,8 @@ use Rattle.spec_board.specs.Schedules as schedules
 use Rattle.spec_board.specs.Refusals.{look_fault, settle_fault}
 use Rattle.spec_board.specs.Effects.{effect, decided_as}
 use Rattle.spec_board.specs.Journals.{IsLegal}
-use Rattle.run_blocks.specs.Places.{HasPlace, IsInBlock}
-use Rattle.run_blocks.proofs.Blocks.{block_of-from_in}
+use Rattle.run_case.specs.Places.{HasPlace, IsInBlock}
+use Rattle.run_case.proofs.blocks.Blocks.{block_of-from_in}
 use Rattle.translation_laws.proofs.MemberLaws.{All-Among}
 use Rattle.board_laws.specs.Entries.{IsRight}
 use Rattle.board_laws.specs.Versions.{IsRecent}

@@ -13,7 +13,7 @@ use Rattle.spec_board.specs.Results.{key_at, translated, entry_of, covering, exa
 use Rattle.spec_board.specs.Cache.{cached}
 use Rattle.spec_board.specs.Effects.{effect, decided_as}
 use Rattle.spec_board.specs.Journals.{Legal, IsLegal, opened, after}
-use Rattle.run_blocks.specs.Places.{place_before}
+use Rattle.run_case.specs.Places.{place_before}
 use Rattle.board_laws.proofs.Apart.{AreEntriesApart, apart_opened, apart_keeps}
 use Rattle.board_laws.proofs.Journals.{kept_along}
 use Rattle.board_laws.proofs.ListLaws.{find-some}

@@ -12,8 +12,8 @@ use crate::finishing::{finish_block, finish_blocks};
 use pmd_board::Board;
 use run_boards::Boards;
 use run_case::{Case, RunData};
-use run_edits::RunEdits;
 use std::alloc::{AllocError, Global};
+use table_versions::edits::RunEdits;
 use table_versions::{RunTables, Tables};
 
 // All blocks are finished from new boards and new tables.

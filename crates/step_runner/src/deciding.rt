@@ -4,7 +4,7 @@ ghost use Rattle.spec_case.specs.Blocks.{hi, last_block, last_place};
 ghost use Rattle.spec_board.specs.Refusals.{settle_fault};
 ghost use Rattle.spec_board.specs.Schedules as schedules;
 ghost use Rattle.spec_board.specs.State as states;
-ghost use Rattle.run_blocks.specs.Places.{HasPlace, IsInBlock};
+ghost use Rattle.run_case.specs.Places.{HasPlace, IsInBlock};
 ghost use Rattle.pmd_board.specs.BoardView.{HasSettled, state_of};
 ghost use Rattle.run_boards.specs.Progress.{IsAtRest, IsSwept, IsSameBoard, LeavesNonePending, OnlyPlans, SettlesAsPlanned};
 ghost use Rattle.run_boards.specs.Scheduled.{under_way, settled_if_pending};

@@ -15,8 +15,8 @@ use crate::sweeping::{end_sweep, sweep};
 use pmd_board::Board;
 use run_boards::{Boards, Finished, recall_laws};
 use run_case::{Case, RunData};
-use run_edits::RunEdits;
 use std::alloc::{AllocError, Global};
+use table_versions::edits::RunEdits;
 use table_versions::{RunTables, Tables};
 
 // ---- one board

@@ -17,10 +17,10 @@ use Rattle.edge_io.specs.Counts.{Counts, with_fault, with_write_fault}
 use Rattle.edge_io.specs.Opened.{HasOpened, HasOpenedPrefix, HasOpenedUpTo}
 use Rattle.edge_io.specs.Shelf.{Told}
 use Rattle.switch_input.specs.Known.{IsKnownCommand, IsKnown}
-use Rattle.switch_refusals.specs.declared.refusal.InputFault.{InputFault}
-use Rattle.switch_refusals.specs.declared.refusal.InputFault.TheVariants as fault
-use Rattle.switch_refusals.specs.declared.refusal.InputRefusal.TheVariants as input
-use Rattle.switch_refusals.specs.Refused.{fault_view, IsClosedAt}
+use Rattle.switch_input.specs.declared.refusals.refusal.InputFault.{InputFault}
+use Rattle.switch_input.specs.declared.refusals.refusal.InputFault.TheVariants as fault
+use Rattle.switch_input.specs.declared.refusals.refusal.InputRefusal.TheVariants as input
+use Rattle.switch_input.specs.Refused.{fault_view, IsClosedAt}
 use Rattle.switch_output.specs.declared.refusal.WriteRefusal.TheVariants.{WriteFault, OutOfMemory}
 use Rattle.switch_output.specs.declared.refusal.OutputRefusal.TheVariants.{Files, Summary}
 use Rattle.switch_app.specs.declared.refusal.Refusal.{Refusal}

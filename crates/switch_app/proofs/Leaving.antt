@@ -28,7 +28,7 @@ use Rattle.switch_input.specs.Known.{IsKnownInput, IsKnownCommand, IsKnown, Need
 use Rattle.switch_app.specs.declared.refusal.Refusal.TheVariants.{Output}
 use Rattle.switch_app.specs.Ends.{IsAllDone}
 use Rattle.switch_app.specs.RunViews.{ByJournals, IsUntouched, HasRead, IsWritten, Leaves}
-use Rattle.switch_refusals.specs.Reading.{Read}
+use Rattle.switch_input.specs.Reading.{Read}
 
 -- where the verdict is known, the shelf tells what is written, or nothing is
 input_tells : (tells : Bool) (input : Input) (mirrors : List Mirror) → IsKnownInput tells input → IsTrue tells ⊎ (outlets_of input mirrors ≡ None)

@@ -2,7 +2,7 @@
 use Rattle.std.specs.Prelude.{◌≡◌, ℕ, List, [], string_bytes}
 use Rattle.spec_run.specs.Statuses.{write_fault_status, out_of_memory_status, write_fault_text, out_of_memory_text}
 use Rattle.edge_io.specs.declared.outside.Failed.TheVariants as failed
-use Rattle.switch_refusals.specs.Texts.{input_status, input_text}
+use Rattle.switch_input.specs.Texts.{input_status, input_text}
 use Rattle.switch_output.specs.declared.refusal.WriteRefusal.{WriteRefusal}
 use Rattle.switch_output.specs.declared.refusal.WriteRefusal.TheVariants.{WriteFault, OutOfMemory}
 use Rattle.switch_output.specs.declared.refusal.OutputRefusal.{OutputRefusal}

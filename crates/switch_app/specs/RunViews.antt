@@ -15,9 +15,9 @@ use Rattle.edge_io.specs.Opened.{HasOpened}
 use Rattle.edge_io.specs.ReadAll.{OnlyRead}
 use Rattle.edge_io.specs.Written.{written}
 use Rattle.switch_input.specs.Known.{IsKnown}
-use Rattle.switch_refusals.specs.declared.refusal.InputRefusal.{InputRefusal}
-use Rattle.switch_refusals.specs.Reading.{Ending, ReadsWhere}
-use Rattle.switch_refusals.specs.Refused.{TellsUsage, IsClosed, Explains, stop_of}
+use Rattle.switch_input.specs.declared.refusals.refusal.InputRefusal.{InputRefusal}
+use Rattle.switch_input.specs.Reading.{Ending, ReadsWhere}
+use Rattle.switch_input.specs.Refused.{TellsUsage, IsClosed, Explains, stop_of}
 use Rattle.switch_output.specs.declared.refusal.WriteRefusal.{WriteRefusal}
 use Rattle.switch_output.specs.declared.refusal.WriteRefusal.TheVariants.{WriteFault, OutOfMemory}
 use Rattle.switch_output.specs.declared.refusal.OutputRefusal.TheVariants.{Files, Summary}

@@ -52,23 +52,26 @@
 //!
 //! Without workers each port's board takes the given steps and is then run to its end, which decides every frame; it keeps
 //! as many megaflows at most as the words say. The tables follow the bundles meanwhile. With workers threads do all of this
-//! (`switch_decider` has both). Only then files are written and the summary is printed (`switch_output`), of boards whose
-//! type says that they are finished. Why a run was refused is told without memory (`switch_refusals`).
+//! (`decider` has both). Only then files are written and the summary is printed (`switch_output`), of boards whose
+//! type says that they are finished. Why a run was refused is told without memory (`switch_input::refusals`).
 //!
 //! A call that is handed a runtime may wait, and need not return. What a run does without workers is done by calls that
 //! have none: `read_inputs`, `decide_alone`, `put_out` and `say_refusal`. That each of these returns is a part of its proof.
 //!
 //! # What is left to others
 //!
-//! Words, files and the rules of the edits to `switch_input`, the edits under the run's name to `run_edits`, the run
-//! and its blocks to `run_case`, deciding to `switch_decider`, what is written to
-//! `switch_output`, texts and statuses to `switch_refusals`, and all that touches the system to `edge_io`.
+//! Words, files and the rules of the edits to `switch_input`, the edits under the run's name to `table_versions::edits`, the run
+//! and its blocks to `run_case`, deciding to `decider`, what is written to
+//! `switch_output`, texts and statuses to `switch_input::refusals`, and all that touches the system to `edge_io`.
+//!
+//! Both ways to decide a run stand in `decider`.
 #![tactic(auto)]
 
+pub mod decider;
 mod refusal;
 mod run;
 mod say;
 mod status;
 
 pub use run::run_switch;
-pub use switch_refusals::OUT_OF_MEMORY;
+pub use switch_input::refusals::OUT_OF_MEMORY;

@@ -19,23 +19,23 @@ ghost use Rattle.switch_output.specs.Put.{NamesNoFile, PutsWhole, CutsOut};
 ghost use Rattle.switch_app.specs.Ends.{Ends, IsAllDone};
 ghost use Rattle.switch_app.specs.RunViews.{told_if, ByJournals, IsUntouched, Leaves};
 
+use crate::decider::{decide_by_workers, run_schedule};
 use crate::refusal::Refusal;
 use crate::say::say_refusal;
 use crate::status::status_of;
 use edge_io::{Gate, Shelf, Sink};
 use run_boards::Finished;
 use run_case::{Case, RunData};
-use run_edits::RunEdits;
 use spec_case::RunStep;
 use spec_dumps::Ran;
 use std::alloc::{AllocError, Global};
 use std::marker::Brand;
 use std::sync::Wait;
 use std::thread::Threads;
-use switch_decider::{decide_by_workers, run_schedule};
+use switch_input::refusals::DONE;
 use switch_input::{Command, Input, Inputs, Mirror, read_inputs};
 use switch_output::{Outlets, OutputRefusal, put_out};
-use switch_refusals::DONE;
+use table_versions::edits::RunEdits;
 
 // What is written, where something is.
 fn outlets_of<'m>(input: &'m Input<'_>, mirrors: &'m [Mirror]) -> Option<Outlets<'m>>

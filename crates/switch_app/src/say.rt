@@ -5,8 +5,8 @@ ghost use Rattle.switch_app.specs.Refused.{write_text, output_text, text_of, IsS
 
 use crate::refusal::Refusal;
 use edge_io::{Failed, Sink};
+use switch_input::refusals::{say_input_refusal, say_out_of_memory, say_write_fault};
 use switch_output::{OutputRefusal, WriteRefusal};
-use switch_refusals::{say_input_refusal, say_out_of_memory, say_write_fault};
 
 fn say_write_refusal<K: Sink>(say: &mut K, refusal: &WriteRefusal)
     ensures { IsTrue K.tells → Prints K.needs_memory (K.faults say.old) (K.faults say.new) (K.written say.old)

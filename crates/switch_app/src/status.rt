@@ -4,8 +4,8 @@ ghost use Rattle.switch_app.specs.Refused.{write_status, output_status, status_o
 
 use crate::refusal::Refusal;
 use edge_io::Failed;
+use switch_input::refusals::{OUT_OF_MEMORY, WRITE_FAULT, input_status};
 use switch_output::{OutputRefusal, WriteRefusal};
-use switch_refusals::{OUT_OF_MEMORY, WRITE_FAULT, input_status};
 
 fn write_status(refusal: &WriteRefusal) -> u8
     ensures { result ≡ write_status refusal.now }

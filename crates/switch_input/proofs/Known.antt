@@ -5,10 +5,10 @@ use Rattle.spec_words.specs.Words as words
 use Rattle.spec_run.specs.Verdict.{Refusal, Usage, command_in}
 use Rattle.command_words.specs.declared.reading.Command.{Command}
 use Rattle.command_words.specs.CommandViews.{command_view}
-use Rattle.switch_refusals.specs.declared.refusal.InputFault.TheVariants as fault
-use Rattle.switch_refusals.specs.declared.refusal.InputRefusal.{InputRefusal}
-use Rattle.switch_refusals.specs.declared.refusal.InputRefusal.TheVariants.{Input}
-use Rattle.switch_refusals.specs.Refused.{TakesWords, TellsUsage, Explains}
+use Rattle.switch_input.specs.declared.refusals.refusal.InputFault.TheVariants as fault
+use Rattle.switch_input.specs.declared.refusals.refusal.InputRefusal.{InputRefusal}
+use Rattle.switch_input.specs.declared.refusals.refusal.InputRefusal.TheVariants.{Input}
+use Rattle.switch_input.specs.Refused.{TakesWords, TellsUsage, Explains}
 use Rattle.switch_input.specs.declared.inputs.Inputs.{Inputs}
 use Rattle.switch_input.specs.Known.{IsKnownInput, IsKnownCommand, IsKnown}
 

@@ -3,11 +3,11 @@ use Rattle.std.proofs.Common.{◌≡◌, ℕ, List, [], ◌∷◌, ◌++◌, ref
 use Rattle.std.proofs.lemmas.List.{append-nil}
 use Rattle.edge_io.specs.Shelf.{Told}
 use Rattle.edge_io.specs.Opened.{HasOpened, HasOpenedPrefix}
-use Rattle.switch_refusals.specs.declared.refusal.InputRefusal.{InputRefusal}
-use Rattle.switch_refusals.specs.declared.refusal.InputRefusal.TheVariants.{Input, ReadFault, OutOfMemory}
-use Rattle.switch_refusals.specs.Reading.{HasOpenedUntil}
-use Rattle.switch_refusals.specs.Refused.{IfInput, stop_of}
-use Rattle.switch_refusals.proofs.Reading.{opened_none, opened_both}
+use Rattle.switch_input.specs.declared.refusals.refusal.InputRefusal.{InputRefusal}
+use Rattle.switch_input.specs.declared.refusals.refusal.InputRefusal.TheVariants.{Input, ReadFault, OutOfMemory}
+use Rattle.switch_input.specs.Reading.{HasOpenedUntil}
+use Rattle.switch_input.specs.Refused.{IfInput, stop_of}
+use Rattle.switch_input.proofs.refusals.Reading.{opened_none, opened_both}
 
 -- A prefix of all was opened, and these are left.
 abbrev pub HasLeft : Told → Told → List (List ℕ) → List (List ℕ) → Type 0

@@ -8,10 +8,10 @@ use Rattle.spec_run.specs.declared.quantity.Quantity.TheVariants.{EditsBytes, St
 use Rattle.spec_mirrors.specs.Mirrors.{most_mirrors_bytes}
 use Rattle.spec_run.specs.Limits.{most_edits_bytes, most_steps_bytes}
 use Rattle.spec_run.specs.Verdict.{Files, Refusal, Limit, refused_trace, script_in, steps_within, steps_in, mirrors_within, mirrors_in, file_in}
-use Rattle.switch_refusals.specs.declared.refusal.InputFault.{InputFault}
-use Rattle.switch_refusals.specs.declared.refusal.InputRefusal.{InputRefusal}
-use Rattle.switch_refusals.specs.declared.refusal.InputRefusal.TheVariants.{Input, ReadFault, OutOfMemory}
-use Rattle.switch_refusals.specs.Refused.{fault_view, IfInput, Explains}
+use Rattle.switch_input.specs.declared.refusals.refusal.InputFault.{InputFault}
+use Rattle.switch_input.specs.declared.refusals.refusal.InputRefusal.{InputRefusal}
+use Rattle.switch_input.specs.declared.refusals.refusal.InputRefusal.TheVariants.{Input, ReadFault, OutOfMemory}
+use Rattle.switch_input.specs.Refused.{fault_view, IfInput, Explains}
 use Rattle.switch_input.specs.EditsViews.{script_in_bytes}
 
 past : (n limit : ℕ) → limit < n → nat_lt limit n ≡ true

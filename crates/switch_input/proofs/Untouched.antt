@@ -2,10 +2,10 @@
 use Rattle.std.proofs.Common.{arith}
 use Rattle.std.specs.Prelude.{Result, Ok, Err, IfErr}
 use Rattle.edge_io.specs.Counts.{no_faults}
-use Rattle.switch_refusals.specs.declared.refusal.InputRefusal.{InputRefusal}
-use Rattle.switch_refusals.specs.declared.refusal.InputRefusal.TheVariants.{Input, ReadFault, OutOfMemory}
-use Rattle.switch_refusals.specs.Reading.{HasCounted}
-use Rattle.switch_refusals.specs.Refused.{TellsNoFault, ending_of}
+use Rattle.switch_input.specs.declared.refusals.refusal.InputRefusal.{InputRefusal}
+use Rattle.switch_input.specs.declared.refusals.refusal.InputRefusal.TheVariants.{Input, ReadFault, OutOfMemory}
+use Rattle.switch_input.specs.Reading.{HasCounted}
+use Rattle.switch_input.specs.Refused.{TellsNoFault, ending_of}
 
 -- a shelf whose calls never fail has no read fault
 pub never_failed : {T : Type 0} (result : Result T InputRefusal) → HasCounted no_faults no_faults (ending_of result) → IfErr result TellsNoFault

@@ -12,11 +12,11 @@ use Rattle.command_words.specs.declared.reading.Command.{Command}
 use Rattle.command_words.specs.CommandViews.{input_view, command_view}
 use Rattle.switch_input.specs.declared.inputs.Inputs.{Inputs}
 use Rattle.switch_input.specs.InputViews.{sources_for, mirrored_view, accepted_view}
-use Rattle.switch_refusals.specs.declared.refusal.InputRefusal.{InputRefusal}
-use Rattle.switch_refusals.specs.declared.refusal.InputRefusal.TheVariants.{Input, ReadFault, OutOfMemory}
-use Rattle.switch_refusals.specs.Reading.{HasOpenedUntil, ReadsWhere}
-use Rattle.switch_refusals.specs.Refused.{IfInput, TellsNoFault, Explains, stop_of}
-use Rattle.switch_refusals.proofs.Reading.{opened_none, none_yet, reads_unbegun}
+use Rattle.switch_input.specs.declared.refusals.refusal.InputRefusal.{InputRefusal}
+use Rattle.switch_input.specs.declared.refusals.refusal.InputRefusal.TheVariants.{Input, ReadFault, OutOfMemory}
+use Rattle.switch_input.specs.Reading.{HasOpenedUntil, ReadsWhere}
+use Rattle.switch_input.specs.Refused.{IfInput, TellsNoFault, Explains, stop_of}
+use Rattle.switch_input.proofs.refusals.Reading.{opened_none, none_yet, reads_unbegun}
 use Rattle.edge_io.specs.declared.outside.Shelf as shelf
 use Rattle.edge_io.specs.Shelf.{Told}
 use Rattle.edge_io.specs.Opened.{HasOpened, HasOpenedPrefix}

@@ -8,10 +8,10 @@ use Rattle.edge_io.specs.Shelf.{Told}
 use Rattle.edge_io.specs.ReadAll.{OnlyRead}
 use Rattle.edge_io.specs.Opened.{HasOpened}
 use Rattle.command_words.specs.declared.ports.PortWord.{PortWord}
-use Rattle.switch_refusals.specs.declared.refusal.InputRefusal.{InputRefusal}
-use Rattle.switch_refusals.specs.declared.refusal.InputRefusal.TheVariants.{Input, ReadFault, OutOfMemory}
-use Rattle.switch_refusals.specs.Reading.{HasOpenedUntil}
-use Rattle.switch_refusals.specs.Refused.{IfInput, Explains, stop_of}
+use Rattle.switch_input.specs.declared.refusals.refusal.InputRefusal.{InputRefusal}
+use Rattle.switch_input.specs.declared.refusals.refusal.InputRefusal.TheVariants.{Input, ReadFault, OutOfMemory}
+use Rattle.switch_input.specs.Reading.{HasOpenedUntil}
+use Rattle.switch_input.specs.Refused.{IfInput, Explains, stop_of}
 use Rattle.command_words.specs.PortViews.{port_view, ports_view}
 use Rattle.switch_input.proofs.Opened.{HasLeft, none_left, left_later, opened_until}
 

@@ -3,3 +3,7 @@ pub mod MadeViews
 pub mod EditsViews
 pub mod Known
 pub mod InputViews
+pub mod Pieces
+pub mod Reading
+pub mod Refused
+pub mod Texts

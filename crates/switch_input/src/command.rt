@@ -3,11 +3,11 @@ ghost use Rattle.std.specs.Prelude.{◌≡◌, Ok, IfOk, IfErr};
 ghost use Rattle.spec_run.specs.Verdict.{command_in};
 ghost use Rattle.command_words.specs.PortViews.{ArePorts};
 ghost use Rattle.command_words.specs.CommandViews.{texts, command_view, IfFiles, HasWorkers};
-ghost use Rattle.switch_refusals.specs.Refused.{Explains, TellsNoFault};
+ghost use Rattle.switch_input.specs.Refused.{Explains, TellsNoFault};
 
+use crate::refusals::{InputFault, InputRefusal};
 use command_words::Command;
 use std::alloc::Global;
-use switch_refusals::{InputFault, InputRefusal};
 
 /// Reads the words of the command line.
 #[tactic(auto, unfolding(spec_run::specs::Verdict::command_in))]

@@ -13,17 +13,17 @@ ghost use Rattle.spec_tables.specs.Edits.{has_sound_actions};
 ghost use Rattle.rule_tables.specs.History.{history_of};
 ghost use Rattle.edit_script.specs.ScriptViews.{script_view};
 ghost use Rattle.switch_input.specs.EditsViews.{script_in_bytes};
-ghost use Rattle.switch_refusals.specs.Reading.{ReadsFiles};
-ghost use Rattle.switch_refusals.specs.Refused.{IfReadFault, TakesWords, TellsNoFault, IsClosed, Explains, ending_of};
+ghost use Rattle.switch_input.specs.Reading.{ReadsFiles};
+ghost use Rattle.switch_input.specs.Refused.{IfReadFault, TakesWords, TellsNoFault, IsClosed, Explains, ending_of};
 
 use crate::reading::read_file;
+use crate::refusals::{InputFault, InputRefusal, MOST_EDITS_BYTES, refused_text};
 use crate::rules::rules_of;
 use edge_io::Shelf;
 use edit_script::{Script, read_script};
 use rule_tables::VersionedRules;
 use spec_run::Quantity;
 use std::alloc::Global;
-use switch_refusals::{InputFault, InputRefusal, MOST_EDITS_BYTES, refused_text};
 
 /// The script of a file of edits, and the rules of all versions that its edits make.
 #[derive(Drop)]

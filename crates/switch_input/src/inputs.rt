@@ -6,26 +6,26 @@ ghost use Rattle.command_words.specs.PortViews.{ArePorts};
 ghost use Rattle.command_words.specs.CommandViews.{texts, command_view, input_view, IfFiles, HasWorkers};
 ghost use Rattle.switch_input.specs.InputViews.{sources_for, run_for, Gives, accepted_view, IsWithinLimits};
 ghost use Rattle.switch_input.specs.Known.{IsKnownInput, IsKnown, NeedNoFile};
-ghost use Rattle.switch_refusals.specs.Reading.{ReadsFiles, ReadsWhere};
-ghost use Rattle.switch_refusals.specs.Refused.{TakesWords, TellsUsage, TellsNoFault, IsClosed, Explains, ending_of};
+ghost use Rattle.switch_input.specs.Reading.{ReadsFiles, ReadsWhere};
+ghost use Rattle.switch_input.specs.Refused.{TakesWords, TellsUsage, TellsNoFault, IsClosed, Explains, ending_of};
 
 use crate::command::read_command;
 use crate::edits::read_edits;
 use crate::made::made_shelf;
 use crate::mirrors::read_mirrors;
 use crate::reading::read_traces;
+use crate::refusals::InputRefusal;
 use crate::sources::{ports_of, sources_of};
 use crate::steps::read_steps;
 use command_words::{Command, Input};
 use edge_io::Shelf;
 use edit_script::Script;
-use pcap_reader::Trace;
+use pcap_files::reader::Trace;
 use port_scripts::Mirror;
 use rule_tables::VersionedRules;
-use run_blocks::Ports;
+use run_case::blocks::Ports;
 use spec_case::RunStep;
 use std::alloc::Global;
-use switch_refusals::InputRefusal;
 
 /// What the words say, and what was read for them.
 #[derive(Drop)]

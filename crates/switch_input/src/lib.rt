@@ -32,10 +32,10 @@
 //! Each stage of the verdict has a function whose contract is that stage: `read_command`, `read_edits`, `read_steps`,
 //! `read_mirrors`, and `read_traces`, which goes from port to port and gives each trace the room that those before it left. The whole is the
 //! chain of their answers, as the verdict is the chain of the stages. What all of them do to the shelf is one word,
-//! `ReadsFiles` (`switch_refusals`). They meet the shelf in `read_file` alone. The bytes of
+//! `ReadsFiles` (`refusals`). They meet the shelf in `read_file` alone. The bytes of
 //! a trace are read into the memory where they stay.
 //!
-//! What a number makes is put on a shelf in memory that never fails (`edge_memory`), and read from it by the same function
+//! What a number makes is put on a shelf in memory that never fails (`edge_io::memory`), and read from it by the same function
 //! as files. So whatever limits files limits that too, and it takes the memory for its bytes twice while it is read.
 //!
 //! How many rules the edits change is limited, so they are applied here, bundle by bundle, before anything else is read,
@@ -45,9 +45,11 @@
 //! # What is left to others
 //!
 //! What the words say to `command_words`, scripts to `edit_script`, what an edit does to `rule_tables`, steps files and
-//! mirrors files to `port_scripts`, capture files to `pcap_reader`, what a number makes to `trace_gen`, and all that
-//! touches the system to `edge_io`. What refusals are told as is for `switch_refusals`, and what becomes of the run for
+//! mirrors files to `port_scripts`, capture files to `pcap_files::reader`, what a number makes to `trace_gen`, and all that
+//! touches the system to `edge_io`. What refusals are told as is for `refusals`, and what becomes of the run for
 //! `switch_app`. No board is known here, so that reading and deciding are proved side by side.
+//!
+//! Statuses and texts of refusals stand in `refusals`.
 #![tactic(auto)]
 
 mod command;
@@ -56,12 +58,13 @@ mod inputs;
 mod made;
 mod mirrors;
 mod reading;
+pub mod refusals;
 mod rules;
 mod sources;
 mod steps;
 
+pub use crate::refusals::{InputFault, InputRefusal};
 pub use command_words::{Command, FilesNamed, Input, PortWord};
 pub use edits::{EditsFile, read_edits};
 pub use inputs::{Inputs, read_inputs};
 pub use port_scripts::Mirror;
-pub use switch_refusals::{InputFault, InputRefusal};

@@ -5,12 +5,12 @@ ghost use Rattle.edge_io.specs.declared.outside.InUse.TheVariants.{Nothing};
 ghost use Rattle.edge_io.specs.Shelf.{untouched};
 ghost use Rattle.spec_base.specs.Files.{lookup_or_empty};
 ghost use Rattle.spec_run.specs.Verdict.{made_sources, made_list};
-ghost use Rattle.edge_memory.specs.Stored.{pairs};
+ghost use Rattle.edge_io.specs.Stored.{pairs};
 ghost use Rattle.switch_input.specs.MadeViews.{file_by_port};
 
 use crate::sources::MADE_EDITS;
 use edge_io::Shelf;
-use edge_memory::SteadyShelf;
+use edge_io::memory::SteadyShelf;
 use std::alloc::{AllocError, Global};
 use trace_gen::{Made, MadeTrace, generate};
 

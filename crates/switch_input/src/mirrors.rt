@@ -4,15 +4,15 @@ ghost use Rattle.edge_io.specs.declared.outside.InUse.TheVariants.{Nothing};
 ghost use Rattle.spec_run.specs.Verdict.{mirrors_within, mirrors_in, given_names};
 ghost use Rattle.spec_mirrors.specs.Mirrors.{most_mirrors_bytes, most_mirrors};
 ghost use Rattle.command_words.specs.CommandViews.{text_view};
-ghost use Rattle.switch_refusals.specs.Reading.{ReadsFiles};
-ghost use Rattle.switch_refusals.specs.Refused.{IfReadFault, TakesWords, TellsNoFault, IsClosed, Explains, ending_of};
+ghost use Rattle.switch_input.specs.Reading.{ReadsFiles};
+ghost use Rattle.switch_input.specs.Refused.{IfReadFault, TakesWords, TellsNoFault, IsClosed, Explains, ending_of};
 
 use crate::reading::read_file;
+use crate::refusals::{InputFault, InputRefusal, MOST_MIRRORS_BYTES, refused_text};
 use edge_io::Shelf;
 use port_scripts::{Mirror, read_mirrors as read_mirror_script};
 use spec_run::Quantity;
 use std::alloc::Global;
-use switch_refusals::{InputFault, InputRefusal, MOST_MIRRORS_BYTES, refused_text};
 
 // The mirrors of the bytes of a file, for a switch of these ports.
 fn mirrors_of<'a>(

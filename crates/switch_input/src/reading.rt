@@ -5,15 +5,15 @@ ghost use Rattle.spec_run.specs.Limits.{most_trace_bytes, most_frames};
 ghost use Rattle.spec_run.specs.Verdict.{refused_trace, file_in, trace_in, traces_in, trace_names, traces_opened};
 ghost use Rattle.command_words.specs.PortViews.{port_view, ports_view};
 ghost use Rattle.switch_input.specs.InputViews.{trace_view};
-ghost use Rattle.switch_refusals.specs.Reading.{ReadsFiles};
-ghost use Rattle.switch_refusals.specs.Refused.{fault_view, IfInput, IfReadFault, TakesWords, TellsNoFault, IsClosed, Explains, ending_of};
+ghost use Rattle.switch_input.specs.Reading.{ReadsFiles};
+ghost use Rattle.switch_input.specs.Refused.{fault_view, IfInput, IfReadFault, TakesWords, TellsNoFault, IsClosed, Explains, ending_of};
 
+use crate::refusals::{InputFault, InputRefusal, MOST_FRAMES, MOST_TRACE_BYTES};
 use command_words::PortWord;
 use edge_io::{ReadFault, Shelf, read_all};
-use pcap_reader::{PcapFault, Trace, read_trace};
+use pcap_files::reader::{PcapFault, Trace, read_trace};
 use spec_run::Quantity;
 use std::alloc::Global;
-use switch_refusals::{InputFault, InputRefusal, MOST_FRAMES, MOST_TRACE_BYTES};
 
 /// Reads a file whole. One that has more bytes than `most` is above the limit of this quantity.
 pub fn read_file<'a, S: Shelf>(

@@ -3,9 +3,9 @@ ghost use Rattle.spec_tables.specs.Bundles.{AreBundles};
 ghost use Rattle.spec_run.specs.Limits.{most_changes};
 ghost use Rattle.rule_tables.specs.History.{edit_history, history_of};
 
+use crate::refusals::MOST_CHANGES;
 use rule_tables::{Edit, VersionedRules};
 use std::alloc::{AllocError, Global};
-use switch_refusals::MOST_CHANGES;
 
 /// The rules of all versions that edits make, of which so many stand through each bundle, or `None` where they change more
 /// than they may.

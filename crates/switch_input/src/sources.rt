@@ -6,7 +6,7 @@ ghost use Rattle.command_words.specs.CommandViews.{input_view, IfFiles};
 ghost use Rattle.switch_input.specs.SourceViews.{sources_view};
 
 use command_words::{Input, PortWord};
-use run_blocks::Ports;
+use run_case::blocks::Ports;
 use std::alloc::{AllocError, Global};
 
 /// The names of what is read: the file of edits, the steps file and the mirrors file where there are such, and the traces of

@@ -5,15 +5,15 @@ ghost use Rattle.spec_run.specs.Limits.{most_steps_bytes};
 ghost use Rattle.spec_run.specs.Verdict.{steps_within, steps_in, given_names};
 ghost use Rattle.spec_steps.specs.Steps.{most_steps};
 ghost use Rattle.command_words.specs.CommandViews.{text_view};
-ghost use Rattle.switch_refusals.specs.Reading.{ReadsFiles};
-ghost use Rattle.switch_refusals.specs.Refused.{IfReadFault, TakesWords, TellsNoFault, IsClosed, Explains, ending_of};
+ghost use Rattle.switch_input.specs.Reading.{ReadsFiles};
+ghost use Rattle.switch_input.specs.Refused.{IfReadFault, TakesWords, TellsNoFault, IsClosed, Explains, ending_of};
 
 use crate::reading::read_file;
+use crate::refusals::{InputFault, InputRefusal, MOST_STEPS_BYTES, refused_text};
 use edge_io::Shelf;
 use port_scripts::{RunStep, read_steps as read_step_script};
 use spec_run::Quantity;
 use std::alloc::Global;
-use switch_refusals::{InputFault, InputRefusal, MOST_STEPS_BYTES, refused_text};
 
 // The steps of the bytes of a file, for a switch of these ports.
 fn steps_of<'a>(

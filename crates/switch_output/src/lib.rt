@@ -17,7 +17,7 @@
 //!
 //! # How
 //!
-//! Each file has a name and a call of `egress_capture`, `flow_dump`, `netflow_v5` or `port_mirror` (`RunFile`), and one
+//! Each file has a name and a call of `egress_capture`, `flow_dump`, `netflow_v5` or `egress_capture::mirror` (`RunFile`), and one
 //! function writes each of them. The filters that tell a port, or a mirror, which frames may be for it are made once, before
 //! the first file: 4 bytes for each frame. What was written before is a list of whole files, to which each call adds one, and
 //! the ways to be cut short go along (`proofs/Written`).

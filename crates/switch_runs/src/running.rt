@@ -4,8 +4,8 @@ ghost use Rattle.edge_io.specs.declared.outside.InUse.TheVariants.{Nothing};
 
 use crate::bytes::{bytes_of, text_of};
 use crate::cases::{Outlets, Run, Trace};
+use edge_io::memory::{MemoryShelf, MemorySink};
 use edge_io::{OpenGate, Shelf};
-use edge_memory::{MemoryShelf, MemorySink};
 use std::alloc::{AllocError, Global};
 use std::sync::Wait;
 use std::thread::Threads;

@@ -8,7 +8,7 @@ use crate::rules::RULES;
 use crate::schedules::SCHEDULES;
 use crate::sending::{IN_NANOSECONDS, SENDING};
 use crate::tags::TAGS;
-use edge_memory::MemoryShelf;
+use edge_io::memory::MemoryShelf;
 use std::alloc::{AllocError, Global};
 use std::sync::Wait;
 use std::test::Fail;

@@ -5,7 +5,7 @@ ghost use Rattle.spec_xlate.specs.Lookup.{union};
 ghost use Rattle.spec_xlate.specs.Consulted.{whole};
 ghost use Rattle.spec_xlate.specs.Translation.{switch_of, pipe};
 ghost use Rattle.ovs_fields.specs.Packed.{numbers, bits};
-ghost use Rattle.rule_lines.specs.Live.{IsOfEdits, live_in};
+ghost use Rattle.dump_lines.specs.Live.{IsOfEdits, live_in};
 ghost use Rattle.pipe_model.specs.Runnable.{AreRunnable};
 ghost use Rattle.pipe_model.specs.Plains.{translation_in};
 ghost use Rattle.table_diff.specs.Deciding.{tells_all};

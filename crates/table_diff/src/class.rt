@@ -1,5 +1,5 @@
 ghost use Rattle.std.specs.Prelude.{◌≡◌};
-ghost use Rattle.spec_dp_text.specs.Within.{AreWithinFields};
+ghost use Rattle.spec_flow_text.specs.Within.{AreWithinFields};
 
 use crate::cube::Cube;
 use dp_actions::ActionList;

@@ -6,7 +6,7 @@ ghost use Rattle.spec_xlate.specs.Consulted.{without};
 ghost use Rattle.spec_xlate.specs.Translation.{switch_of};
 ghost use Rattle.spec_diff.specs.Classes.{IsFrameKey};
 ghost use Rattle.ovs_fields.specs.Packed.{numbers, bits};
-ghost use Rattle.rule_lines.specs.Live.{IsOfEdits, live_in};
+ghost use Rattle.dump_lines.specs.Live.{IsOfEdits, live_in};
 ghost use Rattle.pipe_model.specs.Runnable.{AreRunnable};
 ghost use Rattle.rule_changes.specs.Changes.{AreAllChanges};
 ghost use Rattle.table_diff.specs.Judging.{Holds, AreAllWithin, mask_of};

@@ -39,7 +39,7 @@
 //!
 //! # What is left to others
 //!
-//! The text of classes (`diff_lines`). A class says datapath actions, which depend on the bits that are written over:
+//! The text of classes (`diff_app::lines`). A class says datapath actions, which depend on the bits that are written over:
 //! rules that rewrite make a class for each value that such bits may have, and many of them end at the limit.
 #![tactic(auto)]
 

@@ -3,7 +3,7 @@ ghost use Rattle.std.specs.Prelude.{◌≡◌};
 ghost use Rattle.std.specs.Option.{option_map};
 ghost use Rattle.spec_tables.specs.Rules.{rules_in, winner};
 ghost use Rattle.ovs_fields.specs.Packed.{numbers};
-ghost use Rattle.rule_lines.specs.Live.{IsOfEdits, live_in};
+ghost use Rattle.dump_lines.specs.Live.{IsOfEdits, live_in};
 ghost use Rattle.pipe_model.specs.Runnable.{AreRunnable};
 
 use crate::choosing::add_difference;

@@ -13,11 +13,11 @@ use left_right::Absorb;
 use left_right::reader::Factory;
 use left_right::writer::Writer;
 use run_case::Case;
-use run_edits::RunEdits;
 use std::alloc::{AllocError, Global};
 use std::marker::Model;
 use std::sync::Wait;
 use std::thread::yield_now;
+use table_versions::edits::RunEdits;
 use table_versions::{RunTables, Tables};
 
 /// Why no version was published.

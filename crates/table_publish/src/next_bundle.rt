@@ -4,9 +4,9 @@ ghost use Rattle.spec_case.specs.Run.{last_version};
 use left_right::Absorb;
 use rule_tables::Edit;
 use run_case::Case;
-use run_edits::RunEdits;
 use std::alloc::{AllocError, Global};
 use std::marker::{Model, PhantomData};
+use table_versions::edits::RunEdits;
 use table_versions::{RunTables, Tables};
 
 /// A bundle of the run, which makes the next version of the tables. Contracts see the version that it makes.

@@ -1,4 +1,4 @@
-use flow_stats::{Counts, Totals};
+use port_caches::stats::{Counts, Totals};
 use std::test::Fail;
 
 #[test]

@@ -29,8 +29,11 @@
 //!
 //! Keeping rules and finding them: `run_tables`. Handing versions to readers while the next one is made, and which version
 //! a frame is due. That the actions of the edits are sound, as `new` requires: whoever reads the edits sees to it.
+//!
+//! The edits of a run stand in `edits`.
 #![tactic(auto)]
 
+pub mod edits;
 mod tables;
 mod threads;
 

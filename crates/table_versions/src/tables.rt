@@ -5,11 +5,11 @@ ghost use Rattle.ovs_fields.specs.Packed.{numbers};
 ghost use Rattle.spec_tables.specs.Edits.{has_sound_actions};
 ghost use Rattle.table_versions.specs.NextBundle.{IsBundleOf};
 
+use crate::edits::RunEdits;
 use ovs_fields::Key;
 use pipe_model::SpareLists;
 use rule_tables::Edit;
 use run_case::{Case, RunData};
-use run_edits::RunEdits;
 use run_xlate::Xlated;
 use std::alloc::{AllocError, Global};
 use std::marker::{Model, PhantomData};

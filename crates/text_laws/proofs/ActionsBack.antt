@@ -12,9 +12,9 @@ use Rattle.spec_actions.specs.declared.action.OfAction.{OfAction}
 use Rattle.spec_actions.specs.declared.action.OfAction.TheVariants.{Output, OutputField, InPort, All, Flood, Resubmit, Goto, Set, Move, DecTtl, PushVlan, PopVlan, SetVid, SetPcp}
 use Rattle.spec_actions.specs.Named.{named, is_printed_alone}
 use Rattle.spec_actions.specs.Sound.{is_written, fits_name, is_sound, is_sound_slice, last_table, last_vid, last_pcp}
-use Rattle.spec_numbers.specs.Characters.{hyphen, greater_than, slash}
-use Rattle.spec_numbers.specs.Numbers.{digits_upto, decimal_upto, number_upto, last_port, mac, octet_before_colon}
-use Rattle.spec_numbers.specs.Addresses.{ipv4, ipv6, decimal_octet_before_dot, eight_groups, groups, last_groups, group, groups_of_ipv4, elided_groups, split_at_elision}
+use Rattle.spec_flow_text.specs.Characters.{hyphen, greater_than, slash}
+use Rattle.spec_flow_text.specs.Numbers.{digits_upto, decimal_upto, number_upto, last_port, mac, octet_before_colon}
+use Rattle.spec_flow_text.specs.Addresses.{ipv4, ipv6, decimal_octet_before_dot, eight_groups, groups, last_groups, group, groups_of_ipv4, elided_groups, split_at_elision}
 use Rattle.spec_flow_text.specs.declared.names.ActionName.TheVariants as action
 use Rattle.spec_flow_text.specs.Names.{name_of, action_named, reserved_port_named}
 use Rattle.spec_flow_text.specs.Values.{Bits, bits, form_of, most_of, value_in, whole_value, value_of}

@@ -8,7 +8,7 @@ use Rattle.std.proofs.lemmas.Bool.{cases_lt, and_from, and_parts, both_ways, not
 use Rattle.std.proofs.lemmas.Bool.Decides.{nat_tests}
 use Rattle.std.proofs.lemmas.List.{drop-append-le, drop_all}
 use Rattle.std.proofs.lemmas.List.Sums.{take_while-cons}
-use Rattle.spec_numbers.specs.Numbers.{split_once}
+use Rattle.spec_flow_text.specs.Numbers.{split_once}
 
 -- what stands after an element that ends the front is no part of the front
 pub take_while-ended : {X : Type 0} (p : X → Bool) (xs rest : List X) (x : X) → p x ≡ false → take_while p (xs ++ x ∷ rest) ≡ take_while p xs

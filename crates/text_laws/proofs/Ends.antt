@@ -5,8 +5,8 @@ use Rattle.std.specs.List.{fold}
 use Rattle.std.proofs.lemmas.Bool.{not_from_true, both_ways}
 use Rattle.std.proofs.lemmas.Bool.Decides.{nat_tests}
 use Rattle.spec_actions.specs.declared.action.OfAction.{OfAction}
-use Rattle.spec_numbers.specs.Characters.{left_parenthesis, left_bracket}
-use Rattle.spec_numbers.specs.Numbers.{where_found}
+use Rattle.spec_flow_text.specs.Characters.{left_parenthesis, left_bracket}
+use Rattle.spec_flow_text.specs.Numbers.{where_found}
 use Rattle.spec_flow_text.specs.declared.names.ActionName.{ActionName}
 use Rattle.spec_flow_text.specs.declared.names.ActionName.TheVariants as action
 use Rattle.spec_flow_text.specs.declared.fault.TextFault.{TextFault}

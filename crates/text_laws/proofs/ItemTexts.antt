@@ -17,9 +17,9 @@ use Rattle.spec_actions.specs.declared.action.OfAction.TheVariants.{Output, Outp
 use Rattle.spec_actions.specs.Sound.{is_sound, is_written, is_sound_slice, last_table, last_vid, last_pcp}
 use Rattle.spec_actions.specs.Named.{is_printed_alone}
 use Rattle.spec_keys.specs.Protocols.{is_tag_type}
-use Rattle.spec_numbers.specs.Printed.{hexadecimal4}
-use Rattle.spec_numbers.specs.Characters.{dot, hyphen, greater_than, slash, comma, left_parenthesis, right_parenthesis, left_bracket, right_bracket, is_value_character}
-use Rattle.spec_numbers.specs.Numbers.{where_found, split_once, digits_upto, number_upto, last_port}
+use Rattle.spec_flow_text.specs.NumbersPrinted.{hexadecimal4}
+use Rattle.spec_flow_text.specs.Characters.{dot, hyphen, greater_than, slash, comma, left_parenthesis, right_parenthesis, left_bracket, right_bracket, is_value_character}
+use Rattle.spec_flow_text.specs.Numbers.{where_found, split_once, digits_upto, number_upto, last_port}
 use Rattle.spec_flow_text.specs.declared.names.ActionName.TheVariants as action
 use Rattle.spec_flow_text.specs.Names.{name_of, field_named, action_named, reserved_port_named, begins_with_digit}
 use Rattle.spec_flow_text.specs.Items.{◌>>=◌, Word}

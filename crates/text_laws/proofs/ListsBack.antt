@@ -12,8 +12,8 @@ use Rattle.spec_actions.specs.declared.action.OfAction.{OfAction}
 use Rattle.spec_actions.specs.Sound.{is_sound}
 use Rattle.spec_actions.specs.declared.action.OfAction.TheVariants.{Output, OutputField, InPort, All, Flood, Resubmit, Goto, Set, Move, DecTtl, PushVlan, PopVlan, SetVid, SetPcp}
 use Rattle.spec_keys.specs.Protocols.{is_tag_type}
-use Rattle.spec_numbers.specs.Printed.{hexadecimal4}
-use Rattle.spec_numbers.specs.Characters.{comma, number_sign, dot, hyphen, greater_than, left_bracket, right_bracket, right_parenthesis}
+use Rattle.spec_flow_text.specs.NumbersPrinted.{hexadecimal4}
+use Rattle.spec_flow_text.specs.Characters.{comma, number_sign, dot, hyphen, greater_than, left_bracket, right_bracket, right_parenthesis}
 use Rattle.spec_flow_text.specs.Names.{name_of, action_named, reserved_port_named}
 use Rattle.spec_flow_text.specs.Matches.{uncommented}
 use Rattle.spec_flow_text.specs.Items.{Word, is_separator}

@@ -19,8 +19,8 @@ use Rattle.spec_actions.specs.Named.{named, dscp_bits}
 use Rattle.spec_actions.specs.Sound.{is_written, fits_name, is_sound}
 use Rattle.spec_tables.specs.Rules.{Match}
 use Rattle.spec_keys.specs.Protocols.{is_tag_type}
-use Rattle.spec_numbers.specs.Printed.{hexadecimal4}
-use Rattle.spec_numbers.specs.Characters.{dot, equals_sign, left_bracket, right_bracket, right_parenthesis}
+use Rattle.spec_flow_text.specs.NumbersPrinted.{hexadecimal4}
+use Rattle.spec_flow_text.specs.Characters.{dot, equals_sign, left_bracket, right_bracket, right_parenthesis}
 use Rattle.spec_flow_text.specs.declared.shorthand.Shorthand.{Shorthand}
 use Rattle.spec_flow_text.specs.declared.shorthand.Shorthand.TheVariants as short
 use Rattle.spec_flow_text.specs.Names.{name_of}

@@ -12,8 +12,8 @@ use Rattle.spec_keys.specs.Fields.{Form, Decimal, Hexadecimal, FourDigits, Mac, 
 use Rattle.spec_actions.specs.declared.named_field.NamedField.{NamedField}
 use Rattle.spec_actions.specs.declared.named_field.NamedField.TheVariants.{InPort, DlType, VlanTci, VlanTpid, VlanTci2, VlanTpid2}
 use Rattle.spec_actions.specs.Named.{named}
-use Rattle.spec_numbers.specs.Characters.{comma, slash, is_value_character}
-use Rattle.spec_numbers.specs.Printed.{hexadecimal, hexadecimal4, mac_text, ipv4_text, ipv6_text, ipv4_mask_text, ipv6_mask_text}
+use Rattle.spec_flow_text.specs.Characters.{comma, slash, is_value_character}
+use Rattle.spec_flow_text.specs.NumbersPrinted.{hexadecimal, hexadecimal4, mac_text, ipv4_text, ipv6_text, ipv4_mask_text, ipv6_mask_text}
 use Rattle.spec_flow_text.specs.Names.{name_of}
 use Rattle.spec_flow_text.specs.Values.{Bits, fragment_words}
 use Rattle.spec_flow_text.specs.Printed.{printed_form, is_fragment_word, fragment_word, value_text, masked_text, mask_text, value_and_mask, word_or_value, value_of_form, value_in_text}

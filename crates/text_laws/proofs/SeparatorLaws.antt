@@ -11,8 +11,8 @@ use Rattle.spec_actions.specs.declared.action.OfAction.{OfAction}
 use Rattle.spec_tables.specs.declared.edit_word.EditWord.{EditWord}
 use Rattle.spec_tables.specs.declared.edit_word.EditWord.TheVariants.{Add}
 use Rattle.spec_tables.specs.Edits.{Edit}
-use Rattle.spec_numbers.specs.Characters.{comma, number_sign}
-use Rattle.spec_numbers.specs.Numbers.{where_found}
+use Rattle.spec_flow_text.specs.Characters.{comma, number_sign}
+use Rattle.spec_flow_text.specs.Numbers.{where_found}
 use Rattle.spec_flow_text.specs.declared.fault.TextFault.{TextFault}
 use Rattle.spec_flow_text.specs.declared.fault.TextFault.TheVariants.{Syntax}
 use Rattle.spec_flow_text.specs.Names.{meaning_of}

@@ -7,10 +7,10 @@ use Rattle.spec_keys.specs.Fields.{Form, Decimal, Hexadecimal, FourDigits, Mac, 
 use Rattle.spec_actions.specs.declared.named_field.NamedField.{NamedField}
 use Rattle.spec_actions.specs.declared.named_field.NamedField.TheVariants as field
 use Rattle.spec_actions.specs.Named.{named}
-use Rattle.spec_numbers.specs.Characters.{slash, is_value_character}
-use Rattle.spec_numbers.specs.Numbers.{where_found, split_once, number_upto, mac}
-use Rattle.spec_numbers.specs.Addresses.{ipv4, ipv6, ipv4_mask, ipv6_mask}
-use Rattle.spec_numbers.specs.Printed.{hexadecimal, hexadecimal4, mac_text, ipv4_text, ipv6_text, ipv4_mask_text, ipv6_mask_text}
+use Rattle.spec_flow_text.specs.Characters.{slash, is_value_character}
+use Rattle.spec_flow_text.specs.Numbers.{where_found, split_once, number_upto, mac}
+use Rattle.spec_flow_text.specs.Addresses.{ipv4, ipv6, ipv4_mask, ipv6_mask}
+use Rattle.spec_flow_text.specs.NumbersPrinted.{hexadecimal, hexadecimal4, mac_text, ipv4_text, ipv6_text, ipv4_mask_text, ipv6_mask_text}
 use Rattle.spec_flow_text.specs.declared.part.ValueForm.{ValueForm}
 use Rattle.spec_flow_text.specs.declared.part.ValueForm.TheVariants as form
 use Rattle.spec_flow_text.specs.Values.{Bits, bits, form_of, most_of, value_in, mask_in, whole_value, masked_value, value_of}

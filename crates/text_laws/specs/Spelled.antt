@@ -4,7 +4,7 @@ use Rattle.std.specs.List.{list_all}
 use Rattle.spec_actions.specs.declared.action.OfAction.{OfAction}
 use Rattle.spec_actions.specs.declared.action.OfAction.TheVariants.{Output, Goto, Set}
 use Rattle.spec_actions.specs.Sound.{is_sound}
-use Rattle.spec_numbers.specs.Numbers.{last_port}
+use Rattle.spec_flow_text.specs.Numbers.{last_port}
 use Rattle.spec_flow_text.specs.Actions.{is_respellable, most_actions}
 
 -- Whether an action can be spelled: a sound one, whose port is one that a switch can have, and whose write has a mask

@@ -2,7 +2,7 @@
 use Rattle.std.specs.Prelude.{ℕ, Bool, not, ◌&&◌, ◌==◌, List, map}
 use Rattle.std.specs.List.{list_all}
 use Rattle.std.specs.Char.{is_ascii_graphic}
-use Rattle.spec_numbers.specs.Characters.{number_sign}
+use Rattle.spec_flow_text.specs.Characters.{number_sign}
 use Rattle.spec_flow_text.specs.Items.{Word}
 
 -- the texts of words

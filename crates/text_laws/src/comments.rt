@@ -1,6 +1,6 @@
 ghost use Rattle.std.specs.Prelude.{◌≡◌, ℕ, List, ◌∷◌, ◌++◌};
 ghost use Rattle.spec_tables.specs.declared.edit_word.EditWord.{EditWord};
-ghost use Rattle.spec_numbers.specs.Characters.{number_sign};
+ghost use Rattle.spec_flow_text.specs.Characters.{number_sign};
 ghost use Rattle.spec_flow_text.specs.Matches.{read_match};
 ghost use Rattle.spec_flow_text.specs.Actions.{read_actions};
 ghost use Rattle.spec_flow_text.specs.Lines.{edit_in};

@@ -20,20 +20,28 @@
 //!
 //! All that is read of a line is read of its bytes before a number sign. A list of actions that was read has closed all
 //! its brackets at its end, so that a separator there stands outside of them. Values are printed in digits, letters,
-//! colons and dots by the laws of `value_laws`, and the rest of what is printed is written out in the definitions. So the
+//! colons and dots by the laws of `values`, and the rest of what is printed is written out in the definitions. So the
 //! reader finds each bracket, arrow, slash and comma of what is printed, and each value between them reads back.
 //!
 //! # What is left to others
 //!
-//! That a printed match reads back is a law of `match_text_laws`; that what was read can be spelled, and so reads back
-//! from its print, are laws of `round_trip_laws`. That programs read and print by the grammar is the contract of
+//! That a printed match reads back is a law of `matches`; that what was read can be spelled, and so reads back
+//! from its print, are laws of `round_trips`. That programs read and print by the grammar is the contract of
 //! `match_text`, `action_text` and `edit_script`. These laws stand apart, so that a new one proves no reader again.
+//!
+//! # The parts
+//!
+//! Laws of printed values stand in `values`, of matches in `matches`, of whole flows in `round_trips`, and of items in another order in `item_order`.
 #![tactic(auto)]
 
 mod comments;
+pub mod item_order;
+pub mod matches;
 mod printed;
 mod read_back;
+pub mod round_trips;
 mod separators;
+pub mod values;
 
 pub use comments::comments_change_nothing;
 pub use printed::{printed_actions_are_one_line, printed_match_is_one_line};

@@ -6,7 +6,7 @@ ghost use Rattle.spec_tables.specs.Rules.{Match};
 ghost use Rattle.spec_flow_text.specs.Printed.{match_printed, actions_printed};
 ghost use Rattle.text_laws.specs.Texts.{is_plain};
 
-use value_laws::{
+use crate::values::{
     addresses_have_value_characters, masks_have_value_characters, numbers_have_value_characters,
 };
 

@@ -6,7 +6,7 @@ ghost use Rattle.spec_flow_text.specs.Actions.{actions_of_item, read_actions};
 ghost use Rattle.spec_flow_text.specs.Printed.{action_text, actions_printed};
 ghost use Rattle.text_laws.specs.Spelled.{is_spellable, is_goto, are_spellable};
 
-use value_laws::{
+use crate::values::{
     addresses_have_value_characters, decimal_reads_back, hexadecimal_reads_back,
     hexadecimal4_reads_back, ipv4_mask_reads_back, ipv4_reads_back, ipv6_mask_reads_back,
     ipv6_reads_back, mac_reads_back, masks_have_value_characters, numbers_have_value_characters,

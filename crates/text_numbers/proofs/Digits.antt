@@ -8,7 +8,7 @@ use Rattle.std.specs.Str.Parse.{AllDigits, IsNumeral, digits_value, without_lead
 use Rattle.std.proofs.lemmas.Str.{IsUtf8-from_ascii}
 use Rattle.std.proofs.lemmas.Bool.{and_parts, ltb-true, ne_eqb}
 use Rattle.std.proofs.lemmas.Bool.Decides.{nat_tests}
-use Rattle.spec_numbers.specs.Numbers.{are_digits, digits_upto}
+use Rattle.spec_flow_text.specs.Numbers.{are_digits, digits_upto}
 
 -- a digit is below 128, and no plus
 digit_range : (base c : ℕ) → base ≤ 16 → digit_value c < base → (c < 128) × (48 ≤ c)

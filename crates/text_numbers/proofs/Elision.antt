@@ -1,7 +1,7 @@
 -- The first `::` of a text, sought from its start.
 use Rattle.std.proofs.Common.{◌≡◌, ℕ, suc, ◌+◌, ◌<◌, ◌≤◌, List, [], ◌∷◌, ◌++◌, length, get_or, take, drop, Option, Some, None, option_map, codes, refl, sym, ap, ◌∙◌, append_assoc, append-nil, add-one, drop-cons, take-suc, drop_of_length-le}
-use Rattle.spec_numbers.specs.Numbers.{strip_prefix}
-use Rattle.spec_numbers.specs.Addresses.{split_at_elision}
+use Rattle.spec_flow_text.specs.Numbers.{strip_prefix}
+use Rattle.spec_flow_text.specs.Addresses.{split_at_elision}
 
 -- parts, the first of them with what stands before it
 abbrev with_front : List ℕ → Option (List ℕ × List ℕ) → Option (List ℕ × List ℕ)

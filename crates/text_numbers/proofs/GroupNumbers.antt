@@ -2,7 +2,7 @@
 use Rattle.std.proofs.Common.{◌≡◌, ℕ, zero, suc, ◌+◌, ◌-◌, ◌*◌, ◌^◌, ◌<◌, ◌≤◌, List, [], ◌∷◌, ◌++◌, length, replicate, fold, Some, option_map, refl, sym, ap, ap₂, ◌∙◌, arith, length-append, add-one, add-mul, add_assoc, mul_assoc, mul_comm, one-mul, mul-le-mul_right, pow-suc, le-leb}
 use Rattle.std.proofs.Math.Nat.{pow-le-pow_right, one-le-pow}
 use Rattle.std.proofs.lemmas.Nat.{pow-add}
-use Rattle.spec_numbers.specs.Addresses.{number_of_groups, groups_round_zeros}
+use Rattle.spec_flow_text.specs.Addresses.{number_of_groups, groups_round_zeros}
 use Rattle.text_numbers.specs.declared.addresses.Groups.{Groups}
 use Rattle.text_numbers.specs.Groups.{counted}
 

@@ -1,8 +1,8 @@
 -- Groups are read one after the other.
 use Rattle.std.proofs.Common.{◌≡◌, ℕ, zero, suc, ◌-◌, ◌<◌, Bool, List, ◌∷◌, Option, Some, None, option_map, refl, sym, ap, arith}
-use Rattle.spec_numbers.specs.Characters.{colon}
-use Rattle.spec_numbers.specs.Numbers.{◌>>=◌, split_once}
-use Rattle.spec_numbers.specs.Addresses.{group, last_groups, groups}
+use Rattle.spec_flow_text.specs.Characters.{colon}
+use Rattle.spec_flow_text.specs.Numbers.{◌>>=◌, split_once}
+use Rattle.spec_flow_text.specs.Addresses.{group, last_groups, groups}
 use Rattle.text_numbers.specs.declared.addresses.Groups.{Groups}
 use Rattle.text_numbers.specs.Groups.{counted}
 

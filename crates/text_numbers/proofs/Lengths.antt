@@ -1,7 +1,7 @@
 -- The length of the prefix that has a mask, sought from the greatest length down.
 use Rattle.std.proofs.Common.{◌≡◌, ◌≢◌, ℕ, zero, suc, ◌-◌, ◌<◌, Some, None, refl, sym, arith, eq-eqb, ne_eqb}
 use Rattle.spec_base.specs.Bits.{leading_bits}
-use Rattle.spec_numbers.specs.Printed.{prefix_length_up_to}
+use Rattle.spec_flow_text.specs.NumbersPrinted.{prefix_length_up_to}
 
 pub found : (width mask len : ℕ) → 0 < len → leading_bits width len ≡ mask → prefix_length_up_to width mask len ≡ Some len
 unfolding prefix_length_up_to

@@ -1,7 +1,7 @@
 -- What is known of groups of an IPv6 address that have been read.
 use Rattle.std.specs.Prelude.{ℕ, ◌<◌, ◌≤◌, ◌^◌, List, length}
 use Rattle.text_numbers.specs.declared.addresses.Groups.{Groups}
-use Rattle.spec_numbers.specs.Addresses.{number_of_groups}
+use Rattle.spec_flow_text.specs.Addresses.{number_of_groups}
 
 -- how many groups there are, and their number
 abbrev pub counted : List ℕ → Groups

@@ -1,7 +1,7 @@
 ghost use Rattle.std.specs.Prelude.{◌≡◌, ℕ, ◌+◌, ◌^◌, ◌<◌, ◌≤◌, List, ◌∷◌, IfSome};
 ghost use Rattle.std.specs.Option.{option_map};
 ghost use Rattle.spec_base.specs.Bits.{leading_bits};
-ghost use Rattle.spec_numbers.specs.Addresses.{decimal_octet, decimal_octet_before_dot, ipv4, group, groups_of_ipv4, last_groups, groups, groups_or_none, eight_groups, split_at_elision, groups_round_zeros, elided_groups, number_of_groups, ipv6, ipv4_mask, ipv6_mask};
+ghost use Rattle.spec_flow_text.specs.Addresses.{decimal_octet, decimal_octet_before_dot, ipv4, group, groups_of_ipv4, last_groups, groups, groups_or_none, eight_groups, split_at_elision, groups_round_zeros, elided_groups, number_of_groups, ipv6, ipv4_mask, ipv6_mask};
 ghost use Rattle.text_numbers.specs.Groups.{counted, AreWithin};
 
 use crate::numbers::{after_start, cut_at, read_decimal, read_digits};
@@ -29,7 +29,7 @@ fn read_decimal_octet(text: &[u8]) -> Option<u32>
     }
 }
 
-#[tactic(auto, unfolding(spec_numbers::specs::Addresses::decimal_octet_before_dot))]
+#[tactic(auto, unfolding(spec_flow_text::specs::Addresses::decimal_octet_before_dot))]
 fn read_decimal_octet_before_dot(text: &[u8]) -> Option<(u32, &[u8])>
     ensures value { option_map (λ p. (p.0, p.1.now)) result ≡ decimal_octet_before_dot text.now }
     ensures fits { IfSome result (λ p. p.0 < 256) }
@@ -41,7 +41,7 @@ fn read_decimal_octet_before_dot(text: &[u8]) -> Option<(u32, &[u8])>
 
 /// An IPv4 address in dotted decimal (RFC 3986, section 3.2.2): four octets without leading zeros, with dots between
 /// them.
-#[tactic(auto, unfolding(spec_numbers::specs::Addresses::ipv4))]
+#[tactic(auto, unfolding(spec_flow_text::specs::Addresses::ipv4))]
 pub fn read_ipv4(text: &[u8]) -> Option<u32>
     ensures value { result ≡ ipv4 text.now }
     ensures fits { IfSome result (λ n. n < 2 ^ 32) }
@@ -53,7 +53,7 @@ pub fn read_ipv4(text: &[u8]) -> Option<u32>
     Some(((a * 256 + b) * 256 + c) * 256 + d)
 }
 
-#[tactic(auto, unfolding(spec_numbers::specs::Addresses::group))]
+#[tactic(auto, unfolding(spec_flow_text::specs::Addresses::group))]
 fn read_group(text: &[u8]) -> Option<u128>
     ensures value { result ≡ group text.now }
     ensures fits { IfSome result (λ n. n < 65536) }
@@ -65,7 +65,7 @@ fn read_group(text: &[u8]) -> Option<u128>
 }
 
 // An IPv4 address, as the two groups that it stands for.
-#[tactic(auto, unfolding(spec_numbers::specs::Addresses::groups_of_ipv4))]
+#[tactic(auto, unfolding(spec_flow_text::specs::Addresses::groups_of_ipv4))]
 fn read_ipv4_groups(text: &[u8]) -> Option<Groups>
     ensures value { result ≡ option_map counted (groups_of_ipv4 text.now) }
     ensures within { IfSome result (AreWithin 2) }
@@ -79,7 +79,7 @@ fn read_ipv4_groups(text: &[u8]) -> Option<Groups>
 
 // The groups of a text without a colon: one, or the two of an IPv4 address, where that may stand there and there is room
 // for two.
-#[tactic(auto, unfolding(spec_numbers::specs::Addresses::last_groups))]
+#[tactic(auto, unfolding(spec_flow_text::specs::Addresses::last_groups))]
 fn read_last_groups(text: &[u8], with_ipv4: bool, room: u32) -> Option<Groups>
     requires { 0 < room }
     ensures value { result ≡ option_map counted (last_groups with_ipv4 room text.now) }
@@ -144,7 +144,7 @@ fn read_groups_or_none(text: &[u8], with_ipv4: bool) -> Option<Groups>
     }
 }
 
-#[tactic(auto, unfolding(spec_numbers::specs::Addresses::eight_groups))]
+#[tactic(auto, unfolding(spec_flow_text::specs::Addresses::eight_groups))]
 fn read_eight_groups(text: &[u8]) -> Option<u128>
     ensures { result ≡ option_map number_of_groups (eight_groups text.now) }
 {
@@ -172,7 +172,7 @@ fn cut_at_elision(text: &[u8]) -> Option<(&[u8], &[u8])>
 }
 
 // The number of groups with zeros between them.
-#[tactic(auto, unfolding(spec_numbers::specs::Addresses::groups_round_zeros))]
+#[tactic(auto, unfolding(spec_flow_text::specs::Addresses::groups_round_zeros))]
 fn number_round_zeros(front: Groups, back: Groups) -> Option<u128>
     requires front { AreWithin 7 front }
     requires back { AreWithin 7 back }
@@ -188,7 +188,7 @@ fn number_round_zeros(front: Groups, back: Groups) -> Option<u128>
     Some(front.number * GROUP_BASE.pow(GROUPS - front.count) + back.number)
 }
 
-#[tactic(auto, unfolding(spec_numbers::specs::Addresses::elided_groups))]
+#[tactic(auto, unfolding(spec_flow_text::specs::Addresses::elided_groups))]
 fn read_elided_groups(text: &[u8]) -> Option<u128>
     ensures { result ≡ option_map number_of_groups (elided_groups text.now) }
 {
@@ -201,7 +201,7 @@ fn read_elided_groups(text: &[u8]) -> Option<u128>
 /// An IPv6 address of 128 bits (RFC 4291, section 2.2): eight groups of one to four hexadecimal digits with colons
 /// between them. One `::` may stand for groups of zeros, one or more, and an IPv4 address for the last two groups. A
 /// zone isn't read.
-#[tactic(auto, unfolding(spec_numbers::specs::Addresses::ipv6))]
+#[tactic(auto, unfolding(spec_flow_text::specs::Addresses::ipv6))]
 pub fn read_ipv6(text: &[u8]) -> Option<u128>
     ensures value { result ≡ ipv6 text.now }
     ensures fits { IfSome result (λ n. n < 2 ^ 128) }
@@ -237,7 +237,7 @@ pub(crate) fn ipv6_prefix(length: u32) -> u128
 }
 
 /// A mask of an IPv4 address: the length of a prefix in decimal digits, from 0 to 32, or an address.
-#[tactic(auto, unfolding(spec_numbers::specs::Addresses::ipv4_mask, spec_numbers::specs::Addresses::prefix_length))]
+#[tactic(auto, unfolding(spec_flow_text::specs::Addresses::ipv4_mask, spec_flow_text::specs::Addresses::prefix_length))]
 pub fn read_ipv4_mask(text: &[u8]) -> Option<u32>
     ensures value { result ≡ ipv4_mask text.now }
     ensures fits { IfSome result (λ n. n < 2 ^ 32) }
@@ -249,7 +249,7 @@ pub fn read_ipv4_mask(text: &[u8]) -> Option<u32>
 }
 
 /// A mask of an IPv6 address: the length of a prefix in decimal digits, from 0 to 128, or an address.
-#[tactic(auto, unfolding(spec_numbers::specs::Addresses::ipv6_mask, spec_numbers::specs::Addresses::prefix_length))]
+#[tactic(auto, unfolding(spec_flow_text::specs::Addresses::ipv6_mask, spec_flow_text::specs::Addresses::prefix_length))]
 pub fn read_ipv6_mask(text: &[u8]) -> Option<u128>
     ensures value { result ≡ ipv6_mask text.now }
     ensures fits { IfSome result (λ n. n < 2 ^ 128) }

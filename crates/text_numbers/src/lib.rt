@@ -2,11 +2,11 @@
 //!
 //! # What is promised
 //!
-//! Each reader takes a text, its bytes, and answers the number that it spells or none: exactly where `spec_numbers` says
+//! Each reader takes a text, its bytes, and answers the number that it spells or none: exactly where `spec_flow_text::numbers` says
 //! that it spells one. No reader takes memory, and none guesses: a sign, white space, a further byte or a number that
 //! is too great is no number. A decimal number has no leading zeros, since some tools read those as octal.
 //!
-//! Each printer adds the text that `spec_numbers` gives for the number to the end of a `String`. Where there is no
+//! Each printer adds the text that `spec_flow_text::numbers` gives for the number to the end of a `String`. Where there is no
 //! memory it answers `AllocError`, and the string has then what it had, and perhaps a part of the text after it.
 //!
 //! # How
@@ -20,7 +20,7 @@
 //! # What is left to others
 //!
 //! What stands around a number, as the name of its field or the slash before a mask, is left to the readers and printers
-//! of flows and words above. That a printed number reads back is a law of `value_laws`.
+//! of flows and words above. That a printed number reads back is a law of `text_laws::values`.
 #![tactic(auto)]
 
 mod addresses;

@@ -2,7 +2,7 @@ ghost use Rattle.std.specs.Prelude.{◌≡◌, ◌^◌, ◌<◌, ◌≤◌, ◌=
 ghost use Rattle.std.specs.Option.{option_map};
 ghost use Rattle.std.specs.List.{list_all};
 ghost use Rattle.std.specs.Char.{is_digit};
-ghost use Rattle.spec_numbers.specs.Numbers.{split_once, strip_prefix, are_digits, digits_upto, is_hexadecimal, has_leading_zero, decimal_upto, number_upto, last_port, nonzero, octet, octet_before_colon, mac};
+ghost use Rattle.spec_flow_text.specs.Numbers.{split_once, strip_prefix, are_digits, digits_upto, is_hexadecimal, has_leading_zero, decimal_upto, number_upto, last_port, nonzero, octet, octet_before_colon, mac};
 
 use std::str;
 
@@ -54,7 +54,7 @@ fn has_digits(text: &[u8], base: u32) -> bool
 }
 
 /// The number that digits of a base write, where it is at most so much. The digits above 9 may be of either case.
-#[tactic(auto, unfolding(spec_numbers::specs::Numbers::digits_upto))]
+#[tactic(auto, unfolding(spec_flow_text::specs::Numbers::digits_upto))]
 pub fn read_digits(text: &[u8], base: u32, most: u128) -> Option<u128>
     requires low { 2 ≤ base }
     requires high { base ≤ 16 }
@@ -86,7 +86,7 @@ fn leads_with_zero(text: &[u8]) -> bool
 }
 
 /// A number in decimal, without leading zeros, at most so much.
-#[tactic(auto, unfolding(spec_numbers::specs::Numbers::decimal_upto))]
+#[tactic(auto, unfolding(spec_flow_text::specs::Numbers::decimal_upto))]
 pub fn read_decimal(text: &[u8], most: u128) -> Option<u128>
     ensures value { result ≡ decimal_upto most text.now }
     ensures fits { IfSome result (λ n. n ≤ most) }
@@ -98,7 +98,7 @@ pub fn read_decimal(text: &[u8], most: u128) -> Option<u128>
 }
 
 /// A number in decimal, or in hexadecimal after `0x`, at most so much.
-#[tactic(auto, unfolding(spec_numbers::specs::Numbers::number_upto))]
+#[tactic(auto, unfolding(spec_flow_text::specs::Numbers::number_upto))]
 pub fn read_number(text: &[u8], most: u128) -> Option<u128>
     ensures value { result ≡ number_upto most text.now }
     ensures fits { IfSome result (λ n. n ≤ most) }
@@ -123,7 +123,7 @@ pub fn as_port(number: u128) -> Option<u16>
     }
 }
 
-#[tactic(auto, unfolding(spec_numbers::specs::Numbers::octet))]
+#[tactic(auto, unfolding(spec_flow_text::specs::Numbers::octet))]
 fn read_octet(text: &[u8]) -> Option<u64>
     ensures value { result ≡ octet text.now }
     ensures fits { IfSome result (λ n. n < 256) }
@@ -137,7 +137,7 @@ fn read_octet(text: &[u8]) -> Option<u64>
     }
 }
 
-#[tactic(auto, unfolding(spec_numbers::specs::Numbers::octet_before_colon))]
+#[tactic(auto, unfolding(spec_flow_text::specs::Numbers::octet_before_colon))]
 fn read_octet_before_colon(text: &[u8]) -> Option<(u64, &[u8])>
     ensures value { option_map (λ p. (p.0, p.1.now)) result ≡ octet_before_colon text.now }
     ensures fits { IfSome result (λ p. p.0 < 256) }
@@ -148,7 +148,7 @@ fn read_octet_before_colon(text: &[u8]) -> Option<(u64, &[u8])>
 }
 
 /// An Ethernet address of 48 bits: six octets in hexadecimal, of one or two digits, with colons between them.
-#[tactic(auto, unfolding(spec_numbers::specs::Numbers::mac))]
+#[tactic(auto, unfolding(spec_flow_text::specs::Numbers::mac))]
 pub fn read_mac(text: &[u8]) -> Option<u64>
     ensures value { result ≡ mac text.now }
     ensures fits { IfSome result (λ n. n < 2 ^ 48) }

@@ -1,8 +1,8 @@
 ghost use Rattle.std.specs.Prelude.{◌≡◌, ◌^◌, ◌<◌, ◌≤◌, ◌++◌, ◌∷◌, [], OnOk, OnErr, string_bytes};
 ghost use Rattle.std.specs.Char.{digit_char};
 ghost use Rattle.std.specs.Fmt.{decimal};
-ghost use Rattle.spec_numbers.specs.Characters.{dot, colon};
-ghost use Rattle.spec_numbers.specs.Printed.{hexadecimal_digits, hexadecimal, octet_digits, hexadecimal4, mac_text, ipv4_text, group_at, ipv6_text, prefix_length_of, ipv4_mask_text, ipv6_mask_text};
+ghost use Rattle.spec_flow_text.specs.Characters.{dot, colon};
+ghost use Rattle.spec_flow_text.specs.NumbersPrinted.{hexadecimal_digits, hexadecimal, octet_digits, hexadecimal4, mac_text, ipv4_text, group_at, ipv6_text, prefix_length_of, ipv4_mask_text, ipv6_mask_text};
 ghost use Rattle.text_numbers.specs.Added.{Adds};
 
 use crate::addresses::{GROUP_BASE, ipv4_prefix, ipv6_prefix};
@@ -43,7 +43,7 @@ fn print_hexadecimal_digits(out: &mut String, number: u128) -> Result<(), AllocE
 }
 
 /// Adds `0x` and the hexadecimal digits of a number, in lower case and without leading zeros.
-#[tactic(auto, unfolding(spec_numbers::specs::Printed::hexadecimal))]
+#[tactic(auto, unfolding(spec_flow_text::specs::NumbersPrinted::hexadecimal))]
 pub fn print_hexadecimal(out: &mut String, number: u128) -> Result<(), AllocError>
     ensures { Adds out.old out.new (hexadecimal number) result }
 {
@@ -59,7 +59,7 @@ fn print_octet_digits(out: &mut String, octet: u8) -> Result<(), AllocError>
 }
 
 /// Adds `0x` and the four hexadecimal digits of a number, in lower case.
-#[tactic(auto, unfolding(spec_numbers::specs::Printed::hexadecimal4))]
+#[tactic(auto, unfolding(spec_flow_text::specs::NumbersPrinted::hexadecimal4))]
 pub fn print_hexadecimal4(out: &mut String, number: u16) -> Result<(), AllocError>
     ensures { Adds out.old out.new (hexadecimal4 number) result }
 {
@@ -77,7 +77,7 @@ fn print_octet_after_colon(out: &mut String, octet: u8) -> Result<(), AllocError
 
 /// Adds an Ethernet address, the low 48 bits of a number: six octets of two hexadecimal digits in lower case, with
 /// colons between them.
-#[tactic(auto, unfolding(spec_numbers::specs::Printed::mac_text))]
+#[tactic(auto, unfolding(spec_flow_text::specs::NumbersPrinted::mac_text))]
 pub fn print_mac(out: &mut String, address: u64) -> Result<(), AllocError>
     ensures { Adds out.old out.new (mac_text address) result }
 {
@@ -98,7 +98,7 @@ fn print_octet_after_dot(out: &mut String, octet: u8) -> Result<(), AllocError>
 }
 
 /// Adds an IPv4 address in dotted decimal.
-#[tactic(auto, unfolding(spec_numbers::specs::Printed::ipv4_text))]
+#[tactic(auto, unfolding(spec_flow_text::specs::NumbersPrinted::ipv4_text))]
 pub fn print_ipv4(out: &mut String, address: u32) -> Result<(), AllocError>
     ensures { Adds out.old out.new (ipv4_text address) result }
 {
@@ -127,7 +127,7 @@ fn print_group_after_colon(out: &mut String, address: u128, place: u32) -> Resul
 
 /// Adds an IPv6 address: eight groups of hexadecimal digits in lower case, without leading zeros, with colons between
 /// them. No `::` is written.
-#[tactic(auto, unfolding(spec_numbers::specs::Printed::ipv6_text))]
+#[tactic(auto, unfolding(spec_flow_text::specs::NumbersPrinted::ipv6_text))]
 pub fn print_ipv6(out: &mut String, address: u128) -> Result<(), AllocError>
     ensures { Adds out.old out.new (ipv6_text address) result }
 {
@@ -169,7 +169,7 @@ fn ipv6_prefix_length(mask: u128) -> Option<u32>
 }
 
 /// Adds a mask of an IPv4 address: the length where it is that of a prefix, and else an address.
-#[tactic(auto, unfolding(spec_numbers::specs::Printed::ipv4_mask_text))]
+#[tactic(auto, unfolding(spec_flow_text::specs::NumbersPrinted::ipv4_mask_text))]
 pub fn print_ipv4_mask(out: &mut String, mask: u32) -> Result<(), AllocError>
     ensures { Adds out.old out.new (ipv4_mask_text mask) result }
 {
@@ -180,7 +180,7 @@ pub fn print_ipv4_mask(out: &mut String, mask: u32) -> Result<(), AllocError>
 }
 
 /// Adds a mask of an IPv6 address: the length where it is that of a prefix, and else an address.
-#[tactic(auto, unfolding(spec_numbers::specs::Printed::ipv6_mask_text))]
+#[tactic(auto, unfolding(spec_flow_text::specs::NumbersPrinted::ipv6_mask_text))]
 pub fn print_ipv6_mask(out: &mut String, mask: u128) -> Result<(), AllocError>
     ensures { Adds out.old out.new (ipv6_mask_text mask) result }
 {

@@ -9,6 +9,8 @@ mod actions;
 #[cfg(test)]
 mod dp_actions;
 #[cfg(test)]
+mod made;
+#[cfg(test)]
 mod matches;
 #[cfg(test)]
 mod megaflows;

@@ -1,4 +1,4 @@
-use megaflow_lines::print_megaflow_match;
+use dump_lines::megaflows::print_megaflow_match;
 use ovs_fields::{FieldId, Key, Mask};
 use std::test::Fail;
 

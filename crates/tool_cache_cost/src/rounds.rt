@@ -6,11 +6,11 @@ use crate::counts::Counts;
 use crate::words::Command;
 use given_steps::run_schedule;
 use run_case::{Case, RunData};
-use run_edits::RunEdits;
 use run_tables::ClassifierTables;
 use std::alloc::{AllocError, Global};
 use std::marker::Brand;
 use switch_input::Inputs;
+use table_versions::edits::RunEdits;
 
 /// What becomes of the frames of a run under a name, in so many rounds together.
 fn counts_in_rounds<C: Case>(

@@ -3,7 +3,7 @@ ghost use Rattle.std.specs.Prelude.{IfOk};
 ghost use Rattle.switch_input.specs.InputViews.{IsWithinLimits};
 
 use anyhow::{Result, anyhow};
-use edge_real::RealShelf;
+use edge_io::real::RealShelf;
 use switch_input::{Input, Inputs, read_inputs};
 use tool_input::{number_of, split_rounds};
 

@@ -7,9 +7,9 @@ ghost use Rattle.spec_script.specs.Script.{most_edits};
 
 use anyhow::{Result, anyhow};
 use edge_io::read_all;
-use edge_real::RealShelf;
+use edge_io::real::RealShelf;
 use edit_script::{MOST_BYTES, Script, read_script};
-use pcap_reader::{Trace, read_trace};
+use pcap_files::reader::{Trace, read_trace};
 
 /// The most bytes and frames of a capture file.
 const MOST_CAPTURE_BYTES: usize = 1 << 30;

@@ -12,7 +12,7 @@
 //!
 //! # How
 //!
-//! A file is read whole by the readers of the switch (`edit_script`, `pcap_reader`). What is refused is told as text, with
+//! A file is read whole by the readers of the switch (`edit_script`, `pcap_files::reader`). What is refused is told as text, with
 //! the name of the file or the word: whoever calls has nothing to do but to end with it.
 //!
 //! # What is left to others

@@ -12,7 +12,7 @@ ghost use Rattle.std.specs.Prelude.{◌^◌, ◌≤◌, length};
 use anyhow::{Result, bail};
 use frame_keys::key_of;
 use ovs_fields::{FieldId, Key, all_fields};
-use pcap_reader::Trace;
+use pcap_files::reader::Trace;
 use std::alloc::Global;
 use std::env;
 use tool_input::{number_of, read_capture};

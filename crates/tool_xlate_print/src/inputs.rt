@@ -8,7 +8,7 @@ ghost use Rattle.pipe_model.specs.Runnable.{AreRunnable};
 use edit_script::Edit;
 use frame_keys::key_of;
 use ovs_fields::Key;
-use pcap_reader::Trace;
+use pcap_files::reader::Trace;
 use std::alloc::{AllocError, Global};
 use tuple_classifier::Tables;
 

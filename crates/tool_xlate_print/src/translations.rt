@@ -1,6 +1,6 @@
 //! Translations as lines, and their visits counted.
 ghost use Rattle.std.specs.Prelude.{IfOk};
-ghost use Rattle.spec_dp_text.specs.Within.{AreWithinFields};
+ghost use Rattle.spec_flow_text.specs.Within.{AreWithinFields};
 ghost use Rattle.pipe_model.specs.Runnable.{AreRunnable};
 
 use dp_text::{print_dp_actions, translation_is_within_fields};

@@ -12,10 +12,10 @@ use Rattle.edge_io.specs.declared.outside.Sink as sink
 use Rattle.edge_io.specs.Counts.{with_fault}
 use Rattle.edge_io.specs.Opened.{HasOpenedUpTo}
 use Rattle.edge_io.specs.Shelf.{Told}
-use Rattle.switch_refusals.specs.declared.refusal.InputFault.{InputFault}
-use Rattle.switch_refusals.specs.declared.refusal.InputFault.TheVariants as fault
-use Rattle.switch_refusals.specs.declared.refusal.InputRefusal.TheVariants as input
-use Rattle.switch_refusals.specs.Refused.{fault_view, IsClosedAt}
+use Rattle.switch_input.specs.declared.refusals.refusal.InputFault.{InputFault}
+use Rattle.switch_input.specs.declared.refusals.refusal.InputFault.TheVariants as fault
+use Rattle.switch_input.specs.declared.refusals.refusal.InputRefusal.TheVariants as input
+use Rattle.switch_input.specs.Refused.{fault_view, IsClosedAt}
 use Rattle.spec_trace.specs.Verdict.{Accepted, Refusal as Refused, Usage as UsageOf, Input as InputOf, NoPort as NoPortOf, command_in, verdict, files_opened}
 use Rattle.spec_run.specs.Verdict.{Files}
 use Rattle.spec_trace.specs.Words.{Command, command_of}

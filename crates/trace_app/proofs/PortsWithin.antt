@@ -1,8 +1,8 @@
 -- Ports with commas between them, one after the other.
 use Rattle.std.proofs.Common.{◌≡◌, ℕ, suc, ◌-◌, List, [], ◌∷◌, ◌++◌, Option, Some, None, refl, sym, ap, ◌∙◌, arith}
 use Rattle.std.specs.Option.{option_map, option_and_then}
-use Rattle.spec_numbers.specs.Characters.{comma}
-use Rattle.spec_numbers.specs.Numbers.{where_found, split_once}
+use Rattle.spec_flow_text.specs.Characters.{comma}
+use Rattle.spec_flow_text.specs.Numbers.{where_found, split_once}
 use Rattle.spec_trace.specs.Words.{new_port, ports_within}
 
 before : (n : ℕ) → (n ≡ 0 → ⊥) → n ≡ suc (n - 1)

@@ -14,16 +14,16 @@ use Rattle.rule_tables.specs.History.{History, history_of}
 use Rattle.rule_tables.proofs.Histories.{rules_of-history}
 use Rattle.pipe_model.specs.Runnable.{AreRunnable}
 use Rattle.pipe_model.proofs.Versions.{runnable-version}
-use Rattle.rule_lines.specs.Live.{IsOfEdits, live_in}
+use Rattle.dump_lines.specs.Live.{IsOfEdits, live_in}
 use Rattle.edge_io.specs.declared.outside.InUse.{InUse}
 use Rattle.edge_io.specs.declared.outside.InUse.TheVariants.{Nothing}
 use Rattle.edge_io.specs.declared.outside.Shelf as shelf
-use Rattle.switch_refusals.specs.declared.refusal.InputRefusal.{InputRefusal}
-use Rattle.switch_refusals.specs.declared.refusal.InputRefusal.TheVariants as input
-use Rattle.switch_refusals.specs.Refused as reading
-use Rattle.switch_refusals.specs.Refused.{fault_view}
-use Rattle.switch_refusals.specs.Reading.{Read, ReadsWhere}
-use Rattle.switch_refusals.proofs.Reading.{closed_by as input_closed, reads_still as input_still}
+use Rattle.switch_input.specs.declared.refusals.refusal.InputRefusal.{InputRefusal}
+use Rattle.switch_input.specs.declared.refusals.refusal.InputRefusal.TheVariants as input
+use Rattle.switch_input.specs.Refused as reading
+use Rattle.switch_input.specs.Refused.{fault_view}
+use Rattle.switch_input.specs.Reading.{Read, ReadsWhere}
+use Rattle.switch_input.proofs.refusals.Reading.{closed_by as input_closed, reads_still as input_still}
 use Rattle.spec_trace.specs.Words.{Command, command_of}
 use Rattle.spec_trace.specs.Verdict.{Input, NoPort as NoPortOf, match_in, key_of, accepted, case_of, verdict_of, verdict, command_in, opened_for, files_opened, Usage as UsageOf}
 use Rattle.trace_app.specs.declared.refusal.Refusal.{Refusal}

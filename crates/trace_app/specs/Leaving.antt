@@ -5,7 +5,7 @@ use Rattle.edge_io.specs.declared.outside.InUse.TheVariants.{Nothing}
 use Rattle.edge_io.specs.declared.outside.Shelf as shelf
 use Rattle.edge_io.specs.declared.outside.Sink as sink
 use Rattle.edge_io.specs.Counts.{HasCause, with_fault}
-use Rattle.switch_refusals.specs.Reading.{Ending, Read, ReadsWhere}
+use Rattle.switch_input.specs.Reading.{Ending, Read, ReadsWhere}
 use Rattle.spec_trace.specs.Verdict.{Usage as UsageOf, command_in, verdict, files_opened}
 use Rattle.spec_trace.specs.Outputs.{IsCut}
 use Rattle.trace_app.specs.Known.{IsKnown}

@@ -4,11 +4,11 @@ use Rattle.spec_run.specs.Statuses.{usage_status, write_fault_status, out_of_mem
 use Rattle.edge_io.specs.declared.outside.Failed.TheVariants as failed
 use Rattle.edge_io.specs.declared.outside.InUse.{InUse}
 use Rattle.edge_io.specs.declared.outside.InUse.TheVariants.{Nothing}
-use Rattle.switch_refusals.specs.declared.refusal.InputRefusal.{InputRefusal}
-use Rattle.switch_refusals.specs.Reading.{Ending, Read}
-use Rattle.switch_refusals.specs.Refused as reading
-use Rattle.switch_refusals.specs.Refused.{fault_view}
-use Rattle.switch_refusals.specs.Texts.{input_status, input_text}
+use Rattle.switch_input.specs.declared.refusals.refusal.InputRefusal.{InputRefusal}
+use Rattle.switch_input.specs.Reading.{Ending, Read}
+use Rattle.switch_input.specs.Refused as reading
+use Rattle.switch_input.specs.Refused.{fault_view}
+use Rattle.switch_input.specs.Texts.{input_status, input_text}
 use Rattle.spec_trace.specs.Verdict as verdicts
 use Rattle.spec_trace.specs.Statuses.{usage_text, no_port_status, no_port_text}
 use Rattle.trace_app.specs.declared.refusal.Refusal.{Refusal}

@@ -7,7 +7,7 @@ ghost use Rattle.spec_script.specs.declared.fault.FileFault.TheVariants as scrip
 ghost use Rattle.spec_run.specs.Verdict.{refused_text};
 ghost use Rattle.ovs_fields.specs.Packed.{numbers};
 ghost use Rattle.rule_tables.specs.Views.{match_view};
-ghost use Rattle.switch_refusals.specs.Refused.{fault_view, IfInput, TellsNoFault, TakesWords, Explains};
+ghost use Rattle.switch_input.specs.Refused.{fault_view, IfInput, TellsNoFault, TakesWords, Explains};
 ghost use Rattle.spec_trace.specs.Verdict.{flow_name, match_in, key_of};
 
 use match_text::read_match;
@@ -17,7 +17,7 @@ use spec_flow_text::TextFault;
 use spec_run::Quantity;
 use spec_script::FileFault;
 use std::alloc::Global;
-use switch_refusals::{InputFault, InputRefusal};
+use switch_input::refusals::{InputFault, InputRefusal};
 
 /// The name under which the flow is told.
 const FLOW_NAME: &str = "flow";

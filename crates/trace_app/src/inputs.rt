@@ -15,7 +15,7 @@ ghost use Rattle.spec_trace.specs.Verdict.{Usage as UsageOf, command_in, case_of
 ghost use Rattle.trace_app.specs.Known.{IsKnown};
 ghost use Rattle.trace_app.specs.Commands.{command_view};
 ghost use Rattle.trace_app.specs.InputViews.{accepted_view, IsTraceable};
-ghost use Rattle.switch_refusals.specs.Reading.{ReadsFiles, ReadsWhere};
+ghost use Rattle.switch_input.specs.Reading.{ReadsFiles, ReadsWhere};
 ghost use Rattle.trace_app.specs.Refused.{Explains, TellsUsage, TakesWords, IsUntold, TellsNoFault, IsClosed, ending_of};
 
 use crate::flow::{key_of, read_flow};

@@ -31,8 +31,8 @@
 //!
 //! # What is left to others
 //!
-//! Edits to `switch_input`, matches to `match_text`, the trace to `ofp_trace`, its text to `trace_lines`, texts and statuses
-//! that the switch has too to `switch_refusals`, and all that touches the system to `edge_io`.
+//! Edits to `switch_input`, matches to `match_text`, the trace to `ofp_trace`, its text to `ofp_trace::lines`, texts and statuses
+//! that the switch has too to `switch_input::refusals`, and all that touches the system to `edge_io`.
 #![tactic(auto)]
 
 mod flow;
@@ -44,4 +44,4 @@ mod status;
 mod words;
 
 pub use run::run_trace;
-pub use switch_refusals::OUT_OF_MEMORY;
+pub use switch_input::refusals::OUT_OF_MEMORY;

@@ -1,10 +1,10 @@
 ghost use Rattle.std.specs.Prelude.{◌≡◌};
 ghost use Rattle.trace_app.specs.declared.refusal.Refusal.TheVariants.{Reading, Printing};
-ghost use Rattle.switch_refusals.specs.declared.refusal.InputRefusal.TheVariants.{OutOfMemory};
+ghost use Rattle.switch_input.specs.declared.refusals.refusal.InputRefusal.TheVariants.{OutOfMemory};
 
 use edge_io::Failed;
 use std::alloc::AllocError;
-use switch_refusals::InputRefusal;
+use switch_input::refusals::InputRefusal;
 
 /// Why there is no trace. Names are those of the words.
 #[derive(Clone, Copy)]

@@ -18,10 +18,10 @@ use crate::say::say_refusal;
 use crate::status::status_of;
 use dp_text::translation_is_within_fields;
 use edge_io::{Failed, Shelf, Sink, say_all};
+use ofp_trace::lines::print_trace;
 use ofp_trace::trace;
 use std::alloc::{AllocError, Global};
-use switch_refusals::DONE;
-use trace_lines::print_trace;
+use switch_input::refusals::DONE;
 
 // The text of the trace.
 fn text_of(alloc: Global, inputs: &Inputs) -> Result<String, AllocError>

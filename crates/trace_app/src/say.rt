@@ -7,7 +7,7 @@ ghost use Rattle.trace_app.specs.Refused.{text_of, IsSilent};
 use crate::refusal::Refusal;
 use edge_io::{Failed, Sink};
 use itoa::Buffer;
-use switch_refusals::{say_input_refusal, say_out_of_memory, say_pieces};
+use switch_input::refusals::{say_input_refusal, say_out_of_memory, say_pieces};
 
 // Prints which words the program takes.
 fn say_usage<K: Sink>(say: &mut K)

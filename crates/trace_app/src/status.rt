@@ -4,7 +4,7 @@ ghost use Rattle.trace_app.specs.Refused.{status_of};
 
 use crate::refusal::Refusal;
 use edge_io::Failed;
-use switch_refusals::{OUT_OF_MEMORY, USAGE, WRITE_FAULT, input_status};
+use switch_input::refusals::{OUT_OF_MEMORY, USAGE, WRITE_FAULT, input_status};
 
 /// The port of the flow is none of the switch.
 pub const NO_PORT: u8 = 10;

@@ -2,7 +2,7 @@
 ghost use Rattle.std.specs.Prelude.{◌≡◌, ◌==◌, ◌++◌, ◌∷◌, [], IfOk};
 ghost use Rattle.std.specs.List.{list_any};
 ghost use Rattle.std.specs.Option.{option_map};
-ghost use Rattle.spec_numbers.specs.Characters.{line_feed};
+ghost use Rattle.spec_flow_text.specs.Characters.{line_feed};
 ghost use Rattle.command_words.specs.CommandViews.{texts, text_view};
 ghost use Rattle.spec_words.specs.Words.{name_in};
 ghost use Rattle.spec_trace.specs.Words.{line_in, new_port, ports_within, ports_in, command_from, command_of};

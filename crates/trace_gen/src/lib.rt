@@ -20,7 +20,7 @@
 //!
 //! # What is left to others
 //!
-//! Writing the bytes to files, or reading them (`edit_script`, `pcap_reader`).
+//! Writing the bytes to files, or reading them (`edit_script`, `pcap_files::reader`).
 #![tactic(auto)]
 
 mod draws;

@@ -6,7 +6,7 @@ ghost use Rattle.trace_gen.specs.Made.{trace_view, most_edit_bytes, most_trace_b
 use crate::draws::{Draws, PORTS, SUBNETS};
 use crate::edits::edits_made;
 use crate::packets::{FRAME_LENGTH, draw_packet, push_record};
-use pcap_format::{HEADER_LENGTH, RECORD_HEADER_LENGTH, SECOND, header};
+use pcap_files::format::{HEADER_LENGTH, RECORD_HEADER_LENGTH, SECOND, header};
 use std::alloc::{AllocError, Global};
 
 const FRAMES_OF_PORT: u32 = 5000;

@@ -8,7 +8,7 @@ ghost use Rattle.trace_gen.specs.Drawn.{IsPacket, IsInRange, captured_at};
 
 use crate::draws::Draws;
 use net_bytes::checksum_of;
-use pcap_format::record_header;
+use pcap_files::format::record_header;
 use std::alloc::AllocError;
 
 // From 02:00:00:00:00:01 to 02:00:00:00:00:02, with a packet of IPv4.

@@ -3,7 +3,7 @@ ghost use Rattle.std.specs.Prelude.{◌≡◌, IfOk};
 ghost use Rattle.edge_io.specs.declared.outside.InUse.TheVariants.{Nothing};
 
 use edge_io::Shelf;
-use edge_memory::{MemoryShelf, MemorySink};
+use edge_io::memory::{MemoryShelf, MemorySink};
 use std::alloc::{AllocError, Global};
 use trace_app::run_trace;
 

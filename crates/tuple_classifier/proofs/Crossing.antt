@@ -2,7 +2,7 @@
 -- an end.
 use denote.Param.Send.{IsSend, IsSync, sendable}
 use Rattle.std.proofs.Crossing.{crosses}
-use Rattle.prefix_tracker.proofs.Crossing.{prefix_trie_send, prefix_trie_sync}
+use Rattle.address_prefixes.proofs.tracker.Crossing.{prefix_trie_send, prefix_trie_sync}
 use Rattle.staged_lookup.proofs.Crossing.{key_send, key_sync, mask_send, mask_sync, subtable_send as staged_send, subtable_sync as staged_sync}
 use Rattle.rule_tables.proofs.Crossing.{actions_send, actions_sync, field_id_send, field_id_sync, matching_send, matching_sync}
 use Rattle.rule_tables.specs.contracts.rule.Rule as rule

@@ -2,8 +2,8 @@
 use Rattle.std.proofs.Common.{◌≡◌, ℕ, Bool, true, false, ◌&&◌, not, nat_lt, if◌then◌else◌, List, [], ◌∷◌, filter, refl, sym, ap, ap₂, ◌∙◌}
 use Rattle.std.proofs.lemmas.Bool.{false≢true}
 use Rattle.spec_tables.specs.Edits.{Edit}
-use Rattle.match_signatures.specs.declared.signature.Signature.{Signature}
-use Rattle.match_signatures.specs.Signatures.{includes}
+use Rattle.rule_tables.specs.declared.signatures.signature.Signature.{Signature}
+use Rattle.rule_tables.specs.Signatures.{includes}
 use Rattle.rule_tables.specs.Stored.{picks}
 use Rattle.tuple_classifier.specs.declared.live.LiveRule.{LiveRule}
 use Rattle.tuple_classifier.specs.declared.entry.RuleEntry.{RuleEntry}

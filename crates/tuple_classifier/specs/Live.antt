@@ -4,8 +4,8 @@ use Rattle.spec_actions.specs.declared.action.OfAction.{OfAction}
 use Rattle.spec_tables.specs.Rules.{Rule, is_same_match}
 use Rattle.spec_tables.specs.Edits.{Edit}
 use Rattle.translation_laws.specs.Members.{Among}
-use Rattle.match_signatures.specs.declared.signature.Signature.{Signature}
-use Rattle.match_signatures.specs.Signatures.{includes}
+use Rattle.rule_tables.specs.declared.signatures.signature.Signature.{Signature}
+use Rattle.rule_tables.specs.Signatures.{includes}
 use Rattle.rule_tables.specs.Views.{match_view, rule_view}
 use Rattle.rule_tables.specs.Stored.{picks}
 use Rattle.tuple_classifier.specs.declared.live.LiveRule.{LiveRule}

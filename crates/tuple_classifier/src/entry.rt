@@ -3,8 +3,8 @@ ghost use Rattle.rule_tables.specs.Signed.{signature_in};
 ghost use Rattle.rule_tables.specs.Stored.{IsWanted};
 
 use crate::live::LiveRule;
-use match_signatures::Signature;
 use rule_tables::Edit;
+use rule_tables::signatures::Signature;
 use std::alloc::{AllocError, Global};
 
 /// A live rule in a box of its own, so that the rules before it can be taken out without moving it, and the signature of its

@@ -52,7 +52,7 @@
 //! The live rules stand beside the subtables in the order of their numbers, each in a box of its own, and each has the
 //! place of its actions among the lists of actions that edits gave. The same places stand by number too, so that the
 //! actions of a winner are read without a search for its rule. Looking up which rule an edit names is a probe as well.
-//! Beside its box each live rule has the signature of its match (`match_signatures`). A loose word goes over these, and reads
+//! Beside its box each live rule has the signature of its match (`rule_tables::signatures`). A loose word goes over these, and reads
 //! only the rules whose signature includes its own.
 //!
 //! Nobody sees the tables within a bundle. So `apply` takes all memory first: it puts the actions of all edits and the rules

@@ -1,7 +1,7 @@
 //! The handling of upcalls.
 ghost use Rattle.std.specs.Prelude.{◌≡◌, ◌+◌, ◌≤◌, ◌<◌, All, IfOk, IfSome, IfNone, length, vec_len};
 ghost use Rattle.ovs_fields.specs.Packed.{numbers};
-ghost use Rattle.run_blocks.specs.Places.{HasPort, HasPlace};
+ghost use Rattle.run_case.specs.Places.{HasPort, HasPlace};
 ghost use Rattle.table_publish.specs.Versions.{EndsBlock};
 ghost use Rattle.upcall_handler.specs.Upshots.{HasCause, HasCauses, count_of};
 

@@ -9,7 +9,7 @@ use Rattle.atomic_table.proofs.shared.Seat.TheSendSync as seat
 use Rattle.atomic_table.proofs.shared.Shared.TheSendSync as shared
 use Rattle.board_steps.specs.contracts.step.Step as step
 use Rattle.exact_cache.specs.contracts.cache.ExactCache as exact
-use Rattle.flow_stats.specs.contracts.totals.Totals as totals
+use Rattle.port_caches.specs.contracts.stats.totals.Totals as totals
 use Rattle.megaflow_table.proofs.Crossing.{megaflows_send}
 use Rattle.pmd_board.specs.contracts.board.Board as board
 use Rattle.port_caches.specs.contracts.caches.PortCaches as caches
@@ -17,7 +17,7 @@ use Rattle.port_caches.specs.contracts.lists.HeldList as held
 use Rattle.rule_tables.proofs.Crossing.{edit_sync}
 use Rattle.run_case.specs.contracts.run_data.RunData as run_data
 use Rattle.run_case.specs.declared.case.Case.{Ghosts}
-use Rattle.run_edits.specs.contracts.edits.RunEdits as run_edits
+use Rattle.table_versions.specs.contracts.edits.edits.RunEdits as run_edits
 use Rattle.spec_actions.specs.contracts.action.DpAction as dp_action
 use Rattle.spec_keys.specs.contracts.field_id.FieldId as field_id
 use Rattle.ovs_fields.proofs.Crossing.{key_send}

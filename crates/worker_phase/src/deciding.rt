@@ -11,11 +11,11 @@ use edge_io::Gate;
 use pmd_board::Board;
 use run_boards::{Boards, Finished};
 use run_case::{Case, RunData};
-use run_edits::RunEdits;
 use std::alloc::{AllocError, Global};
 use std::sync::Wait;
 use std::thread::Threads;
 use step_runner::close_phase;
+use table_versions::edits::RunEdits;
 use table_versions::{RunTables, Tables};
 
 // Ends a phase: the tables, which aren't the published ones, are carried to the last version of its block, and the boards

@@ -10,13 +10,13 @@ use crate::working::work_at_block;
 use edge_io::Gate;
 use pmd_board::Board;
 use run_case::{Case, RunData};
-use run_edits::RunEdits;
 use std::alloc::{AllocError, Global};
 use std::marker::Brand;
 use std::sync::Wait;
 use std::thread::Threads;
 use table_publish::{Editor, Seer, publish};
 use table_versions::RunTables;
+use table_versions::edits::RunEdits;
 use upcall_queue::UpcallQueue;
 
 /// How many workers of each kind a run has, the editor of its tables, and a seer of them for each handler and for the

@@ -7,7 +7,6 @@ use crate::mailbox::{Mailbox, learn};
 use crate::phase::Phase;
 use pmd_board::Board;
 use run_case::{Case, RunData};
-use run_edits::RunEdits;
 use std::marker::PhantomData;
 use std::sync::atomic::{AtomicU64, Ordering};
 use std::sync::{Condvar, Mutex, Wait};
@@ -15,6 +14,7 @@ use std::thread;
 use std::time::Duration;
 use table_publish::Seer;
 use table_versions::RunTables;
+use table_versions::edits::RunEdits;
 use upcall_queue::UpcallQueue;
 
 /// In how many turns of waiting a worker yields. In later ones it sleeps.

@@ -10,7 +10,6 @@ use crate::shared::Shared;
 use edge_io::Gate;
 use pmd_board::Board;
 use run_case::{Case, RunData};
-use run_edits::RunEdits;
 use std::alloc::{AllocError, Global};
 use std::marker::PhantomData;
 use std::sync::atomic::AtomicU64;
@@ -18,6 +17,7 @@ use std::sync::{Condvar, Wait};
 use std::thread::Threads;
 use table_publish::{Editor, Seer};
 use table_versions::RunTables;
+use table_versions::edits::RunEdits;
 use upcall_queue::{Pass, UpcallQueue};
 
 // Works at a block in threads. It gives the seers back, and the boards as they come out of their locks.

@@ -3,17 +3,16 @@ ghost use Rattle.std.specs.Prelude.{◌≡◌, ◌<◌, ◌≤◌, IsTrue, IfOk,
 ghost use Rattle.std.specs.List.{list_all};
 ghost use Rattle.spec_tables.specs.Bundles.{AreBundles};
 ghost use Rattle.spec_tables.specs.Edits.{has_sound_actions};
-ghost use Rattle.run_blocks.specs.Places.{HasPort, IsCounted, AreCounted};
+ghost use Rattle.run_case.specs.Places.{HasPort, IsCounted, AreCounted};
 ghost use Rattle.spec_case.specs.Blocks.{AreInOrder};
 ghost use Rattle.spec_case.specs.Run.{edit_count, last_version};
 ghost use Rattle.spec_script.specs.Script.{most_edits, most_syncs};
 
 use crate::acts::{Act, first_wrong};
 use edit_script::{MOST_BYTES, Script, read_script};
-use pcap_reader::{Trace, read_trace};
+use pcap_files::reader::{Trace, read_trace};
 use pmd_board::Board;
 use run_case::{Case, Ports, RunData};
-use run_edits::RunEdits;
 use run_tables::ClassifierTables;
 use std::alloc::{AllocError, Global};
 use std::marker::Brand;
@@ -22,6 +21,7 @@ use std::sync::Wait;
 use std::test::Fail;
 use table_publish::{Editor, publish};
 use table_versions::RunTables;
+use table_versions::edits::RunEdits;
 
 /// The one port of each run.
 pub const PORT: u16 = 1;

@@ -1,7 +1,7 @@
 use Rattle.std.proofs.Common.{◌^◌, ◌<◌, sym, ap, subst, ◌∙◌}
 use Rattle.spec_xlate.specs.Lookup.{deciding}
 use Rattle.ovs_fields.specs.Packed.{numbers}
-use Rattle.prefix_tracker.specs.Looks.{begun}
+use Rattle.address_prefixes.specs.Looks.{begun}
 use Rattle.address_prefixes.proofs.TrieLaws.{trie_tells}
 use Rattle.address_prefixes.proofs.field_trie.found_in.Goals as goal
 

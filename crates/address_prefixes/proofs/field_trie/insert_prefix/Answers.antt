@@ -1,7 +1,7 @@
 use Rattle.std.proofs.Common.{◌^◌, ◌<◌, ◌≤◌, sym, ap, subst, arith}
 use Rattle.std.proofs.lemmas.Result.{on_ok_weaker, on_err_weaker}
 use Rattle.ovs_fields.specs.Packed.{numbers}
-use Rattle.prefix_tracker.specs.Prefixes.{times}
+use Rattle.address_prefixes.specs.Prefixes.{times}
 use Rattle.address_prefixes.proofs.TrieLaws.{none_more, one_more_at}
 use Rattle.address_prefixes.proofs.field_trie.insert_prefix.Goals as goal
 

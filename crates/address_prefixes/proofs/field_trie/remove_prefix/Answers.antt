@@ -1,6 +1,6 @@
 use Rattle.std.proofs.Common.{◌^◌, ◌<◌, sym, ap₂, subst, ◌∙◌, arith}
 use Rattle.ovs_fields.specs.Packed.{numbers}
-use Rattle.prefix_tracker.specs.Prefixes.{HasOneMore, prefix_at, times}
+use Rattle.address_prefixes.specs.Prefixes.{HasOneMore, prefix_at, times}
 use Rattle.address_prefixes.proofs.TrieLaws.{none_more, one_more_at}
 use Rattle.address_prefixes.proofs.field_trie.remove_prefix.Goals as goal
 

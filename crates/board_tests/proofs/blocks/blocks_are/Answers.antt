@@ -4,7 +4,7 @@ use Rattle.std.proofs.lemmas.List.{length-map}
 use Rattle.spec_pcap.specs.Pcap.{Capture}
 use Rattle.spec_tables.specs.declared.sync_point.SyncPoint.{SyncPoint}
 use Rattle.spec_case.specs.Blocks.{bundles_through, AreInOrder}
-use Rattle.run_blocks.specs.Places.{IsCounted, AreCounted}
+use Rattle.run_case.specs.Places.{IsCounted, AreCounted}
 use Rattle.board_tests.proofs.blocks.blocks_are.Goals as goal
 
 -- sync points at these times, before which no bundles stand

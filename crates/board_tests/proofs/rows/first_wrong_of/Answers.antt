@@ -3,7 +3,7 @@ use Rattle.std.specs.List.{IsDistinct}
 use Rattle.spec_pcap.specs.Pcap.{Capture}
 use Rattle.spec_tables.specs.Bundles.{AreBundles}
 use Rattle.spec_case.specs.Blocks.{AreInOrder}
-use Rattle.run_blocks.specs.Places.{IsCounted, AreCounted}
+use Rattle.run_case.specs.Places.{IsCounted, AreCounted}
 use Rattle.board_tests.proofs.rows.first_wrong_of.Goals as goal
 
 one_counted : (trace : Capture) → IsCounted trace → AreCounted (trace ∷ [])

@@ -3,12 +3,12 @@ use Rattle.std.specs.Prelude.{IsTrue, IfOk, IfErr, Result, Ok}
 use Rattle.std.specs.Option.{option_map}
 use Rattle.std.proofs.lemmas.Result.{err_from_is_err_and}
 use Rattle.command_words.specs.CommandViews.{texts}
-use Rattle.spec_diff_run.specs.Words.{command_of}
-use Rattle.spec_diff_run.specs.Verdict.{Refusal, Accepted}
+use Rattle.spec_diff.specs.Words.{command_of}
+use Rattle.spec_diff.specs.Verdict.{Refusal, Accepted}
 use Rattle.diff_app.specs.Commands.{command_view}
 use Rattle.diff_app.specs.InputViews.{accepted_view}
-use Rattle.switch_refusals.specs.Reading.{Read, ReadsFiles}
-use Rattle.switch_refusals.proofs.Reading.{reads_none, reads_unbegun}
+use Rattle.switch_input.specs.Reading.{Read, ReadsFiles}
+use Rattle.switch_input.proofs.refusals.Reading.{reads_none, reads_unbegun}
 use Rattle.diff_app.specs.Refused.{Explains, ending_of}
 use Rattle.diff_app.proofs.Stages.{words-none, words-some, opened-none, opened-some}
 use Rattle.diff_app.proofs.inputs.read_inputs.Goals as goal

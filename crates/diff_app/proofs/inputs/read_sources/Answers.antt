@@ -3,9 +3,9 @@ use Rattle.std.specs.Prelude.{IsTrue, IfOk, IfErr, Result, Ok}
 use Rattle.std.proofs.lemmas.Result.{err_from_is_err_and}
 use Rattle.spec_run.specs.Verdict.{Files}
 use Rattle.edit_script.specs.ScriptViews.{script_view}
-use Rattle.switch_refusals.proofs.Reading.{reads_after}
+use Rattle.switch_input.proofs.refusals.Reading.{reads_after}
 use Rattle.switch_input.proofs.Walk.{holds_kept}
-use Rattle.spec_diff_run.specs.Verdict.{Refusal, Accepted, case_of}
+use Rattle.spec_diff.specs.Verdict.{Refusal, Accepted, case_of}
 use Rattle.diff_app.specs.Commands.{command_view}
 use Rattle.diff_app.specs.InputViews.{accepted_view}
 use Rattle.diff_app.specs.Refused.{Explains}

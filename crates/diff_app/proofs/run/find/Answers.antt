@@ -2,11 +2,11 @@ use Rattle.std.proofs.Common.{◌≡◌, ℕ, List, map, string_bytes, sym, ap, 
 use Rattle.spec_diff.specs.Classes.{IsDifference}
 use Rattle.spec_diff.specs.Progress.{IsUnfinished, cube_limit}
 use Rattle.spec_xlate.specs.Translation.{switch_of}
-use Rattle.rule_lines.specs.Live.{live_in}
+use Rattle.dump_lines.specs.Live.{live_in}
 use Rattle.table_diff.specs.declared.class.Class.{Class}
 use Rattle.table_diff.specs.Cubes.{classes_view}
-use Rattle.spec_diff_run.specs.Texts.{text_of_classes}
-use Rattle.spec_diff_run.specs.Statuses.{found_status}
+use Rattle.spec_diff.specs.Texts.{text_of_classes}
+use Rattle.spec_diff.specs.Statuses.{found_status}
 use Rattle.diff_app.proofs.run.find.Goals as goal
 
 pub returns-clause-ok : goal.returns-clause-ok

@@ -2,7 +2,7 @@ use Rattle.std.proofs.Common.{IsTrue, string_bytes, refl}
 use Rattle.std.proofs.lemmas.Result.{err_from_is_err_and}
 use Rattle.command_words.specs.CommandViews.{texts}
 use Rattle.diff_app.specs.InputViews.{accepted_view}
-use Rattle.switch_refusals.proofs.Reading.{reads_out}
+use Rattle.switch_input.proofs.refusals.Reading.{reads_out}
 use Rattle.diff_app.proofs.Told.{unread_leaves, unfound_leaves, found}
 use Rattle.diff_app.proofs.run.run.Goals as goal
 

@@ -4,7 +4,7 @@ use Rattle.edge_io.specs.Written.{WritesAll}
 use Rattle.spec_board.specs.State.{Entry}
 use Rattle.spec_dumps.specs.Megaflows.{megaflow_line}
 use Rattle.pmd_board.specs.BoardView.{state_of}
-use Rattle.megaflow_lines.specs.Views.{entry_with}
+use Rattle.dump_lines.specs.Views.{entry_with}
 use Rattle.flow_dump.proofs.Numbered.{entry_with-is, none-is}
 use Rattle.flow_dump.proofs.megaflows.write_numbered.Goals as goal
 

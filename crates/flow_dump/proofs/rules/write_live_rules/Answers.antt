@@ -2,7 +2,7 @@ use Rattle.std.proofs.Common.{Err, ap, ◌∙◌, arith}
 use Rattle.std.proofs.lemmas.List.{take_all}
 use Rattle.std.proofs.lemmas.Result.{err_from_is_err_and}
 use Rattle.edge_io.proofs.InTurn.{none_yet, one_cut, one_more}
-use Rattle.rule_lines.specs.declared.places.RulePlace.{RulePlace}
+use Rattle.dump_lines.specs.declared.rules.places.RulePlace.{RulePlace}
 use Rattle.flow_dump.specs.RuleTexts.{live_text}
 use Rattle.flow_dump.proofs.rules.write_live_rules.Goals as goal
 

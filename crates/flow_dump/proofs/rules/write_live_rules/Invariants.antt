@@ -1,7 +1,7 @@
 use Rattle.std.proofs.Common.{take}
 use Rattle.std.specs.List.{flat_map}
 use Rattle.edge_io.specs.Written.{HasWritten}
-use Rattle.rule_lines.specs.declared.places.RulePlace.{RulePlace}
+use Rattle.dump_lines.specs.declared.rules.places.RulePlace.{RulePlace}
 use Rattle.flow_dump.specs.RuleTexts.{live_text}
 use Rattle.flow_dump.proofs.rules.write_live_rules.Given as goal
 

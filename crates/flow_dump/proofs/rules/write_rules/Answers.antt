@@ -5,9 +5,9 @@ use Rattle.spec_board.specs.Texts.{Journal}
 use Rattle.edge_io.specs.Written.{WritesFile}
 use Rattle.rule_tables.specs.History.{applied}
 use Rattle.spec_dumps.specs.declared.rule_counts.RuleCounts.{RuleCounts}
-use Rattle.rule_lines.specs.declared.places.RulePlace.{RulePlace}
-use Rattle.rule_lines.specs.Live.{IsLiveIn, IsOfEdits}
-use Rattle.rule_sums.specs.Counted.{AreCounts}
+use Rattle.dump_lines.specs.declared.rules.places.RulePlace.{RulePlace}
+use Rattle.dump_lines.specs.Live.{IsLiveIn, IsOfEdits}
+use Rattle.flow_dump.specs.Counted.{AreCounts}
 use Rattle.flow_dump.proofs.RuleTexts.{text_is, counts_long, not_created}
 use Rattle.flow_dump.proofs.rules.write_rules.Goals as goal
 

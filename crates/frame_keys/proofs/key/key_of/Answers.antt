@@ -5,7 +5,7 @@ use Rattle.spec_keys.specs.Keys.{none, IsClean}
 use Rattle.spec_frames.specs.Ethernet.{header_size}
 use Rattle.spec_frames.specs.Network.{network}
 use Rattle.spec_frames.specs.Key.{with_value, with_ethernet, with_network, key_of}
-use Rattle.key_laws.proofs.KeyLaws.{key_of-IsClean}
+use Rattle.frame_laws.proofs.keys.KeyLaws.{key_of-IsClean}
 use Rattle.ovs_fields.specs.Packed.{numbers}
 use Rattle.frame_keys.specs.Folded.{folded}
 use Rattle.frame_keys.proofs.key.key_of.Goals as goal

@@ -7,7 +7,7 @@ use Rattle.spec_board.specs.Results.{key_at}
 use Rattle.spec_board.specs.Refusals.{settle_fault}
 use Rattle.spec_board.specs.Schedules as schedules
 use Rattle.spec_board.specs.GivenSteps.{kept_version}
-use Rattle.run_blocks.specs.Places.{HasPlace}
+use Rattle.run_case.specs.Places.{HasPlace}
 use Rattle.run_xlate.specs.Views.{XlateView}
 use Rattle.pmd_board.specs.BoardView.{BoardView, state_of}
 use Rattle.run_boards.specs.Scheduled.{under_way}

@@ -2,7 +2,7 @@ use Rattle.std.proofs.Common.{◌≡◌, true, refl, sym, ap, ◌∙◌, subst}
 use Rattle.spec_case.specs.Run.{Run}
 use Rattle.spec_case.specs.declared.run_step.RunStep.TheVariants as given
 use Rattle.spec_board.specs.Results.{key_at}
-use Rattle.run_blocks.specs.Places.{HasPlace}
+use Rattle.run_case.specs.Places.{HasPlace}
 use Rattle.run_xlate.specs.Views.{XlateView}
 use Rattle.pmd_board.specs.BoardView.{BoardView}
 use Rattle.given_steps.specs.ScheduledViews.{ScheduledView}

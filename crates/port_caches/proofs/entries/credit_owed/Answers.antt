@@ -1,6 +1,6 @@
 use Rattle.std.proofs.Common.{ℕ, List, Option, sym, subst}
 use Rattle.spec_board.specs.Effects.{credited}
-use Rattle.flow_stats.specs.Sums.{IsCountable, total_of}
+use Rattle.port_caches.specs.Sums.{IsCountable, total_of}
 use Rattle.megaflow_table.specs.declared.entry.Entry.{Entry}
 use Rattle.port_caches.specs.Drops.{credited_with}
 use Rattle.port_caches.proofs.entries.credit_owed.Goals as goal

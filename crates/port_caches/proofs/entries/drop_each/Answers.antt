@@ -1,6 +1,6 @@
 use Rattle.std.proofs.Common.{ℕ, ◌+◌, List, drop, get_or, length, sym, ap, ap₂, subst, ◌∙◌}
 use Rattle.spec_board.specs.State.{Total}
-use Rattle.flow_stats.specs.Sums.{IsCountable, total_of}
+use Rattle.port_caches.specs.Sums.{IsCountable, total_of}
 use Rattle.megaflow_table.specs.declared.entry.Entry.{Entry}
 use Rattle.megaflow_table.specs.Entries.{ForEntry}
 use Rattle.port_caches.specs.Steps.{AreRules}

@@ -1,5 +1,5 @@
 use Rattle.std.proofs.Common.{◌≡◌, ℕ, drop, length}
-use Rattle.flow_stats.specs.Sums.{total_of}
+use Rattle.port_caches.specs.Sums.{total_of}
 use Rattle.port_caches.specs.Drops.{ArePayable, entries_after, totals_after}
 use Rattle.port_caches.proofs.entries.drop_each.Given as goal
 

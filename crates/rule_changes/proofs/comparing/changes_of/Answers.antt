@@ -3,7 +3,7 @@ use Rattle.spec_tables.specs.Rules.{Rule}
 use Rattle.ovs_fields.specs.Packed.{bits}
 use Rattle.rule_tables.specs.Views.{match_view}
 use Rattle.pipe_model.specs.Runnable.{IsAmong}
-use Rattle.rule_lines.specs.Live.{live_in}
+use Rattle.dump_lines.specs.Live.{live_in}
 use Rattle.rule_changes.specs.declared.pair.Pair.{Pair}
 use Rattle.rule_changes.specs.declared.pair.Side.TheVariants.{Old, New}
 use Rattle.rule_changes.specs.Pairs.{IsCovered}

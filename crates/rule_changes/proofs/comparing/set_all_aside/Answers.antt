@@ -1,7 +1,7 @@
 use Rattle.std.proofs.Common.{ℕ, ◌≤◌, map, subst}
 use Rattle.rule_tables.specs.History.{applied}
 use Rattle.rule_tables.specs.Views.{match_view}
-use Rattle.rule_lines.specs.Live.{live_in}
+use Rattle.dump_lines.specs.Live.{live_in}
 use Rattle.rule_changes.specs.Pairs.{IsCovered}
 use Rattle.rule_changes.proofs.NumberLaws.{none_yet, one_more, all_done}
 use Rattle.rule_changes.proofs.OrderLaws.{covered_more}

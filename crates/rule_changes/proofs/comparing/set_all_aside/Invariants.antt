@@ -2,7 +2,7 @@ use Rattle.std.proofs.Common.{map}
 use Rattle.spec_tables.specs.Rules as tables
 use Rattle.translation_laws.specs.Members.{Among}
 use Rattle.rule_tables.specs.Views.{match_view}
-use Rattle.rule_lines.specs.Live.{live_in}
+use Rattle.dump_lines.specs.Live.{live_in}
 use Rattle.rule_changes.specs.Pairs.{IsCovered}
 use Rattle.rule_changes.proofs.NumberLaws.{UpTo}
 use Rattle.rule_changes.proofs.comparing.set_all_aside.Given as goal

@@ -3,7 +3,7 @@ use Rattle.std.specs.List.{list_all}
 use Rattle.spec_tables.specs.Rules as tables
 use Rattle.rule_tables.specs.History.{applied}
 use Rattle.ovs_fields.specs.Packed.{bits}
-use Rattle.rule_lines.specs.Live.{live_in}
+use Rattle.dump_lines.specs.Live.{live_in}
 use Rattle.rule_changes.specs.Lockstep.{keeps}
 use Rattle.rule_changes.proofs.NumberLaws.{none_yet, one_more, all_done}
 use Rattle.rule_changes.proofs.kept.all_keep.Goals as goal

@@ -2,7 +2,7 @@ use Rattle.std.proofs.Common.{IsTrue}
 use Rattle.std.specs.List.{list_all}
 use Rattle.spec_tables.specs.Rules as tables
 use Rattle.ovs_fields.specs.Packed.{bits}
-use Rattle.rule_lines.specs.Live.{live_in}
+use Rattle.dump_lines.specs.Live.{live_in}
 use Rattle.rule_changes.specs.Lockstep.{keeps}
 use Rattle.rule_changes.proofs.NumberLaws.{UpTo}
 use Rattle.rule_changes.proofs.kept.all_keep.Given as goal

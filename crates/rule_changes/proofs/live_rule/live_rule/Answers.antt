@@ -1,8 +1,8 @@
 use Rattle.std.proofs.Common.{◌≡◌, ℕ, refl, sym, ap, ◌∙◌, true, false}
 use Rattle.spec_tables.specs.Live.{is_live}
 use Rattle.rule_tables.specs.History.{rules_of}
-use Rattle.rule_lines.specs.Live.{live_in}
-use Rattle.rule_lines.proofs.Added.{live_as}
+use Rattle.dump_lines.specs.Live.{live_in}
+use Rattle.dump_lines.proofs.rules.Added.{live_as}
 use Rattle.rule_changes.proofs.NumberLaws.{not_found, made_live}
 use Rattle.rule_changes.proofs.live_rule.live_rule.Goals as goal
 

@@ -1,5 +1,5 @@
 use Rattle.std.proofs.Common.{ℕ, ◌<◌, get_or}
-use Rattle.rule_lines.specs.Live.{live_in}
+use Rattle.dump_lines.specs.Live.{live_in}
 use Rattle.rule_changes.specs.declared.pair.Pair.{Pair}
 use Rattle.rule_changes.specs.Pairs.{KeepOrder}
 use Rattle.rule_changes.proofs.pairing.fits.Given as goal

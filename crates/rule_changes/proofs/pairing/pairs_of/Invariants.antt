@@ -1,4 +1,4 @@
-use Rattle.rule_lines.specs.Live.{live_in}
+use Rattle.dump_lines.specs.Live.{live_in}
 use Rattle.rule_changes.specs.Pairs.{ArePairs}
 use Rattle.rule_changes.proofs.pairing.pairs_of.Given as goal
 

@@ -3,7 +3,7 @@ use Rattle.std.specs.List.{fold, range_with_len}
 use Rattle.std.proofs.lemmas.Bool.{cases_lt}
 use Rattle.spec_case.specs.Run.{Run}
 use Rattle.spec_case.specs.Blocks.{last_place}
-use Rattle.run_blocks.specs.Places.{place_before}
+use Rattle.run_case.specs.Places.{place_before}
 use Rattle.spec_board.specs.Schedules as schedules
 use Rattle.pmd_board.specs.BoardView.{BoardView, state_of}
 use Rattle.run_boards.specs.Progress.{OnlyPlans}

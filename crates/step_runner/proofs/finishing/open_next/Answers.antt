@@ -1,7 +1,7 @@
 use Rattle.std.proofs.Common.{arith, ◌≡◌, ◌+◌, ap, subst}
 use Rattle.spec_case.specs.Run.{Run}
 use Rattle.spec_case.specs.Blocks.{last_block, last_place}
-use Rattle.run_blocks.proofs.Blocks.{last_place-last}
+use Rattle.run_case.proofs.blocks.Blocks.{last_place-last}
 use Rattle.spec_board.specs.Steps as steps
 use Rattle.spec_board.specs.State.{State}
 use Rattle.spec_board.specs.Journals.{IsFinished}

@@ -1,6 +1,6 @@
 use Rattle.std.proofs.Common.{[], ◌∷◌, IsTrue}
 use Rattle.std.proofs.lemmas.Result.{err_from_is_err_and}
-use Rattle.switch_refusals.proofs.Reading.{closed_by, reads_ending}
+use Rattle.switch_input.proofs.refusals.Reading.{closed_by, reads_ending}
 use Rattle.switch_input.proofs.Stages.{script_too_long, of_bytes, too_long_explains}
 use Rattle.switch_input.proofs.edits.read_edits.Goals as goal
 

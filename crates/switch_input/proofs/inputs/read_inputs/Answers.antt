@@ -2,7 +2,7 @@ use Rattle.std.proofs.Common.{false, Err}
 use Rattle.std.proofs.lemmas.Result.{err_from_is_err_and}
 use Rattle.command_words.specs.CommandViews.{texts, input_view, command_view}
 use Rattle.switch_input.specs.Known.{IsKnownInput, IsKnown}
-use Rattle.switch_refusals.proofs.Reading.{closed_by, reads_knowing}
+use Rattle.switch_input.proofs.refusals.Reading.{closed_by, reads_knowing}
 use Rattle.switch_input.proofs.Verdicts.{command_explains, words_read, run_explains, accepts, names_for}
 use Rattle.switch_input.proofs.Known.{known_input, usage_explained, usage_never, command_is}
 use Rattle.switch_input.proofs.inputs.read_inputs.Goals as goal

@@ -1,5 +1,5 @@
 use Rattle.std.proofs.Common.{[]}
-use Rattle.switch_refusals.proofs.Reading.{closed_by, reads_none, reads_ending}
+use Rattle.switch_input.proofs.refusals.Reading.{closed_by, reads_none, reads_ending}
 use Rattle.switch_input.proofs.inputs.read_run.Goals as goal
 
 pub returns-in-Files-clause-reads : goal.returns-in-Files-clause-reads

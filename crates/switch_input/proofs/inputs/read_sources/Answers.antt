@@ -4,7 +4,7 @@ use Rattle.spec_run.specs.Verdict.{Sources, ports_said}
 use Rattle.edit_script.specs.ScriptViews.{script_view}
 use Rattle.switch_input.specs.SourceViews.{sources_view}
 use Rattle.switch_input.proofs.Lists.{count_said}
-use Rattle.switch_refusals.proofs.Reading.{only_read-trans, reads_unbegun, reads_after}
+use Rattle.switch_input.proofs.refusals.Reading.{only_read-trans, reads_unbegun, reads_after}
 use Rattle.switch_input.proofs.Walk.{holds_kept}
 use Rattle.switch_input.proofs.Verdicts.{script_explains, edits_opened, steps_explain, steps_opened, mirrors_explain, mirrors_opened, traces_explain, traces_until, gives_run_of, all_opened}
 use Rattle.switch_input.proofs.inputs.read_sources.Goals as goal

@@ -1,6 +1,6 @@
 use Rattle.std.proofs.Common.{◌≡◌, ◌∷◌, map}
 use Rattle.spec_run.specs.Verdict.{made_sources}
-use Rattle.edge_memory.specs.Stored.{pairs}
+use Rattle.edge_io.specs.Stored.{pairs}
 use Rattle.switch_input.specs.MadeViews.{file_by_port}
 use Rattle.switch_input.proofs.made.files_of.Given as goal
 

@@ -1,6 +1,6 @@
 use Rattle.std.proofs.Common.{[], ◌∷◌, IsTrue, Err, arith, inl, inr}
 use Rattle.std.proofs.lemmas.Result.{err_from_is_err_and}
-use Rattle.switch_refusals.proofs.Reading.{closed_by, reads_still}
+use Rattle.switch_input.proofs.refusals.Reading.{closed_by, reads_still}
 use Rattle.switch_input.proofs.Stages.{trace_too_long, trace_read, trace_refused, too_long_explains, said_explains}
 use Rattle.switch_input.proofs.reading.read_trace_file.Goals as goal
 

@@ -8,7 +8,7 @@ use Rattle.spec_run.specs.Limits.{most_frames}
 use Rattle.switch_input.specs.InputViews.{trace_view}
 use Rattle.switch_input.proofs.Opened.{all_left}
 use Rattle.switch_input.proofs.Walk.{next_trace, explained, all_traces, opened_here, opened_more, all_opened}
-use Rattle.switch_refusals.proofs.Reading.{only_read-trans, reads_after}
+use Rattle.switch_input.proofs.refusals.Reading.{only_read-trans, reads_after}
 use Rattle.switch_input.proofs.reading.read_traces.Goals as goal
 
 pub returns-in_err-read-clause-err : goal.returns-in_err-read-clause-err

@@ -1,7 +1,7 @@
 use Rattle.std.proofs.Common.{rules, ◌≡◌, ◌++◌, ℕ, suc, ◌<◌, List, [], ◌∷◌, length, map, refl, sym, ap, subst, arith}
 use Rattle.spec_tables.specs.Rules.{Match}
 use Rattle.spec_xlate.specs.Translation.{switch_of}
-use Rattle.rule_lines.specs.Live.{live_in}
+use Rattle.dump_lines.specs.Live.{live_in}
 use Rattle.spec_diff.specs.Classes.{from_port}
 use Rattle.spec_diff.specs.Progress.{IsPartWay, cube_limit}
 use Rattle.table_diff.specs.declared.cube.Cube.{Cube}

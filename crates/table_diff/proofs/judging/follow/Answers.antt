@@ -1,8 +1,8 @@
 use Rattle.std.proofs.Common.{◌≡◌, sym, subst, ◌∙◌}
 use Rattle.spec_xlate.specs.Translation.{Translation, switch_of}
-use Rattle.spec_dp_text.specs.Within.{AreWithinFields}
+use Rattle.spec_flow_text.specs.Within.{AreWithinFields}
 use Rattle.pipe_model.specs.Plains.{translation_in}
-use Rattle.rule_lines.specs.Live.{live_in}
+use Rattle.dump_lines.specs.Live.{live_in}
 use Rattle.ovs_fields.specs.Packed.{numbers, bits}
 use Rattle.table_diff.proofs.JudgeLaws.{both_do}
 use Rattle.table_diff.proofs.judging.follow.Goals as goal

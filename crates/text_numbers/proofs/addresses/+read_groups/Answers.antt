@@ -1,5 +1,5 @@
 use Rattle.std.proofs.Common.{◌≡◌, ◌-◌, ◌∷◌, None, option_map, arith, refl, sym, ap, ◌∙◌}
-use Rattle.spec_numbers.specs.Addresses.{groups}
+use Rattle.spec_flow_text.specs.Addresses.{groups}
 use Rattle.text_numbers.specs.Groups.{counted}
 use Rattle.text_numbers.proofs.GroupSteps.{no_room, last_of_all, first_of_all, others_refused, others_read}
 use Rattle.text_numbers.proofs.addresses.+read_groups.Goals as goal

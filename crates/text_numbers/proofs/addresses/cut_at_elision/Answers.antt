@@ -1,5 +1,5 @@
 use Rattle.std.proofs.Common.{◌≡◌, drop, codes, Some, None, arith, sym, ap, ◌∙◌}
-use Rattle.spec_numbers.specs.Numbers.{strip_prefix}
+use Rattle.spec_flow_text.specs.Numbers.{strip_prefix}
 use Rattle.text_numbers.proofs.Elision.{at_place, at_next_place, at_end}
 use Rattle.text_numbers.proofs.addresses.cut_at_elision.Goals as goal
 

@@ -1,5 +1,5 @@
 use Rattle.std.proofs.Common.{◌≡◌, ◌-◌, length}
-use Rattle.spec_numbers.specs.Addresses.{split_at_elision}
+use Rattle.spec_flow_text.specs.Addresses.{split_at_elision}
 use Rattle.text_numbers.proofs.Elision.{found_from}
 use Rattle.text_numbers.proofs.addresses.cut_at_elision.Given as goal
 

@@ -1,5 +1,5 @@
 use Rattle.std.proofs.Common.{◌≡◌, true, sym, ◌∙◌, arith}
-use Rattle.spec_numbers.specs.Numbers.{are_digits}
+use Rattle.spec_flow_text.specs.Numbers.{are_digits}
 use Rattle.text_numbers.proofs.Digits.{utf8, too_great}
 use Rattle.text_numbers.proofs.numbers.read_digits.Goals as goal
 

@@ -1,5 +1,5 @@
 use Rattle.std.proofs.Common.{◌≡◌, ◌≤◌}
-use Rattle.spec_numbers.specs.Printed.{prefix_length_up_to, prefix_length_of}
+use Rattle.spec_flow_text.specs.NumbersPrinted.{prefix_length_up_to, prefix_length_of}
 use Rattle.text_numbers.proofs.printing.ipv4_prefix_length.Given as goal
 
 abbrev pub invariant-lengths : goal.invariant-lengths

@@ -1,4 +1,4 @@
-use Rattle.spec_numbers.specs.Printed.{hexadecimal}
+use Rattle.spec_flow_text.specs.NumbersPrinted.{hexadecimal}
 use Rattle.text_numbers.proofs.Adding.{then}
 use Rattle.text_numbers.proofs.printing.print_hexadecimal.Goals as goal
 

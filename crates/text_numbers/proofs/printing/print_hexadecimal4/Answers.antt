@@ -1,4 +1,4 @@
-use Rattle.spec_numbers.specs.Printed.{hexadecimal4}
+use Rattle.spec_flow_text.specs.NumbersPrinted.{hexadecimal4}
 use Rattle.text_numbers.proofs.Adding.{then}
 use Rattle.text_numbers.proofs.printing.print_hexadecimal4.Goals as goal
 

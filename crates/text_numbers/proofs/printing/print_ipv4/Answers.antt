@@ -1,4 +1,4 @@
-use Rattle.spec_numbers.specs.Printed.{ipv4_text}
+use Rattle.spec_flow_text.specs.NumbersPrinted.{ipv4_text}
 use Rattle.std.proofs.Common.{refl}
 use Rattle.text_numbers.proofs.Adding.{then, same_text}
 use Rattle.text_numbers.proofs.printing.print_ipv4.Goals as goal

@@ -1,4 +1,4 @@
-use Rattle.spec_numbers.specs.Printed.{ipv6_text}
+use Rattle.spec_flow_text.specs.NumbersPrinted.{ipv6_text}
 use Rattle.text_numbers.proofs.Adding.{then}
 use Rattle.text_numbers.proofs.printing.print_ipv6.Goals as goal
 

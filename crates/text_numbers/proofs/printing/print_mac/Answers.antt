@@ -1,5 +1,5 @@
 use Rattle.std.proofs.Common.{refl}
-use Rattle.spec_numbers.specs.Printed.{mac_text}
+use Rattle.spec_flow_text.specs.NumbersPrinted.{mac_text}
 use Rattle.text_numbers.proofs.Adding.{then, same_text}
 use Rattle.text_numbers.proofs.printing.print_mac.Goals as goal
 

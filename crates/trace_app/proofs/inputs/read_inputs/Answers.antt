@@ -7,8 +7,8 @@ use Rattle.spec_trace.specs.Words.{command_of}
 use Rattle.spec_trace.specs.Verdict.{Refusal, Accepted}
 use Rattle.trace_app.specs.Commands.{command_view}
 use Rattle.trace_app.specs.InputViews.{accepted_view}
-use Rattle.switch_refusals.specs.Reading.{Read, ReadsWhere}
-use Rattle.switch_refusals.proofs.Reading.{reads_none, reads_unbegun, reads_knowing}
+use Rattle.switch_input.specs.Reading.{Read, ReadsWhere}
+use Rattle.switch_input.proofs.refusals.Reading.{reads_none, reads_unbegun, reads_knowing}
 use Rattle.trace_app.specs.Known.{IsKnown}
 use Rattle.trace_app.specs.Refused.{Explains, ending_of}
 use Rattle.trace_app.proofs.Stages.{known-some, usage-never, command-none, words-none, words-some, opened-none, opened-some}

@@ -1,11 +1,11 @@
 use Rattle.std.proofs.Common.{ℕ, List, ◌++◌, sym, ap, ◌∙◌, subst}
 use Rattle.std.specs.Prelude.{All}
-use Rattle.spec_dp_text.specs.Within.{AreWithinFields}
+use Rattle.spec_flow_text.specs.Within.{AreWithinFields}
 use Rattle.spec_tables.specs.Rules.{Rule}
 use Rattle.spec_xlate.specs.Translation.{Translation, switch_of, pipe}
 use Rattle.spec_xlate.specs.Consulted.{consulted}
 use Rattle.ovs_fields.specs.Packed.{numbers}
-use Rattle.rule_lines.specs.Live.{live_in}
+use Rattle.dump_lines.specs.Live.{live_in}
 use Rattle.spec_trace.specs.Paths.{path_of, last_of}
 use Rattle.spec_trace.specs.Texts.{told_text}
 use Rattle.ofp_trace.specs.Winners.{HasLiveWinner}

@@ -1,7 +1,7 @@
 use Rattle.std.proofs.Common.{◌≡◌, zero, suc, [], ◌∷◌, refl, arith}
 use Rattle.std.specs.List.{IsDistinct}
 use Rattle.spec_pcap.specs.Pcap.{Capture}
-use Rattle.run_blocks.specs.Places.{IsCounted, AreCounted}
+use Rattle.run_case.specs.Places.{IsCounted, AreCounted}
 use Rattle.worker_tests.proofs.runs.first_wrong_of.Goals as goal
 
 one_counted : (trace : Capture) → IsCounted trace → AreCounted (trace ∷ [])

@@ -1,7 +1,7 @@
 use Rattle.std.proofs.Common.{◌≡◌, ℕ, ◌∷◌, [], List, length, length-append, refl, ap, ap₂, sym, subst, ◌∙◌, arith, ◌+◌, ◌≤◌}
 use Rattle.std.specs.Prelude.{slice_get}
 use Rattle.spec_board.specs.Effects.{credited}
-use Rattle.flow_stats.specs.Sums.{total_of}
+use Rattle.port_caches.specs.Sums.{total_of}
 use Rattle.pipe_model.specs.Plains.{translation_in}
 use Rattle.port_caches.specs.declared.lists.HeldList.{HeldList}
 use Rattle.port_caches.specs.Lists.{KeepsHeld, room_in}

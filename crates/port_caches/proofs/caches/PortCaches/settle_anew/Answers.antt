@@ -5,7 +5,7 @@ use Rattle.spec_board.specs.State as states
 use Rattle.spec_board.specs.Steps as board
 use Rattle.spec_board.specs.Results.{covering, overlaps}
 use Rattle.spec_board.specs.Effects.{credited}
-use Rattle.flow_stats.specs.Sums.{IsCountable, total_of}
+use Rattle.port_caches.specs.Sums.{IsCountable, total_of}
 use Rattle.ovs_fields.specs.Packed.{numbers, bits}
 use Rattle.pipe_model.specs.Plains.{translation_in}
 use Rattle.megaflow_table.specs.declared.entry.Entry.{Entry}

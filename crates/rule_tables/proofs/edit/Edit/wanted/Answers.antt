@@ -2,7 +2,7 @@ use Rattle.std.proofs.Common.{◌≡◌, ap, subst, ◌∙◌}
 use Rattle.spec_keys.specs.Keys.{masked}
 use Rattle.spec_tables.specs.Rules.{Match}
 use Rattle.spec_tables.specs.Edits.{Edit}
-use Rattle.match_signatures.specs.Signatures.{signature_of, includes}
+use Rattle.rule_tables.specs.Signatures.{signature_of, includes}
 use Rattle.rule_tables.specs.Signed.{signature_in}
 use Rattle.rule_tables.proofs.SignedLaws.{picked_included}
 use Rattle.rule_tables.proofs.edit.Edit.wanted.Goals as goal

@@ -4,7 +4,7 @@ use Rattle.std.specs.HashMap.{get, spare}
 use Rattle.std.proofs.lemmas.Bool.{false≢true}
 use Rattle.rule_tables.specs.declared.stored.StoredRule.{StoredRule}
 use Rattle.std.proofs.lemmas.List.{map-append}
-use Rattle.match_signatures.specs.declared.signature.Signature.{Signature}
+use Rattle.rule_tables.specs.declared.signatures.signature.Signature.{Signature}
 use Rattle.rule_tables.specs.Signed.{signature_in}
 use Rattle.rule_tables.specs.Edited.{Edited}
 use Rattle.rule_tables.specs.History.{EditHistory, applied, edited_by, states_to}

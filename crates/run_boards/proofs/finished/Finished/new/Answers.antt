@@ -2,7 +2,7 @@ use Rattle.std.proofs.Common.{All}
 use Rattle.std.specs.Prelude.{nat_eq}
 use Rattle.std.specs.List.{IsDistinct}
 use Rattle.spec_case.specs.Run.{Run}
-use Rattle.frame_arrivals.proofs.Places.{are_arrivals}
+use Rattle.run_boards.proofs.arrivals.Places.{are_arrivals}
 use Rattle.run_boards.specs.Scheduled.{IsKnown}
 use Rattle.run_boards.proofs.Whole.{are_whole}
 use Rattle.run_boards.proofs.finished.Finished.new.Goals as goal

@@ -2,8 +2,8 @@ use Rattle.std.proofs.Common.{◌<◌, [], false, length, ap, sym, ◌∙◌, ar
 use Rattle.std.proofs.lemmas.List.{get_or-map}
 use Rattle.spec_pcap.specs.Pcap.{Capture}
 use Rattle.spec_case.specs.Blocks.{ends_after}
-use Rattle.run_blocks.specs.Places.{ends_of}
-use Rattle.run_blocks.proofs.PlacesOfPorts.{frames_in-position}
+use Rattle.run_case.specs.Places.{ends_of}
+use Rattle.run_case.proofs.blocks.PlacesOfPorts.{frames_in-position}
 use Rattle.run_case.proofs.run_data.RunData.block_ends.Goals as goal
 
 pub returns : goal.returns

@@ -1,5 +1,5 @@
 use Rattle.std.proofs.Common.{length, ap, arith}
-use Rattle.run_blocks.proofs.Blocks.{length-block_ends}
+use Rattle.run_case.proofs.blocks.Blocks.{length-block_ends}
 use Rattle.run_case.proofs.run_data.RunData.keyed.Goals as goal
 
 pub block_of-requires : goal.block_of-requires

@@ -1,5 +1,5 @@
 use Rattle.std.proofs.Common.{length, ap, arith}
-use Rattle.run_blocks.proofs.Blocks.{length-block_ends, last_place-last, last_place-le-frames}
+use Rattle.run_case.proofs.blocks.Blocks.{length-block_ends, last_place-last, last_place-le-frames}
 use Rattle.run_case.proofs.run_data.RunData.last_place.Goals as goal
 
 pub bounds-block_ends-block : goal.bounds-block_ends-block

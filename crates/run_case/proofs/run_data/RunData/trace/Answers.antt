@@ -1,8 +1,8 @@
 use Rattle.std.proofs.Common.{◌<◌, length, ap, sym, ◌∙◌, arith}
 use Rattle.std.proofs.lemmas.List.Elements.{All-get_or}
 use Rattle.spec_pcap.specs.Pcap.{Capture}
-use Rattle.run_blocks.specs.Places.{IsCounted}
-use Rattle.run_blocks.proofs.PlacesOfPorts.{frames_in-position}
+use Rattle.run_case.specs.Places.{IsCounted}
+use Rattle.run_case.proofs.blocks.PlacesOfPorts.{frames_in-position}
 use Rattle.run_case.proofs.run_data.RunData.trace.Goals as goal
 
 pub returns-clause-frames : goal.returns-clause-frames

@@ -1,0 +1,91 @@
+ghost use Rattle.std.specs.Prelude.{◌≡◌, OnOk};
+ghost use Rattle.edge_io.specs.declared.outside.InUse.TheVariants.{Nothing};
+
+use super::*;
+use crate::{Failed, Shelf, read_all, say_all, write_all};
+use std::cell::Cell;
+use std::fmt::Display;
+use std::fs;
+use std::io::{self, ErrorKind};
+use std::test::Fail;
+
+// Writes one file and closes it.
+fn store<S: Shelf>(shelf: &mut S, name: &str, bytes: &[u8]) -> Result<(), Failed>
+    requires { S.in_use shelf.old ≡ Nothing }
+    ensures { OnOk result (S.in_use shelf.new ≡ Nothing) }
+{
+    shelf.create_file(name)?;
+    write_all(shelf, bytes)?;
+    shelf.close_file()
+}
+
+#[test]
+fn real_shelf_reads_what_it_wrote(rt: HostRuntime) -> Result<(), Fail> {
+    let alloc = rt.alloc();
+    let mut shelf = RealShelf::new(&rt);
+    let long = vec![in alloc; 7; 600_000]?;
+    store(&mut shelf, "real_shelf.tmp", b"hello ")?;
+    store(&mut shelf, "real_shelf.tmp", &long)?;
+    let bytes = read_all(alloc, &mut shelf, "real_shelf.tmp", 600_000)?;
+    assert!(rt; bytes.as_slice() == long.as_slice());
+    fs::remove_file(&rt, "real_shelf.tmp")?;
+    assert_eq!(rt; shelf.open_file("real_shelf.tmp"), Err(Failed::Fault));
+    Ok(())
+}
+
+// Every write to this device of Linux fails, as one to a full disk does.
+#[test]
+fn full_disk_is_a_fault_when_the_bytes_go_out(rt: HostRuntime) -> Result<(), Fail> {
+    let mut shelf = RealShelf::new(&rt);
+    shelf.create_file("/dev/full")?;
+    assert_eq!(rt; shelf.write(b"hello"), Ok(5));
+    assert_eq!(rt; shelf.close_file(), Err(Failed::Fault));
+    Ok(())
+}
+
+// A printer that takes a byte at a time, and keeps the last eight as a number. Its first call is interrupted.
+#[derive(Drop)]
+struct ByteByByte {
+    calls: Cell<u64>,
+    text: Cell<u64>,
+}
+
+impl Print for ByteByByte {
+    fn print<D: Display + Drop>(&self, _value: D) -> io::Result<()> {
+        Err(io::Error::from(ErrorKind::Other))
+    }
+
+    fn println<D: Display + Drop>(&self, _value: D) -> io::Result<()> {
+        Err(io::Error::from(ErrorKind::Other))
+    }
+
+    fn write_all(&self, _bytes: &[u8]) -> io::Result<()> {
+        Err(io::Error::from(ErrorKind::Other))
+    }
+
+    fn write_some(&self, bytes: &[u8]) -> io::Result<usize> {
+        let calls = self.calls.get();
+        self.calls.set(calls.wrapping_add(1));
+        if calls == 0 {
+            return Err(io::Error::from(ErrorKind::Interrupted));
+        }
+        let Some(byte) = bytes.first() else {
+            return Ok(0);
+        };
+        self.text.set(self.text.get() << 8 | u64::from(*byte));
+        Ok(1)
+    }
+}
+
+#[test]
+fn standard_output_gets_each_byte_of_a_text_once(rt: HostRuntime) -> Result<(), Fail> {
+    let printer = ByteByByte {
+        calls: Cell::new(0),
+        text: Cell::new(0),
+    };
+    say_all(&mut StdoutSink::new(&printer), b"said\n")?;
+    let said = u64::from_be_bytes([0, 0, 0, b's', b'a', b'i', b'd', b'\n']);
+    assert_eq!(rt; printer.text.get(), said);
+    assert_eq!(rt; printer.calls.get(), 6);
+    Ok(())
+}

@@ -1,4 +1,0 @@
-pub mod Stored
-pub mod Slots
-pub mod Calls
-pub mod Memory

@@ -1,8 +1,0 @@
-//! A test of the input that a number makes, with ample memory.
-//!
-//! A contract says what is made where there is memory, so a body that always says that there is none would meet it. Such a
-//! body fails here. The test stands in a crate of its own, since a crate with tests is proved twice.
-#![tactic(auto)]
-
-#[cfg(test)]
-mod seven;

@@ -1,0 +1,9 @@
+pub mod Made
+pub mod Sums
+pub mod Classes
+pub mod Laws
+pub mod Parts
+pub mod Few
+pub mod Widths
+pub mod Dumps
+pub mod Lines

@@ -1,4 +1,0 @@
-pub mod Looks
-pub mod Prefixes
-pub mod Sound
-pub mod Tries

@@ -1,5 +1,0 @@
-use Rattle.round_trip_laws.proofs.actions_read.read_actions_read_back.Goals as goal
-
-pub returns : goal.returns
-returns c at line front actions h again clean =
-    c.printed_actions_read_back.ensures.behind front actions clean (c.read_actions_can_be_spelled.ensures at line actions h again)

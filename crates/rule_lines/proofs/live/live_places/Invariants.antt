@@ -1,7 +1,0 @@
-use Rattle.rule_tables.specs.History.{applied}
-use Rattle.rule_lines.specs.Live.{live_in}
-use Rattle.rule_lines.proofs.Listed.{AreListedTo}
-use Rattle.rule_lines.proofs.live.live_places.Given as goal
-
-abbrev pub invariant-numbers : goal.invariant-numbers
-invariant-numbers l = AreListedTo (live_in l.rules) l.before (applied l.rules.edits) l.places.items

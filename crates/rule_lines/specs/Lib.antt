@@ -1,4 +1,0 @@
-pub mod Live
-pub mod Order
-pub mod Pieces
-pub mod Places

@@ -1,8 +1,0 @@
-use Rattle.std.proofs.Common.{◌≡◌, ℕ, take}
-use Rattle.flow_stats.specs.Sums.{total_of}
-use Rattle.rule_sums.specs.Sums.{sums_view, with_owed}
-use Rattle.rule_sums.proofs.sums.add_owed.Given as goal
-
-abbrev pub invariant-flows : goal.invariant-flows
-invariant-flows l =
-    (rule : ℕ) → total_of (sums_view l.counts) rule ≡ with_owed rule (take l.number-index l.flows.entries) (total_of (sums_view l.fn.counts) rule)

@@ -1,3 +1,0 @@
-pub mod Outputs
-pub mod Made
-pub mod Received

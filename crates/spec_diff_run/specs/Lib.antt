@@ -1,5 +1,0 @@
-pub mod Texts
-pub mod Words
-pub mod Verdict
-pub mod Statuses
-pub mod Outputs

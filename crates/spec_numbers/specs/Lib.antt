@@ -1,4 +1,0 @@
-pub mod Characters
-pub mod Numbers
-pub mod Addresses
-pub mod Printed

@@ -1,9 +1,0 @@
-use Rattle.run_laws.proofs.Alike.{all_by_last}
-use Rattle.summary_laws.proofs.SentPlainly.{send_plainly}
-use Rattle.summary_laws.proofs.sums.summaries_send_plainly.Goals as goal
-
-pub returns-clause-last_versions : goal.returns-clause-last_versions
-returns-clause-last_versions c = send_plainly
-
-pub returns-clause-edits_apart : goal.returns-clause-edits_apart
-returns-clause-edits_apart c run journals apart whole = send_plainly run journals whole (all_by_last run journals apart whole)

@@ -1,4 +1,0 @@
-pub mod Reading
-pub mod Refused
-pub mod Texts
-pub mod Pieces

@@ -1,5 +1,0 @@
-use Rattle.value_laws.proofs.MaskLaws.{ipv6_mask-ipv6_mask_text}
-use Rattle.value_laws.proofs.addresses.ipv6_mask_reads_back.Goals as goal
-
-pub returns : goal.returns
-returns c = ipv6_mask-ipv6_mask_text

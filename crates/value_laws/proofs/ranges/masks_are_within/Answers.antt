@@ -1,8 +1,0 @@
-use Rattle.value_laws.proofs.WithinLaws.{ipv4_mask_within, ipv6_mask_within}
-use Rattle.value_laws.proofs.ranges.masks_are_within.Goals as goal
-
-pub returns-clause-ipv4 : goal.returns-clause-ipv4
-returns-clause-ipv4 c text mask h = ipv4_mask_within text mask h
-
-pub returns-clause-ipv6 : goal.returns-clause-ipv6
-returns-clause-ipv6 c text mask h = ipv6_mask_within text mask h
