@@ -13,7 +13,7 @@ use Rattle.spec_case.specs.Arrivals.{arrivals, in_order}
 use Rattle.spec_board.specs.Results.{key_at}
 use Rattle.spec_board.specs.Texts.{Journal}
 use Rattle.spec_exec.specs.Sent.{sent}
-use Rattle.spec_mirrors.specs.Mirrors.{Mirror}
+use Rattle.spec_script.specs.Mirrors.{Mirror}
 use Rattle.spec_netflow.specs.Datagrams.{netflow_file}
 use Rattle.spec_run.specs.Journals.{actions_for}
 use Rattle.spec_run.specs.Mirrored.{copy_of, mirror_file_name, mirror_file}

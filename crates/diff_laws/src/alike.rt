@@ -1,7 +1,7 @@
 ghost use Rattle.std.specs.Prelude.{◌≡◌, ℕ, List, []};
 ghost use Rattle.spec_case.specs.Run.{Run};
 ghost use Rattle.spec_board.specs.Texts.{Journal};
-ghost use Rattle.spec_mirrors.specs.Mirrors.{Mirror};
+ghost use Rattle.spec_script.specs.Mirrors.{Mirror};
 ghost use Rattle.spec_netflow.specs.Datagrams.{netflow_file};
 ghost use Rattle.spec_run.specs.Journals.{actions_for};
 ghost use Rattle.spec_run.specs.Mirrored.{mirror_file};

@@ -12,3 +12,5 @@ mod captures;
 mod gates;
 #[cfg(test)]
 mod memory;
+#[cfg(test)]
+mod netflow;

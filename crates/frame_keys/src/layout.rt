@@ -7,7 +7,7 @@
 //!
 //! The headers that a layout names lie in the frame, so that whoever writes to them needs no further test.
 //!
-//! `headers` reads the headers. The layouts of some 150 frames are those that tshark finds (`frame_vectors`).
+//! `headers` reads the headers. The layouts of some 150 frames are those that tshark finds (`worked_rows::frames`).
 //!
 //! Changes to a frame are left to others.
 

@@ -3,7 +3,7 @@ use Rattle.std.proofs.Common.{◌≡◌, ℕ, suc, Bool, true, false, if◌then�
 use Rattle.std.proofs.lemmas.Bool.{cases_lt}
 use Rattle.std.proofs.lemmas.List.{append-nil}
 use Rattle.spec_base.specs.Counts.{Rose}
-use Rattle.upcalls.specs.declared.upcall.Upcall.{Upcall}
+use Rattle.upcall_queue.specs.declared.upcalls.upcall.Upcall.{Upcall}
 use Rattle.rx_worker.specs.Batches.{is_missed, misses_before}
 use Rattle.rx_worker.specs.Polls.{AreUpcalls, Took}
 

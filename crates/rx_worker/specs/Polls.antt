@@ -2,7 +2,7 @@
 use Rattle.std.specs.Prelude.{◌≡◌, ℕ, ◌+◌, ◌≤◌, List, [], ◌∷◌, ◌++◌, length}
 use Rattle.spec_case.specs.Run.{Run, frames_of}
 use Rattle.run_case.specs.Places.{HasPort}
-use Rattle.upcalls.specs.declared.upcall.Upcall.{Upcall}
+use Rattle.upcall_queue.specs.declared.upcalls.upcall.Upcall.{Upcall}
 use Rattle.rx_worker.specs.declared.batch.Polled.{Polled}
 
 -- Upcalls of a port, in the order of their places and each at most once, from a place on and before another.

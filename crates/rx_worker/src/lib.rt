@@ -39,4 +39,4 @@ mod polling;
 pub use batch::{Batch, Polled};
 pub use looking::{BATCH_SIZE, look_batch};
 pub use polling::poll_batch;
-pub use upcalls::{Upcall, Upcalls};
+pub use upcall_queue::upcalls::{Upcall, Upcalls};

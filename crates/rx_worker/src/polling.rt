@@ -10,7 +10,7 @@ use edge_io::{Gate, Point};
 use pmd_board::Board;
 use run_case::{Case, RunData};
 use std::sync::{Mutex, Wait};
-use upcalls::Upcalls;
+use upcall_queue::upcalls::Upcalls;
 
 // A batch of looks, with the port whose frames it looked up.
 fn look_lent<C: Case>(run: &RunData<C>, board: &mut Board<C>) -> (u16, Batch)

@@ -50,9 +50,9 @@ use Rattle.spec_board.specs.GivenSteps.{with_given_steps}
 use Rattle.spec_case.specs.declared.run_step.RunStep.{RunStep}
 use Rattle.spec_case.specs.declared.run_step.RunStep.TheVariants as step
 use Rattle.spec_dumps.specs.declared.ran.Ran.{Ran}
-use Rattle.spec_steps.specs.Steps as steps_file
-use Rattle.spec_steps.specs.Steps.{number_in, port_in, step_in, with_words, steps_of}
-use Rattle.spec_mirrors.specs.Mirrors as mirrors_file
+use Rattle.spec_script.specs.Steps as steps_file
+use Rattle.spec_script.specs.Steps.{number_in, port_in, step_in, with_words, steps_of}
+use Rattle.spec_script.specs.Mirrors as mirrors_file
 use Rattle.spec_run.specs.declared.quantity.Quantity.{Quantity}
 use Rattle.spec_run.specs.declared.quantity.Quantity.TheVariants.{EditsBytes, StepsBytes, MirrorsBytes, Line, Edits, Syncs, Actions, Steps, Mirrors, Changes, TraceBytes, Frames}
 use Rattle.spec_run.specs.Verdict.{Files, Refusal, Usage, Missing, Text, Trace, Limit, TraceFile, Accepted, command_in, script_in, file_in, traces_after, run_in, verdict, refused_text, traces_opened, last_opened, later_opened, sources_opened, files_opened}

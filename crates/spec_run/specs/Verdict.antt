@@ -14,9 +14,9 @@ use Rattle.spec_flow_text.specs.declared.fault.TextFault.TheVariants as text
 use Rattle.spec_script.specs.declared.fault.FileFault.{FileFault}
 use Rattle.spec_script.specs.declared.fault.FileFault.TheVariants as fault
 use Rattle.spec_script.specs.Script.{Script, script_of}
-use Rattle.spec_steps.specs.Steps as steps_file
-use Rattle.spec_mirrors.specs.Mirrors as mirrors_file
-use Rattle.spec_mirrors.specs.Mirrors.{Mirror, most_mirrors_bytes}
+use Rattle.spec_script.specs.Steps as steps_file
+use Rattle.spec_script.specs.Mirrors as mirrors_file
+use Rattle.spec_script.specs.Mirrors.{Mirror, most_mirrors_bytes}
 use Rattle.spec_made.specs.Made.{edits_made, trace_made}
 use Rattle.spec_run.specs.declared.quantity.Quantity.{Quantity}
 use Rattle.spec_run.specs.declared.quantity.Quantity.TheVariants.{EditsBytes, StepsBytes, MirrorsBytes, Line, Edits, Syncs, Actions, Steps, Mirrors, Changes, TraceBytes, Frames}

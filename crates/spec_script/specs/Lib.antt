@@ -1,3 +1,5 @@
 pub mod Lines
 pub mod Script
 pub mod Given
+pub mod Steps
+pub mod Mirrors

@@ -2,7 +2,7 @@ ghost use Rattle.std.specs.Prelude.{◌≡◌, ◌≢◌, ◌≤◌, ◌⊎◌, 
 ghost use Rattle.std.specs.List.{list_all};
 ghost use Rattle.spec_base.specs.Counts.{Rose};
 ghost use Rattle.spec_tables.specs.Edits.{has_sound_actions};
-ghost use Rattle.spec_steps.specs.Steps.{most_steps};
+ghost use Rattle.spec_script.specs.Steps.{most_steps};
 ghost use Rattle.spec_dumps.specs.Summary.{summary};
 ghost use Rattle.spec_run.specs.Verdict.{command_in, verdict};
 ghost use Rattle.spec_run.specs.Journals.{AreJournals};

@@ -15,7 +15,7 @@ use std::alloc::{AllocError, Global};
 use std::sync::{Mutex, Wait};
 use table_publish::{Seer, SpareLists, translate_newest};
 use table_versions::RunTables;
-use upcalls::Upcall;
+use upcall_queue::upcalls::Upcall;
 
 /// How often a frame is translated, where each time a newer sweep had begun.
 pub const TRIES: u32 = 4;

@@ -46,5 +46,5 @@ mod upshot;
 
 pub use handling::{TRIES, handle_all};
 pub use settling::settle_lent;
-pub use upcalls::Upcall;
+pub use upcall_queue::upcalls::Upcall;
 pub use upshot::{Handled, Settling};

@@ -2,7 +2,7 @@
 use Rattle.std.proofs.Common.{◌≡◌, ℕ, List, [], ◌∷◌, ◌++◌, length, map, flat_map, refl, ◌∙◌, arith}
 use Rattle.atomic_table.specs.Seated.{TableId}
 use Rattle.crossbeam_queue.specs.Fifo.{Held}
-use Rattle.upcalls.specs.declared.upcall.Upcall.{Upcall}
+use Rattle.upcall_queue.specs.declared.upcalls.upcall.Upcall.{Upcall}
 use Rattle.upcall_queue.specs.declared.known.Taken.{Taken}
 use Rattle.upcall_queue.specs.declared.known.Past.{Past}
 use Rattle.upcall_queue.specs.declared.known.Known.{Known}

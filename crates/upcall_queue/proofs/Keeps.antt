@@ -5,7 +5,7 @@ use lib.ListN.{get_elem?}
 use Rattle.std.proofs.lemmas.Bool.Decides.{nat_tests}
 use Rattle.crossbeam_queue.specs.Fifo.{Pushes, Pops, Forks, Merges, Learns}
 use Rattle.crossbeam_queue.proofs.Lists.{at_set}
-use Rattle.upcalls.specs.declared.upcall.Upcall.{Upcall}
+use Rattle.upcall_queue.specs.declared.upcalls.upcall.Upcall.{Upcall}
 use Rattle.upcall_queue.specs.declared.known.Taken.{Taken}
 use Rattle.upcall_queue.specs.declared.known.Past.{Past}
 use Rattle.upcall_queue.specs.declared.known.Known.{Known}

@@ -1,6 +1,6 @@
 -- What passes took is in order where the rule has it so.
 use Rattle.std.proofs.Common.{◌≡◌, ℕ, zero, suc, ◌<◌, Bool, List, [], ◌∷◌, All, AllPairs, Some, slice_get, sym, ap, ◌∙◌, arith}
-use Rattle.upcalls.specs.declared.upcall.Upcall.{Upcall}
+use Rattle.upcall_queue.specs.declared.upcalls.upcall.Upcall.{Upcall}
 use Rattle.upcall_queue.specs.declared.known.Taken.{Taken}
 use Rattle.upcall_queue.specs.declared.known.Past.{Past}
 use Rattle.upcall_queue.specs.Rule.{Sound, Later, Rising, Pasts, AreRising, AreOrdered}

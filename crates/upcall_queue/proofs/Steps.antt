@@ -2,7 +2,7 @@
 use Rattle.std.proofs.Common.{◌≡◌, ℕ, ◌<◌, ◌≤◌, ◌-◌, [], ◌∷◌, ◌++◌, Option, Some, None, Result, Ok, Err, MatchOption, IfSome, IfNone, OnErr, MatchResult, ap, ap₂, ◌∙◌, subst, arith}
 use Rattle.atomic_table.specs.Seated.{TableId}
 use Rattle.crossbeam_queue.specs.Fifo.{Held}
-use Rattle.upcalls.specs.declared.upcall.Upcall.{Upcall}
+use Rattle.upcall_queue.specs.declared.upcalls.upcall.Upcall.{Upcall}
 use Rattle.upcall_queue.specs.declared.known.Known.{Known}
 use Rattle.upcall_queue.specs.Rule.{IsLive, Takes, Shows}
 use Rattle.upcall_queue.specs.Views.{PassView, view_of, HasAll, Accounts, AreAllTaken, took}

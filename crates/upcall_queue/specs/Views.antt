@@ -1,7 +1,7 @@
 -- What contracts see of a queue and of its passes.
 use Rattle.std.specs.Prelude.{◌≡◌, ℕ, ◌+◌, ◌-◌, ◌^◌, ◌<◌, ◌==◌, ◌&&◌, min, List, [], ◌∷◌, ◌++◌, length, map, flat_map, if◌then◌else◌}
 use Rattle.atomic_table.specs.Seated.{TableId}
-use Rattle.upcalls.specs.declared.upcall.Upcall.{Upcall}
+use Rattle.upcall_queue.specs.declared.upcalls.upcall.Upcall.{Upcall}
 use Rattle.upcall_queue.specs.declared.known.Taken.{Taken}
 use Rattle.upcall_queue.specs.declared.known.Past.{Past}
 use Rattle.upcall_queue.specs.declared.known.Known.{Known}

@@ -2,10 +2,10 @@ ghost use Rattle.std.specs.Prelude.{◌≡◌};
 
 use crate::pass::Pass;
 use crate::queue::UpcallQueue;
+use crate::upcalls::{Upcall, Upcalls};
 use run_case::Case;
 use std::marker::Model;
 use std::sync::Wait;
-use upcalls::{Upcall, Upcalls};
 
 /// Gives upcalls by pushes to a queue. Contracts see its pass.
 pub struct Feeder<'q, C: Case, R: Wait> {

@@ -1,6 +1,6 @@
 //! What passes know. No value of these types is made: they are here since a view has to be of a type.
+use crate::upcalls::Upcall;
 use std::collections::LinkedList;
-use upcalls::Upcall;
 
 /// An upcall that was taken, with the number of the pass that put it and its place, from 0, among the puts of that pass.
 pub struct Taken {

@@ -48,6 +48,8 @@
 //!
 //! What is done with an upcall, and with one that was refused. That anybody takes what was put, and that a call returns: a
 //! push, a pop and a look for room may wait for another thread that is in the midst of its own.
+//!
+//! An upcall, and what takes it, stand in `upcalls`.
 #![tactic(auto)]
 
 mod feeder;
@@ -56,8 +58,9 @@ mod pass;
 mod queue;
 mod rule;
 mod threads;
+pub mod upcalls;
 
+pub use crate::upcalls::{Upcall, Upcalls};
 pub use feeder::Feeder;
 pub use pass::Pass;
 pub use queue::UpcallQueue;
-pub use upcalls::{Upcall, Upcalls};

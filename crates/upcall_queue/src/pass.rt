@@ -4,9 +4,9 @@ ghost use Rattle.upcall_queue.specs.Rule.{IsLive};
 ghost use Rattle.upcall_queue.specs.Views.{view_of};
 
 use crate::known::Known;
+use crate::upcalls::Upcall;
 use run_case::Case;
 use std::marker::{Model, PhantomData};
-use upcalls::Upcall;
 
 /// The right of one thread to put and take. Contracts see what was put and taken by it.
 #[derive(Drop)]

@@ -5,12 +5,12 @@ ghost use Rattle.upcall_queue.specs.Views.{IsNewPass, AreNumbered, HasAll, IsInO
 use crate::known::Known;
 use crate::pass::Pass;
 use crate::rule::{InTurn, Looked, Made, Popped, Pushed, TakenIn};
+use crate::upcalls::Upcall;
 use crossbeam_queue::RuledArrayQueue;
 use run_case::Case;
 use std::alloc::{AllocError, Global};
 use std::marker::{Model, PhantomData};
 use std::sync::Wait;
-use upcalls::Upcall;
 
 /// The upcalls that wait for a handler, the oldest first. Threads share it, each with a pass of its own.
 #[derive(Drop)]

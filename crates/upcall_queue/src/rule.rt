@@ -1,7 +1,7 @@
 //! The rule of the queue, and what its steps do to what passes know. No value of these types is made.
 use crate::known::Known;
+use crate::upcalls::Upcall;
 use crossbeam_queue::protocol::{Join, Lesson, Outcome, Protocol, Split};
-use upcalls::Upcall;
 
 /// Each upcall is put once and taken once, in the order of its putter.
 pub struct InTurn;

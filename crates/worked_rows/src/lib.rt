@@ -12,4 +12,8 @@
 //!
 //! Nothing is built on this crate. The few rows that tell a wrong definition from a right one at once stand with the
 //! definitions themselves, in the `proofs` folders of the specification crates, beside edits that they refuse.
+//!
+//! Frames with the keys that Wireshark's `tshark` finds in them stand in `frames`.
 #![tactic(auto)]
+
+pub mod frames;

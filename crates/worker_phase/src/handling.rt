@@ -12,7 +12,7 @@ use table_publish::Seer;
 use table_versions::RunTables;
 use upcall_handler::handle_all;
 use upcall_queue::Pass;
-use upcalls::Upcall;
+use upcall_queue::upcalls::Upcall;
 
 /// How many upcalls a handler takes at a time, at most.
 const MOST_UPCALLS: usize = 32;

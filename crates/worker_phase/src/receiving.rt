@@ -10,8 +10,8 @@ use rx_worker::{BATCH_SIZE, poll_batch};
 use std::marker::PhantomData;
 use std::sync::{Mutex, Wait};
 use table_versions::RunTables;
+use upcall_queue::upcalls::Upcalls;
 use upcall_queue::{Feeder, Pass};
-use upcalls::Upcalls;
 
 /// How many turns a receive worker waits for room in the queue before it goes on without.
 const PATIENCE: u32 = 200;

@@ -11,7 +11,7 @@ use std::sync::{Mutex, Wait};
 use table_publish::Seer;
 use table_versions::RunTables;
 use upcall_handler::{Handled, handle_all};
-use upcalls::Upcall;
+use upcall_queue::upcalls::Upcall;
 
 /// An act on a board, with what it is to answer.
 #[derive(Clone, Copy)]

@@ -5,7 +5,7 @@ use crate::stage::Told;
 use rx_worker::Polled;
 use std::test::Fail;
 use upcall_handler::Handled;
-use upcalls::Upcall;
+use upcall_queue::upcalls::Upcall;
 
 /// One frame is looked up, and its upcall is taken.
 const ONE_MISS: Act = Act::Poll(Polled {

@@ -4,7 +4,7 @@ use pmd_board::Board;
 use run_case::Case;
 use std::sync::Mutex;
 use std::sync::atomic::{AtomicU64, Ordering};
-use upcalls::{Upcall, Upcalls};
+use upcall_queue::upcalls::{Upcall, Upcalls};
 
 #[derive(Drop)]
 pub struct Stage<C: Case> {

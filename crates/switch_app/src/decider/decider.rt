@@ -1,7 +1,7 @@
 ghost use Rattle.std.specs.Prelude.{◌≡◌, ◌≤◌, length, IsTrue, IfOk};
 ghost use Rattle.std.specs.List.{list_all};
 ghost use Rattle.spec_tables.specs.Edits.{has_sound_actions};
-ghost use Rattle.spec_steps.specs.Steps.{most_steps};
+ghost use Rattle.spec_script.specs.Steps.{most_steps};
 ghost use Rattle.spec_board.specs.Scheduled as whole_runs;
 ghost use Rattle.spec_run.specs.Journals.{AreJournals};
 ghost use Rattle.spec_words.specs.Words.{most_workers};

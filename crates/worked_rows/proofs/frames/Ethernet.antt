@@ -4,7 +4,7 @@ use Rattle.std.specs.Prelude.{◌≡◌, false, [], ◌∷◌, ◌++◌, replica
 use Rattle.spec_keys.specs.declared.field_id.FieldId.TheVariants.{InPort, DlSrc, DlDst, DlType, VlanTpid, VlanTci, VlanTpid2, VlanTci2}
 use Rattle.spec_frames.specs.declared.layout.L3.TheVariants as l3
 use Rattle.spec_frames.specs.declared.layout.L4.TheVariants as l4
-use Rattle.frame_vectors.proofs.Shown.{is, gives, shown, addresses}
+use Rattle.worked_rows.proofs.frames.Shown.{is, gives, shown, addresses}
 
 -- A type for local experiments, with 46 bytes after it.
 an_unknown_type :

@@ -12,7 +12,7 @@ pub struct Mirror {
 }
 
 impl Model for Mirror {
-    ghost use Rattle.spec_mirrors.specs.Mirrors as mirrors;
+    ghost use Rattle.spec_script.specs.Mirrors as mirrors;
 
     ghost Value = { mirrors.Mirror };
 

@@ -6,7 +6,7 @@ use Rattle.spec_flow_text.specs.Items.{words}
 use Rattle.spec_script.specs.declared.fault.FileFault.{FileFault}
 use Rattle.spec_script.specs.declared.fault.FileFault.TheVariants.{Line, LineTooLong, TooManyMirrors}
 use Rattle.spec_script.specs.Lines.{with_next, with_lines}
-use Rattle.spec_mirrors.specs.Mirrors.{Mirror, nothing_selected, port_in, with_port, with_valued, with_bare, with_item, with_items, mirror_in, with_line, mirrors_in}
+use Rattle.spec_script.specs.Mirrors.{Mirror, nothing_selected, port_in, with_port, with_valued, with_bare, with_item, with_items, mirror_in, with_line, mirrors_in}
 
 -- of a switch with ports 1, 2 and 70
 abbrev says : List ℕ → List Mirror → Type 0

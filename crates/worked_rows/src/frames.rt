@@ -31,4 +31,3 @@
 //!
 //! That the code which reads frames agrees with the definitions is for `frame_keys` to prove. Nothing is built on this
 //! crate.
-#![tactic(auto)]

@@ -9,7 +9,7 @@ use Rattle.spec_flow_text.specs.Items.{words}
 use Rattle.spec_script.specs.declared.fault.FileFault.{FileFault}
 use Rattle.spec_script.specs.declared.fault.FileFault.TheVariants.{Line, LineTooLong, TooManySteps}
 use Rattle.spec_script.specs.Lines.{with_next, with_lines}
-use Rattle.spec_steps.specs.Steps.{number_in, port_in, step_in, with_words, with_line, steps_of}
+use Rattle.spec_script.specs.Steps.{number_in, port_in, step_in, with_words, with_line, steps_of}
 
 -- of a switch with ports 2 and 70
 abbrev says : List ℕ → List RunStep → Type 0

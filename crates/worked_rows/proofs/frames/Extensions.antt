@@ -4,7 +4,7 @@ use Rattle.std.specs.Prelude.{◌≡◌, true, false, [], ◌∷◌, ◌++◌, r
 use Rattle.spec_keys.specs.declared.field_id.FieldId.TheVariants.{InPort, DlSrc, DlDst, DlType, VlanTpid, VlanTci, Ipv6Src, Ipv6Dst, NwProto, NwTos, NwTtl, IpFrag, TpSrc, TpDst}
 use Rattle.spec_frames.specs.declared.layout.L3.TheVariants as l3
 use Rattle.spec_frames.specs.declared.layout.L4.TheVariants as l4
-use Rattle.frame_vectors.proofs.Shown.{is, gives, shown, addresses, ipv6_addresses}
+use Rattle.worked_rows.proofs.frames.Shown.{is, gives, shown, addresses, ipv6_addresses}
 
 -- 8 bytes of options, and TCP.
 hop_by_hop_options :

@@ -18,10 +18,9 @@
 //!
 //! What becomes of an upcall that was taken, and of one that was refused: its frame goes on waiting. And how many are
 //! taken: one that refuses all is an `Upcalls` too.
-#![tactic(auto)]
 
 mod upcall;
 mod upcalls;
 
+pub use crate::upcalls::Upcalls;
 pub use upcall::Upcall;
-pub use upcalls::Upcalls;

@@ -16,8 +16,8 @@ use Rattle.spec_flow_text.specs.Matches.{uncommented, ascii_from}
 use Rattle.spec_script.specs.declared.fault.FileFault.{FileFault}
 use Rattle.spec_script.specs.declared.fault.FileFault.TheVariants.{TooManyMirrors}
 use Rattle.spec_script.specs.Lines.{is_blank, in_line, and_one, said_by}
-use Rattle.spec_mirrors.specs.declared.selector.Selector.{Selector}
-use Rattle.spec_mirrors.specs.declared.selector.Selector.TheVariants as select
+use Rattle.spec_script.specs.declared.mirrors.selector.Selector.{Selector}
+use Rattle.spec_script.specs.declared.mirrors.selector.Selector.TheVariants as select
 
 -- ---- limits
 

@@ -2,7 +2,6 @@
 //! and what the whole file says, or what is wrong with it first (`Mirrors`).
 //!
 //! What a mirror of a run copies is said where runs are (`spec_run`, `Mirrored`).
-#![tactic(auto)]
 
 mod mirror;
 mod selector;

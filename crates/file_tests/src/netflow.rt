@@ -1,7 +1,6 @@
 //! Tests of reading NetFlow (`netflow_v5`): a datagram of one flow, and each fault once.
 //!
 //! The bytes are laid out after Cisco's "NetFlow Export Datagram Formats", version 5.
-#![tactic(auto)]
 
 #[cfg(test)]
 mod tests;

@@ -4,7 +4,7 @@ use Rattle.std.specs.Prelude.{◌≡◌, false, [], ◌∷◌, ◌++◌, replica
 use Rattle.spec_keys.specs.declared.field_id.FieldId.TheVariants.{InPort, DlSrc, DlDst, DlType, VlanTpid, VlanTci, VlanTpid2, VlanTci2, NwSrc, NwDst, NwProto, NwTos, NwTtl, IpFrag, TpSrc, TpDst}
 use Rattle.spec_frames.specs.declared.layout.L3.TheVariants as l3
 use Rattle.spec_frames.specs.declared.layout.L4.TheVariants as l4
-use Rattle.frame_vectors.proofs.Shown.{is, gives, shown, addresses, ipv4_addresses}
+use Rattle.worked_rows.proofs.frames.Shown.{is, gives, shown, addresses, ipv4_addresses}
 
 -- TCP, which ends with the frame.
 tcp :

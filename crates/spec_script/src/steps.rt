@@ -1,6 +1,5 @@
 //! The steps file: a schedule of one's own, a step a line, and what the whole file says, or what is wrong with it first
 //! (`Steps`).
-#![tactic(auto)]
 
 mod step_word;
 

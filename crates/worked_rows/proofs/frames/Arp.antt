@@ -4,7 +4,7 @@ use Rattle.std.specs.Prelude.{◌≡◌, false, [], ◌∷◌, ◌++◌, replica
 use Rattle.spec_keys.specs.declared.field_id.FieldId.TheVariants.{InPort, DlSrc, DlDst, DlType, VlanTpid, VlanTci, NwSrc, NwDst, NwProto, ArpSha, ArpTha}
 use Rattle.spec_frames.specs.declared.layout.L3.TheVariants as l3
 use Rattle.spec_frames.specs.declared.layout.L4.TheVariants as l4
-use Rattle.frame_vectors.proofs.Shown.{is, gives, shown, addresses}
+use Rattle.worked_rows.proofs.frames.Shown.{is, gives, shown, addresses}
 
 -- Who has 198.51.100.34?
 a_request :

@@ -4,7 +4,7 @@ use run_case::Case;
 pub trait Upcalls<C: Case> {
     ghost use Rattle.std.specs.Prelude.{◌≡◌, ◌≤◌, ◌++◌, ◌∷◌, [], ℕ, List, MatchBool, IsFalse};
     ghost use Rattle.spec_base.specs.Counts.{Rose};
-    ghost use Rattle.upcalls.specs.declared.upcall.Upcall.{Upcall};
+    ghost use Rattle.upcall_queue.specs.declared.upcalls.upcall.Upcall.{Upcall};
 
     /// What else it is, which no call changes. No value of it is made.
     type Rest;

@@ -19,8 +19,8 @@ use Rattle.spec_flow_text.specs.Matches.{uncommented}
 use Rattle.spec_script.specs.declared.fault.FileFault.{FileFault}
 use Rattle.spec_script.specs.declared.fault.FileFault.TheVariants.{TooManySteps}
 use Rattle.spec_script.specs.Lines.{in_line, and_one, said_by}
-use Rattle.spec_steps.specs.declared.step_word.StepWord.{StepWord}
-use Rattle.spec_steps.specs.declared.step_word.StepWord.TheVariants as word
+use Rattle.spec_script.specs.declared.steps.step_word.StepWord.{StepWord}
+use Rattle.spec_script.specs.declared.steps.step_word.StepWord.TheVariants as word
 
 -- ---- limits
 
