@@ -6,8 +6,6 @@
 //!
 //! They hold of any list of numbers as a frame, unless bytes are asked for. A key is written field by field on one of
 //! four forms, by the network header; so what holds of each form holds of every key (`proofs/Forms`).
-//!
-//! `frame_laws` has the other laws of frames. They stand apart, so that a new one proves no reader of frames again.
 
 mod keys;
 

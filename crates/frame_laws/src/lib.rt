@@ -19,7 +19,7 @@
 //!
 //! # How
 //!
-//! The forms of keys and layouts are those of `keys`, which has the two laws of keys themselves. What an IPv6 packet
+//! The forms of keys and layouts are those of `keys`, which has the two laws of keys that readers of frames need. What an IPv6 packet
 //! carries is reached by a chain of extension headers, of at most 8, and what is said of it is proved by induction on how
 //! many may still follow. Each of them is known to have 8 bytes before the packet's end before its size is read, so that
 //! nothing after that end is.
@@ -28,15 +28,13 @@
 //!
 //! That a program finds the key and the layout defined is the contract of the crates that read frames. Sums over the
 //! bytes of a packet, as checksums, are no matter of these laws.
-//!
-//! What readers of frames need of keys stands in `keys`.
 #![tactic(auto)]
 
 pub mod keys;
-mod keys;
+mod padding;
 mod places;
 mod ports;
 
-pub use keys::bytes_after_the_packet_do_not_count;
+pub use padding::bytes_after_the_packet_do_not_count;
 pub use places::{headers_follow_each_other, transport_is_named_where_it_stands};
 pub use ports::{fragments_have_no_ports, ports_are_those_of_the_header};
