@@ -50,4 +50,4 @@ mod prefix;
 mod prefix_test;
 pub mod tracker;
 
-pub use crate::{AddressLookups, AddressPrefixes, MaskPrefixes};
+pub use address_prefixes::{AddressLookups, AddressPrefixes, MaskPrefixes};

@@ -22,5 +22,5 @@
 mod upcall;
 mod upcalls;
 
-pub use crate::upcalls::Upcalls;
+pub use upcalls::Upcalls;
 pub use upcall::Upcall;
