@@ -1,17 +1,15 @@
 -- What reading a whole file answers where opening it was refused: `from` says that the answer is made of the
 -- refusal.
 use Rattle.std.proofs.Common.{◌≡◌, ℕ, List, Result, Err, sym, ap, ◌∙◌, refl, inl, inr, arith}
-use Rattle.std.specs.Prelude.{IfErr, IsErrOf, IsErrAnd}
+use Rattle.std.specs.Prelude.{IsErrOf, IsErrAnd}
 use Rattle.std.proofs.lemmas.Result.{err_from_is_err_and}
 use Rattle.edge_io.specs.declared.outside.Failed.{Failed}
 use Rattle.edge_io.specs.declared.outside.Failed.TheVariants as failed
-use Rattle.edge_io.specs.declared.outside.InUse.{InUse}
-use Rattle.edge_io.specs.declared.outside.InUse.TheVariants.{Nothing}
 use Rattle.edge_io.specs.declared.reading.ReadFault.{ReadFault}
 use Rattle.edge_io.specs.declared.reading.ReadFault.TheVariants.{Fault, Over}
 use Rattle.edge_io.specs.Counts.{Counts, HasCause, Notes, ReadFailed, with_read_fault}
 use Rattle.edge_io.specs.Shelf.{Told, Opens}
-use Rattle.edge_io.specs.ReadAll.{read_fault_of, in_use_after, ReadCause, OnlyRead, IsAsked, Names}
+use Rattle.edge_io.specs.ReadAll.{read_fault_of, ReadCause, OnlyRead, IsAsked, Names}
 
 abbrev IsFrom : {T : Type 0} → Failed → Result T ReadFault → Type 0
 IsFrom f r = IsErrAnd r (λ e. e ≡ read_fault_of f)
@@ -22,11 +20,6 @@ answer r f from = let p = err_from_is_err_and r from in p.1 ∙ ap Err p.2
 pub not_over : {T : Type 0} (r : Result T ReadFault) (f : Failed) → IsFrom f r → ¬ IsErrOf r Over
 not_over r failed.Fault from over = let e = sym (answer r failed.Fault from) ∙ over in cc
 not_over r failed.OutOfMemory from over = let e = sym (answer r failed.OutOfMemory from) ∙ over in cc
-
-pub nothing_in_use : {T : Type 0} (r : Result T ReadFault) (now : InUse) (f : Failed) → IsFrom f r →
-    now ≡ Nothing → IfErr r (λ e. now ≡ in_use_after e)
-nothing_in_use r now failed.Fault from none = rw (answer r failed.Fault from) none
-nothing_in_use r now failed.OutOfMemory from none = rw (answer r failed.OutOfMemory from) none
 
 pub only_read : {U : Type 0} (before after : Told) (name : List ℕ) (f : Failed) →
     Opens {T = U} before after name (Err f) → OnlyRead before after

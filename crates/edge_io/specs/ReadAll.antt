@@ -2,8 +2,6 @@
 use Rattle.std.specs.Prelude.{◌≡◌, ℕ, List, [], ◌∷◌, ◌++◌, ◌⊎◌, Result, OnOk, IsErrOf}
 use Rattle.edge_io.specs.declared.outside.Failed.{Failed}
 use Rattle.edge_io.specs.declared.outside.Failed.TheVariants as failed
-use Rattle.edge_io.specs.declared.outside.InUse.{InUse}
-use Rattle.edge_io.specs.declared.outside.InUse.TheVariants.{Nothing, Opened}
 use Rattle.edge_io.specs.declared.reading.ReadFault.{ReadFault}
 use Rattle.edge_io.specs.declared.reading.ReadFault.TheVariants.{Fault, Over, OutOfMemory}
 use Rattle.edge_io.specs.Counts.{Counts, ReadFailed}
@@ -45,9 +43,3 @@ pub record Names {T : Type 0} (before after : Told) (name : List ℕ) (result : 
   pub fault : IsErrOf result Fault → IsAsked before after name
   pub over : IsErrOf result Over → IsAsked before after name
   pub no_memory : IsErrOf result OutOfMemory → IsAsked before after name ⊎ IsUnasked before after
-
--- which file is in use after a refusal: a file that is too long is still open
-abbrev pub in_use_after : ReadFault → InUse
-in_use_after Fault = Nothing
-in_use_after Over = Opened
-in_use_after OutOfMemory = Nothing

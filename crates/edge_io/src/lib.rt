@@ -32,8 +32,7 @@
 //!
 //! At most one is, an opened or a created one, and each call says which it needs and leaves: reading needs
 //! an opened file, writing a created one, opening and creating none. `close_file` leaves none whatever it
-//! answers. After a refusal by `read_all` none is, but for a file that is too long, which is still open: to
-//! close it could fail, and hide what was found.
+//! answers. After `read_all` none is, whatever it answers.
 //!
 //! # The parts
 //!
@@ -60,6 +59,6 @@ pub mod real;
 mod writing;
 
 pub use counts::{FaultCounts, counted_fault};
-pub use outside::{Failed, Gate, InUse, OpenGate, Point, Shelf, Sink};
+pub use outside::{Failed, Gate, InUse, OpenGate, Point, Shelf, Sink, Worker};
 pub use reading::{ReadFault, read_all};
 pub use writing::{say_all, write_all, write_file};

@@ -146,11 +146,22 @@ pub trait Sink {
         ensures cause { HasCause with_fault (faults self.old) (faults self.new) result };
 }
 
+/// A worker of a block. Receive workers and handlers have numbers, each kind from 0.
+#[derive(Clone, Copy)]
+pub enum Worker {
+    Receiver { number: usize },
+    Handler { number: usize },
+    Editor,
+    Revalidator,
+}
+
 /// A point of a run at which threads can be held, so that a test picks their order.
 ///
 /// Ports are from 1 to 65,279. Places of frames in a trace and numbers of entries are from 1.
-#[derive(Clone, Copy, Debug, PartialEq, Eq)]
+#[derive(Clone, Copy)]
 pub enum Point {
+    /// Before this worker begins its work at a block.
+    Begin { worker: Worker },
     /// Before a batch of frames of this ingress port is looked up.
     Batch { port: u16 },
     /// After the upcall of the port's frame at this place was translated, before it is settled.

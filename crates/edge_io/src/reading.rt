@@ -1,7 +1,7 @@
-ghost use Rattle.std.specs.Prelude.{◌≡◌, ℕ, [], ◌+◌, ◌<◌, ◌≤◌, ◌++◌, length, Some, IsTrue, OnOk, IfOk, IfErr, IsOk, IsSomeAnd, IsErrOf, vec_len};
+ghost use Rattle.std.specs.Prelude.{◌≡◌, ℕ, [], ◌+◌, ◌<◌, ◌≤◌, ◌++◌, length, Some, IsTrue, OnOk, IfOk, IsOk, IsSomeAnd, IsErrOf, vec_len};
 ghost use Rattle.edge_io.specs.declared.reading.ReadFault.TheVariants.{OutOfMemory};
 ghost use Rattle.edge_io.specs.Shelf.{Told};
-ghost use Rattle.edge_io.specs.ReadAll.{read_fault_of, in_use_after, was_read, ReadCause, OnlyRead, Names};
+ghost use Rattle.edge_io.specs.ReadAll.{read_fault_of, was_read, ReadCause, OnlyRead, Names};
 
 use crate::{Failed, InUse, Shelf};
 use std::alloc::{AllocError, Global};
@@ -69,7 +69,7 @@ fn read_rest<S: Shelf>(
     Err(ReadFault::Over)
 }
 
-// Reads the opened file to its end and closes it.
+// Reads the opened file to its end, or as far as it may be read, and closes it.
 fn read_opened<S: Shelf>(
     alloc: Global,
     shelf: &mut S,
@@ -78,8 +78,7 @@ fn read_opened<S: Shelf>(
 ) -> Result<Vec<u8>, ReadFault>
     requires in_use { S.in_use shelf.old ≡ InUse.Opened }
     requires room { 0 < length piece.old }
-    ensures in_use { OnOk result (S.in_use shelf.new ≡ InUse.Nothing) }
-    ensures in_use_after { IfErr result (λ e. S.in_use shelf.new ≡ in_use_after e) }
+    ensures in_use { S.in_use shelf.new ≡ InUse.Nothing }
     ensures bound { IfOk result (λ v. vec_len v ≤ max) }
     ensures bytes { IsTrue S.tells → IfOk result (λ v. v.items ≡ (S.told shelf.old).left) }
     ensures over { IsTrue S.tells → IsErrOf result ReadFault.Over →
@@ -91,29 +90,23 @@ fn read_opened<S: Shelf>(
     ensures cause { ReadCause (S.counts shelf.old) (S.counts shelf.new) result }
 {
     match read_rest(alloc, shelf, piece, max) {
-        Ok(bytes) => {
-            shelf.close_file()?;
-            Ok(bytes)
-        }
-        Err(ReadFault::Over) => Err(ReadFault::Over),
         Err(ReadFault::Fault) => {
             let _ = shelf.close_file();
             Err(ReadFault::Fault)
         }
-        Err(ReadFault::OutOfMemory) => {
+        rest => {
             shelf.close_file()?;
-            Err(ReadFault::OutOfMemory)
+            rest
         }
     }
 }
 
-/// Opens a file, reads it to its end and closes it.
+/// Opens a file, reads it to its end and closes it, whatever the answer is.
 ///
 /// # Errors
 ///
 /// - `Fault` where a call of the shelf failed; the count of reading rose.
-/// - `Over` exactly where the file has more than `max` bytes and nothing failed before that was found.
-///   The file is still open then: closing it could fail, and hide what was found.
+/// - `Over` exactly where the file has more than `max` bytes and nothing failed.
 /// - `OutOfMemory` where there was no memory.
 pub fn read_all<S: Shelf>(
     alloc: Global,
@@ -122,8 +115,7 @@ pub fn read_all<S: Shelf>(
     max: usize,
 ) -> Result<Vec<u8>, ReadFault>
     requires { S.in_use shelf.old ≡ InUse.Nothing }
-    ensures in_use { OnOk result (S.in_use shelf.new ≡ InUse.Nothing) }
-    ensures in_use_after { IfErr result (λ e. S.in_use shelf.new ≡ in_use_after e) }
+    ensures in_use { S.in_use shelf.new ≡ InUse.Nothing }
 
     // The bytes are those of the file.
     ensures bound { IfOk result (λ v. vec_len v ≤ max) }

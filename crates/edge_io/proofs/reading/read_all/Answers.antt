@@ -2,11 +2,6 @@ use Rattle.edge_io.proofs.Refusals as refusals
 use Rattle.edge_io.proofs.Whole as whole
 use Rattle.edge_io.proofs.reading.read_all.Goals as goal
 
-pub returns-in_err-open_file-clause-in_use_after : goal.returns-in_err-open_file-clause-in_use_after
-returns-in_err-open_file-clause-in_use_after g c =
-    refusals.nothing_in_use _ _ c.in_err-open_file.field-0.0 c.from_residual-in_err-open_file.ensures.1
-    c.in_err-open_file.ensures.refused
-
 pub returns-in_err-open_file-clause-over : goal.returns-in_err-open_file-clause-over
 returns-in_err-open_file-clause-over g c = λ t over.
     absurd (refusals.not_over _ c.in_err-open_file.field-0.0 c.from_residual-in_err-open_file.ensures.1 over)
