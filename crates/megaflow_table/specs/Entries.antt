@@ -1,5 +1,5 @@
 -- What the megaflows of a port are seen as: entries in rising order of their numbers (NSDI 2015, section 4.2).
-use Rattle.std.specs.Prelude.{◌≡◌, ℕ, ◌+◌, ◌<◌, ◌^◌, ◌==◌, Bool, false, not, if◌then◌else◌, List, map, filter, Option, Some, slice_get}
+use Rattle.std.specs.Prelude.{◌≡◌, ℕ, ◌+◌, ◌-◌, ◌<◌, ◌^◌, ◌==◌, min, Bool, false, not, if◌then◌else◌, List, map, filter, Option, Some, slice_get}
 use Rattle.std.specs.List.{find, list_any}
 use Rattle.spec_keys.specs.Keys.{agree, overlap, same}
 use Rattle.ovs_fields.specs.Packed.{numbers, bits}
@@ -44,13 +44,17 @@ changed number change entries = map (λ (e : Entry). if e.number == number then 
 abbrev pub without : ℕ → List Entry → List Entry
 without number entries = filter (λ (e : Entry). not (e.number == number)) entries
 
+-- a count of 64 bits with so many more; one that is full stays so
+abbrev pub counted_on : ℕ → ℕ → ℕ
+counted_on count more = min (count + more) (2 ^ 64 - 1)
+
 -- an entry that decided one more packet, of this many bytes, at this time
 abbrev pub hit_at : ℕ → ℕ → Entry → Entry
 hit_at length time e = record e {
-  packets = e.packets + 1;
-  bytes = e.bytes + length;
-  owed_packets = e.owed_packets + 1;
-  owed_bytes = e.owed_bytes + length;
+  packets = counted_on e.packets 1;
+  bytes = counted_on e.bytes length;
+  owed_packets = counted_on e.owed_packets 1;
+  owed_bytes = counted_on e.owed_bytes length;
   used = time;
 }
 
@@ -61,17 +65,6 @@ changed_to version actions visits e = record e { version = version; actions = ac
 -- an entry whose rules were credited with all that it decided
 abbrev pub paid : Entry → Entry
 paid e = record e { owed_packets = 0; owed_bytes = 0 }
-
--- The counts of an entry have room for one more packet of this many bytes.
-pub record CanHit (length : ℕ) (e : Entry) : Type 0 where
-  pub packets : e.packets + 1 < 2 ^ 64
-  pub bytes : e.bytes + length < 2 ^ 64
-  pub owed_packets : e.owed_packets + 1 < 2 ^ 64
-  pub owed_bytes : e.owed_bytes + length < 2 ^ 64
-
--- the entry of a number is there and has a property
-abbrev pub ForEntry : ℕ → List Entry → (Entry → Type 0) → Type 0
-ForEntry number entries P = (e : Entry) × (entry_of number entries ≡ Some e) × P e
 
 -- no two entries overlap
 abbrev pub AreDisjoint : List Entry → Type 0

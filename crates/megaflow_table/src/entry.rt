@@ -1,4 +1,4 @@
-ghost use Rattle.std.specs.Prelude.{◌≡◌, ◌+◌, ◌<◌, ◌^◌};
+ghost use Rattle.std.specs.Prelude.{◌≡◌};
 
 use crate::visits::Visits;
 use ovs_fields::{Key, Mask, agree, and};
@@ -29,7 +29,7 @@ pub struct Entry {
 }
 
 impl Entry {
-    ghost use Rattle.megaflow_table.specs.Entries.{overlaps, hit_at, changed_to, paid, CanHit};
+    ghost use Rattle.megaflow_table.specs.Entries.{overlaps, hit_at, changed_to, paid};
     ghost use Rattle.ovs_fields.specs.Packed.{numbers, bits};
 
     /// Whether some key is covered both by it and by an entry of this key and mask.
@@ -40,13 +40,13 @@ impl Entry {
     }
 
     pub(crate) fn hit(&mut self, length: u32, time: u64)
-        requires { CanHit length self.old }
         ensures { self.new ≡ hit_at length time self.old }
     {
-        self.packets += 1;
-        self.bytes += u64::from(length);
-        self.owed_packets += 1;
-        self.owed_bytes += u64::from(length);
+        let length = u64::from(length);
+        self.packets = self.packets.saturating_add(1);
+        self.bytes = self.bytes.saturating_add(length);
+        self.owed_packets = self.owed_packets.saturating_add(1);
+        self.owed_bytes = self.owed_bytes.saturating_add(length);
         self.used = time;
     }
 

@@ -3,7 +3,7 @@ ghost use Rattle.std.specs.List.{find};
 ghost use Rattle.std.specs.Map.{values_of};
 ghost use Rattle.std.specs.Option.{option_copied, option_map};
 ghost use Rattle.ovs_fields.specs.Packed.{numbers, bits};
-ghost use Rattle.megaflow_table.specs.Entries.{entry_of, covering, numbers_of, overlaps, changed, without, hit_at, changed_to, paid, CanHit, ForEntry, AreDisjoint, AreRising};
+ghost use Rattle.megaflow_table.specs.Entries.{entry_of, covering, numbers_of, overlaps, changed, without, hit_at, changed_to, paid, AreDisjoint, AreRising};
 ghost use Rattle.megaflow_table.specs.Order.{HasMasksOf, HasEachOnce, AreFalling, CountsHit, AddsMask, KeepsMasksOf};
 
 use crate::entry::Entry;
@@ -170,9 +170,9 @@ impl Megaflows {
     }
 
     /// An entry that was seen at a place decided one more packet, of this many bytes, at this time in nanoseconds, which
-    /// is a hit of its mask. It takes no memory.
+    /// is a hit of its mask. A count that is full stays so. It takes no memory.
     pub fn hit(&mut self, number: u32, seen: usize, length: u32, time: u64) -> Hit
-        requires { ForEntry number self.old.entries (CanHit length) }
+        requires { IsSome (entry_of number self.old.entries) }
         ensures version { option_map (λ e. e.version) (entry_of number self.old.entries)
             ≡ Some result.version }
         ensures actions { option_map (λ e. e.actions) (entry_of number self.old.entries)

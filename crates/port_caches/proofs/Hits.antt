@@ -1,9 +1,12 @@
 -- A frame that an entry decides.
-use Rattle.std.proofs.Common.{◌≡◌, ℕ, ◌+◌, ◌-◌, ◌<◌, min, List, map, length, Some, refl, sym, ap, ap₂, subst, ◌∙◌, arith}
+use Rattle.std.proofs.Common.{◌≡◌, ℕ, ◌+◌, ◌-◌, ◌<◌, ◌^◌, ◌==◌, min, List, map, length, Some, refl, sym, ap, ap₂, subst, ◌∙◌, arith}
 use Rattle.std.specs.Prelude.{slice_set, vec_len, vec_capacity}
 use Rattle.std.specs.Global.{Vec}
 use Rattle.std.proofs.Math.ListN.{length-set}
 use Rattle.std.proofs.lemmas.Option.{same_Some}
+use Rattle.std.proofs.lemmas.Bool.{eqb-true}
+use Rattle.std.proofs.Math.Nat.{min-eq_left}
+use Rattle.translation_laws.proofs.MemberLaws.{Among}
 use Rattle.spec_board.specs.State as states
 use Rattle.spec_board.specs.Effects as effects
 use Rattle.spec_pcap.specs.Pcap.{Frame}
@@ -17,11 +20,22 @@ use Rattle.port_caches.specs.Views.{entry_view}
 use Rattle.port_caches.specs.Kept.{AreKept, IsKept, caches_in}
 use Rattle.port_caches.specs.Steps.{CanHit, IsFrameOf, IsHit}
 use Rattle.port_caches.proofs.HeldLists.{held_list, held_actions, held_there, held_stay}
-use Rattle.port_caches.proofs.Kept.{kept-changed, kept_found}
+use Rattle.port_caches.proofs.Kept.{kept-changed, kept_found, same_entry}
+use Rattle.port_caches.proofs.ListLaws.{found}
 use Rattle.port_caches.proofs.Views.{viewed, changed-view}
 
+-- All counts of an entry take one more packet of so many bytes.
+record HasRoom (length : ℕ) (e : Entry) : Type 0 where
+  pub packets : flow.counted_on e.packets 1 ≡ e.packets + 1
+  pub bytes : flow.counted_on e.bytes length ≡ e.bytes + length
+  pub owed_packets : flow.counted_on e.owed_packets 1 ≡ e.owed_packets + 1
+  pub owed_bytes : flow.counted_on e.owed_bytes length ≡ e.owed_bytes + length
+
+counted : (count more : ℕ) → count + more < 2 ^ 64 → flow.counted_on count more ≡ count + more
+counted count more below = min-eq_left (omega (arith, below))
+
 pub can_hit : (a : Inside) (number length_ : ℕ) → CanHit number length_ (caches_in a)
-    → flow.ForEntry number a.flows.entries (flow.CanHit length_)
+    → (e : Entry) × (flow.entry_of number a.flows.entries ≡ Some e) × HasRoom length_ e
 can_hit a number length_ can =
     let there = viewed a.lists.items number a.flows.entries can.0 can.1 in
     let packets : there.0.packets ≡ can.0.packets = ap (λ (e : states.Entry). e.packets) there.2 in
@@ -31,14 +45,14 @@ can_hit a number length_ can =
       there.0,
       there.1,
       record {
-        packets = omega (arith, packets, can.2);
-        bytes = omega (arith, bytes, can.3);
-        owed_packets = omega (arith, packets, owed_packets, can.2, can.4);
-        owed_bytes = omega (arith, bytes, owed_bytes, can.3, can.5);
+        packets = counted _ _ (omega (arith, packets, can.2));
+        bytes = counted _ _ (omega (arith, bytes, can.3));
+        owed_packets = counted _ _ (omega (arith, packets, owed_packets, can.2, can.4));
+        owed_bytes = counted _ _ (omega (arith, bytes, owed_bytes, can.3, can.5));
       },
     )
 
-module _ (a : Inside) (kept : IsKept a) (number length_ time : ℕ) (d : Entry) (is : flow.entry_of number a.flows.entries ≡ Some d)
+module _ (a : Inside) (kept : IsKept a) (number length_ time : ℕ) (d : Entry) (is : flow.entry_of number a.flows.entries ≡ Some d) (room : HasRoom length_ d)
     (flows : flow.Flows) (lists : Vec HeldList)
     (entries : flows.entries ≡ flow.changed number (flow.hit_at length_ time) a.flows.entries) (limit : flows.limit ≡ a.flows.limit)
     (items : lists.items ≡ slice_set a.lists.items d.actions (held_list (actions_at a.lists.items d.actions)))
@@ -77,7 +91,7 @@ module _ (a : Inside) (kept : IsKept a) (number length_ time : ℕ) (d : Entry) 
     effect = λ s place frame frame_is of. record {
       entries =
           ap (effects.changed number (effects.hit_by frame)) of.entries
-          ∙ sym (changed-view a.lists.items lists.items number (flow.hit_at length_ time) (effects.hit_by frame) a.flows.entries (λ e m n. hit_view frame frame_is e) (λ e m n. same_actions e.actions))
+          ∙ sym (changed-view a.lists.items lists.items number (flow.hit_at length_ time) (effects.hit_by frame) a.flows.entries (λ e m n. subst (λ (x : Entry). entry_view lists.items (flow.hit_at length_ time x) ≡ effects.hit_by frame (entry_view a.lists.items x)) (this_one e m n) (hit_view frame frame_is)) (λ e m n. same_actions e.actions))
           ∙ sym (ap (map (entry_view lists.items)) entries);
       made = of.made;
       slots = of.slots;
@@ -85,17 +99,23 @@ module _ (a : Inside) (kept : IsKept a) (number length_ time : ℕ) (d : Entry) 
     };
   }
     where
-      hit_view : (frame : Frame) → IsFrameOf length_ time frame → (e : Entry) → entry_view lists.items (flow.hit_at length_ time e) ≡ effects.hit_by frame (entry_view a.lists.items e)
-      hit_view frame frame_is e = λ i. record {
-        number = e.number;
-        key = numbers e.key;
-        mask = bits e.mask;
-        version = e.version;
-        actions = same_actions e.actions i;
-        visits = e.visits;
-        packets = e.packets + 1;
-        bytes = e.bytes + frame_is.length_is i;
-        owed_packets = e.owed_packets + 1;
-        owed_bytes = e.owed_bytes + frame_is.length_is i;
+      -- the entry of the number is this one
+      this_one : (e : Entry) → Among e a.flows.entries → e.number ≡ number → d ≡ e
+      this_one e m n =
+          let there = found (λ (x : Entry). x.number == number) a.flows.entries d is in
+          same_entry (length a.lists.items) a.made (length a.totals) a.flows.entries d e kept.entries there.0 m (eqb-true d.number number there.1 ∙ sym n)
+
+      hit_view : (frame : Frame) → IsFrameOf length_ time frame → entry_view lists.items (flow.hit_at length_ time d) ≡ effects.hit_by frame (entry_view a.lists.items d)
+      hit_view frame frame_is = λ i. record {
+        number = d.number;
+        key = numbers d.key;
+        mask = bits d.mask;
+        version = d.version;
+        actions = same_actions d.actions i;
+        visits = d.visits;
+        packets = room.packets i;
+        bytes = (room.bytes ∙ ap (λ (n : ℕ). d.bytes + n) frame_is.length_is) i;
+        owed_packets = room.owed_packets i;
+        owed_bytes = (room.owed_bytes ∙ ap (λ (n : ℕ). d.owed_bytes + n) frame_is.length_is) i;
         used = frame_is.time_is i;
       }

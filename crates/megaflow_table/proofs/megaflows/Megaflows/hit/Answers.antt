@@ -1,12 +1,12 @@
 use Rattle.std.proofs.Common.{◌≡◌, ℕ, List, Option, Some, refl, sym, ap, subst, ◌∙◌}
-use Rattle.std.specs.Prelude.{is_some, slice_get, IfSome}
+use Rattle.std.specs.Prelude.{slice_get, IfSome}
 use Rattle.std.proofs.lemmas.Option.{same_Some}
 use Rattle.std.specs.Option.{option_map}
 use Rattle.indexmap.specs.IndexMap.{with_value_at}
 use Rattle.ovs_fields.specs.Packed.{bits}
 use Rattle.megaflow_table.specs.declared.placed.Placed.{Placed}
 use Rattle.megaflow_table.specs.declared.entry.Entry.{Entry}
-use Rattle.megaflow_table.specs.Entries.{Flows, CanHit, entry_of, hit_at}
+use Rattle.megaflow_table.specs.Entries.{Flows, entry_of, hit_at}
 use Rattle.megaflow_table.specs.Order.{CountsHit}
 use Rattle.megaflow_table.specs.Subtables.{order_of}
 use Rattle.megaflow_table.proofs.StepLaws.{counted_table}
@@ -19,7 +19,7 @@ same_entry : (entries : List (ℕ × Placed)) (place number k : ℕ) (e : Placed
 same_entry entries place number k e there lent = there.1 ∙ ap (λ (t : ℕ × Placed). Some (number, t.1)) (same_Some (number, there.0) (k, e) (sym there.1 ∙ lent))
 
 pub unreachable-requires : goal.unreachable-requires
-unreachable-requires c = not_live c.self.inside c.args.number c.args.self.now c.self.view_is c.self.invariant (ap is_some c.requires.1) (sym (c.place_of.ensures.none c.in_default.is))
+unreachable-requires c = not_live c.self.inside c.args.number c.args.self.now c.self.view_is c.self.invariant c.requires (sym (c.place_of.ensures.none c.in_default.is))
 
 pub invariant_of-self : goal.invariant_of-self
 invariant_of-self c =
@@ -54,13 +54,3 @@ returns c =
       room = ap (λ (f : Flows). f.room) flows;
       limit = ap (λ (f : Flows). f.limit) flows;
     }
-
-pub hit-requires : goal.hit-requires
-hit-requires c =
-    let inside = c.self.inside in
-    let placed = c.pair_mut-placed.result.1.now in
-    let there = same_entry inside.entries.entries c.in-Some.place c.args.number c.pair_mut-placed.result.0.now placed c.in-Some.ensures.there c.pair_mut-placed.ensures.value in
-    let found = found_at inside c.args.number c.in-Some.place placed placed c.self.invariant c.pair_mut-placed.ensures.unique there in
-    subst (CanHit c.args.length)
-    (same_Some c.requires.0 placed.entry (sym c.requires.1 ∙ entry_in inside c.args.number c.args.self.now c.self.view_is c.self.invariant ∙ sym (ap (option_map (λ (p : Placed). p.entry)) found)))
-    c.requires.2

@@ -1,5 +1,5 @@
 use Rattle.std.proofs.Common.{◌≡◌, ℕ, ◌<◌, List, Some, length, ap, sym, subst, ◌∙◌}
-use Rattle.std.specs.Prelude.{slice_set}
+use Rattle.std.specs.Prelude.{slice_set, is_some}
 use Rattle.std.specs.Option.{option_map}
 use Rattle.std.proofs.lemmas.Option.{same_Some}
 use Rattle.megaflow_table.specs.declared.entry.Entry.{Entry}
@@ -18,7 +18,9 @@ answered : (entries : List Entry) (number : ℕ) (d : Entry) (part : Entry → �
 answered entries number d part told is there = same_Some told (part d) (sym is ∙ ap (option_map part) there)
 
 pub hit-hit-requires : goal.hit-hit-requires
-hit-hit-requires c = can_hit c.self.inside c.args.number c.args.length (subst (steps.CanHit c.args.number c.args.length) (sym c.self.view_is) c.requires)
+hit-hit-requires c =
+    let there = can_hit c.self.inside c.args.number c.args.length (subst (steps.CanHit c.args.number c.args.length) (sym c.self.view_is) c.requires) in
+    ap is_some there.1
 
 pub hold-requires : goal.hold-requires
 hold-requires c =
@@ -32,7 +34,7 @@ invariant_of-self c =
     let b = c.self.inside in
     let there = can_hit b c.args.number c.args.length (subst (steps.CanHit c.args.number c.args.length) (sym c.self.view_is) c.requires) in
     let list = (answered b.flows.entries c.args.number there.0 (λ (e : Entry). e.actions) c.hit-hit.result.actions c.hit-hit.ensures.actions there.1) in
-    hit_kept b c.self.invariant c.args.number c.args.length c.args.time there.0 there.1 c.hit-hit.new.self c.hold.new.lists c.hit-hit.ensures.entries c.hit-hit.ensures.limit
+    hit_kept b c.self.invariant c.args.number c.args.length c.args.time there.0 there.1 there.2 c.hit-hit.new.self c.hold.new.lists c.hit-hit.ensures.entries c.hit-hit.ensures.limit
     (c.hold.ensures.items ∙ ap (λ (n : ℕ). slice_set b.lists.items n (held_list (actions_at b.lists.items n))) list) c.hold.ensures.len c.hold.ensures.capacity
 
 pub returns : goal.returns
@@ -41,7 +43,7 @@ returns c =
     let there = can_hit b c.args.number c.args.length (subst (steps.CanHit c.args.number c.args.length) (sym c.self.view_is) c.requires) in
     let version = answered b.flows.entries c.args.number there.0 (λ (e : Entry). e.version) c.hit-hit.result.version c.hit-hit.ensures.version there.1 in
     let list = answered b.flows.entries c.args.number there.0 (λ (e : Entry). e.actions) c.hit-hit.result.actions c.hit-hit.ensures.actions there.1 in
-    let hit = hit_is b c.self.invariant c.args.number c.args.length c.args.time there.0 there.1 c.hit-hit.new.self c.hold.new.lists c.hit-hit.ensures.entries c.hit-hit.ensures.limit
+    let hit = hit_is b c.self.invariant c.args.number c.args.length c.args.time there.0 there.1 there.2 c.hit-hit.new.self c.hold.new.lists c.hit-hit.ensures.entries c.hit-hit.ensures.limit
     (c.hold.ensures.items ∙ ap (λ (n : ℕ). slice_set b.lists.items n (held_list (actions_at b.lists.items n))) list) c.hold.ensures.len c.hold.ensures.capacity in
     let after = caches_in (record b { flows = c.hit-hit.new.self; lists = c.hold.new.lists }) in
     subst (λ (v : Caches). steps.IsHit c.args.number c.args.length c.args.time c.hit-hit.result.version c.hit-hit.result.actions v after) c.self.view_is
