@@ -4,8 +4,6 @@ use Rattle.std.specs.Prelude.{◌⊎◌, IsTrue, IsOk, IfErr, Result, Ok, Err}
 use Rattle.spec_base.specs.Counts.{Rose}
 use Rattle.spec_run.specs.Statuses.{done_status, limit_status, read_fault_status, out_of_memory_status, read_fault_text, status_of as run_status, Prints}
 use Rattle.edge_io.specs.declared.outside.Failed.TheVariants as failed
-use Rattle.edge_io.specs.declared.outside.InUse.{InUse}
-use Rattle.edge_io.specs.declared.outside.InUse.TheVariants.{Nothing}
 use Rattle.edge_io.specs.declared.outside.Shelf as shelf
 use Rattle.edge_io.specs.declared.outside.Sink as sink
 use Rattle.edge_io.specs.Counts.{with_fault}
@@ -13,7 +11,7 @@ use Rattle.edge_io.specs.Opened.{HasOpenedUpTo}
 use Rattle.switch_input.specs.declared.refusals.refusal.InputFault.{InputFault}
 use Rattle.switch_input.specs.declared.refusals.refusal.InputFault.TheVariants as fault
 use Rattle.switch_input.specs.declared.refusals.refusal.InputRefusal.TheVariants as input
-use Rattle.switch_input.specs.Refused.{fault_view, IsClosedAt}
+use Rattle.switch_input.specs.Refused.{fault_view}
 use Rattle.spec_diff.specs.Verdict.{Accepted, Refusal as Refused, Usage as UsageOf, Input as InputOf, verdict, files_opened}
 use Rattle.spec_diff.specs.Outputs.{IsCut}
 use Rattle.spec_diff.specs.Statuses.{differ_status, is_refusal, status_of as refusal_status}
@@ -30,12 +28,6 @@ is_turned_down (fault.Trace name why) = refl
 is_turned_down (fault.Limit q) = refl
 
 -- no file is in use where it is no limit that is told
-closed_but : (now : InUse) (f : InputFault) → IsClosedAt now f → run_status (fault_view f) ≢ limit_status → now ≡ Nothing
-closed_but now fault.Usage closed other = closed
-closed_but now (fault.Text name why) closed other = closed
-closed_but now (fault.Trace name why) closed other = closed
-closed_but now (fault.Limit q) closed other = absurd (other refl)
-
 -- The sink is as `mid` before the refusal is printed.
 module _ {S K : Type 0} (g : shelf.Ghosts S) (h : sink.Ghosts K) (words : List (List ℕ)) (old new : S) (said mid saying : K) where
   abbrev Printed : K → List ℕ → Type 0
@@ -50,7 +42,7 @@ module _ {S K : Type 0} (g : shelf.Ghosts S) (h : sink.Ghosts K) (words : List (
     verdict = λ t. record { refusal = UsageOf; is_verdict = left.verdict t; is_status = refl };
     opened = left.reads.opened;
     unwritten = left.reads.only_read;
-    no_file = λ _. left.closed;
+    no_file = left.no_file;
     counts = left.reads.counts;
     printed = λ t k. record { refusal = UsageOf; is_verdict = left.verdict t; printed = printed (text_of Usage) left.unsaid is k };
   })
@@ -58,7 +50,7 @@ module _ {S K : Type 0} (g : shelf.Ghosts S) (h : sink.Ghosts K) (words : List (
     verdict = λ t. record { refusal = InputOf (fault_view f); is_verdict = left.verdict t; is_status = refl };
     opened = left.reads.opened;
     unwritten = left.reads.only_read;
-    no_file = closed_but (g.in_use new) f left.closed;
+    no_file = left.no_file;
     counts = left.reads.counts;
     printed = λ t k. record { refusal = InputOf (fault_view f); is_verdict = left.verdict t; printed = printed (text_of (Reading (input.Input f))) left.unsaid is k };
   })
@@ -67,14 +59,14 @@ module _ {S K : Type 0} (g : shelf.Ghosts S) (h : sink.Ghosts K) (words : List (
     since = left.reads.since;
     opened = λ t. subst (λ n. HasOpenedUpTo (g.told old) (g.told new) (files_opened words (g.told old).holds) n) (sym (left.reads.named t)) (left.reads.opened t);
     unwritten = left.reads.only_read;
-    no_file = left.closed;
+    no_file = left.no_file;
     printed = λ t k. subst (λ n. Printed said (read_fault_text n)) (sym (left.reads.named t)) (printed (read_fault_text name.now) left.unsaid is k);
   })
   ended (Reading input.OutOfMemory) left is silent = RunOut refl (record {
     counts = left.reads.counts;
     opened = left.reads.opened;
     unwritten = left.reads.only_read;
-    no_file = left.closed;
+    no_file = left.no_file;
     printed = printed (text_of (Reading input.OutOfMemory)) left.unsaid is;
   })
   ended TooManyCubes left is silent = GivenUp refl (record {

@@ -42,12 +42,12 @@ module _ {S K : Type 0} (g : shelf.Ghosts S) (h : sink.Ghosts K) (words : List (
     pub faults : h.faults saying ≡ h.faults said
 
   -- The words or a file of edits are refused: the verdict is a refusal of this status, which is the first in the
-  -- order of reading. Nothing failed, and no file is left in use but one that is too long.
+  -- order of reading. Nothing failed, and no file is left in use.
   pub record IsTurnedDown (status : ℕ) : Type 0 where
     pub verdict : IsTrue g.tells → IsRefused words held status
     pub opened : OpensAll
     pub unwritten : WritesNothing
-    pub no_file : status ≢ limit_status → g.in_use new ≡ Nothing
+    pub no_file : g.in_use new ≡ Nothing
     pub counts : g.counts new ≡ g.counts old
     pub printed : IsTrue g.tells → IsTrue h.tells
         → PrintsRefusal words held h.needs_memory (h.faults said) (h.faults saying) (h.written said) (h.written saying)

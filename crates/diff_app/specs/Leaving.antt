@@ -10,7 +10,7 @@ use Rattle.spec_diff.specs.Verdict.{verdict, files_opened}
 use Rattle.spec_diff.specs.Outputs.{IsCut, IsGivenUp}
 use Rattle.diff_app.specs.declared.refusal.Refusal.{Refusal}
 use Rattle.diff_app.specs.declared.refusal.Refusal.TheVariants.{Usage, Reading, TooManyCubes, Printing}
-use Rattle.diff_app.specs.Refused.{Explains, IsClosed, stop_of}
+use Rattle.diff_app.specs.Refused.{Explains, stop_of}
 
 module _ {S K : Type 0} (g : shelf.Ghosts S) (h : sink.Ghosts K) (words : List (List ℕ)) (old new : S) (said saying : K) where
   -- The files of the words were read.
@@ -21,7 +21,7 @@ module _ {S K : Type 0} (g : shelf.Ghosts S) (h : sink.Ghosts K) (words : List (
   pub record LeavesUnread (r : Refusal) : Type 0 where
     pub verdict : IsTrue g.tells → Explains (verdict words (g.told old).holds) r
     pub reads : HasRead (stop_of r)
-    pub closed : IsClosed (g.in_use new) r
+    pub no_file : g.in_use new ≡ Nothing
     pub unsaid : saying ≡ said
 
   -- There are more cubes than are looked into, and nothing was printed.

@@ -1,5 +1,5 @@
 //! What is compared: the words and both files of edits, read up to the first that is refused.
-ghost use Rattle.std.specs.Prelude.{◌≡◌, ◌∷◌, [], Ok, IsTrue, OnOk, IfOk, IfErr};
+ghost use Rattle.std.specs.Prelude.{◌≡◌, ◌∷◌, [], Ok, IsTrue, IfOk, IfErr};
 ghost use Rattle.edge_io.specs.declared.outside.InUse.TheVariants.{Nothing};
 ghost use Rattle.command_words.specs.CommandViews.{texts};
 ghost use Rattle.edit_script.specs.ScriptViews.{script_view};
@@ -7,7 +7,7 @@ ghost use Rattle.spec_diff.specs.Verdict.{case_of, verdict_of, verdict, opened_f
 ghost use Rattle.diff_app.specs.Commands.{command_view};
 ghost use Rattle.diff_app.specs.InputViews.{accepted_view, accepted_of, AreComparable, IsEditsFile};
 ghost use Rattle.switch_input.specs.Reading.{ReadsFiles};
-ghost use Rattle.diff_app.specs.Refused.{Explains, IsUntold, IsClosed, ending_of};
+ghost use Rattle.diff_app.specs.Refused.{Explains, IsUntold, ending_of};
 
 use crate::refusal::Refusal;
 use crate::words::{Command, read_command};
@@ -53,8 +53,7 @@ fn read_new<'a, S: Shelf>(
 ) -> Result<Inputs, Refusal<'a>>
     requires in_use { S.in_use shelf.old ≡ Nothing }
     requires old { IsEditsFile old }
-    ensures in_use { OnOk result (S.in_use shelf.new ≡ Nothing) }
-    ensures closed { IfErr result (IsClosed (S.in_use shelf.new)) }
+    ensures in_use { S.in_use shelf.new ≡ Nothing }
     ensures ok { IsTrue S.tells → IfOk result (λ inputs.
         case_of (S.told shelf.old).holds (command_view command.entry) (script_view old.script) ≡ Ok (accepted_view inputs)) }
     ensures comparable { IfOk result AreComparable }
@@ -75,8 +74,7 @@ fn read_sources<'a, S: Shelf>(
     command: Command<'a>,
 ) -> Result<Inputs, Refusal<'a>>
     requires { S.in_use shelf.old ≡ Nothing }
-    ensures in_use { OnOk result (S.in_use shelf.new ≡ Nothing) }
-    ensures closed { IfErr result (IsClosed (S.in_use shelf.new)) }
+    ensures in_use { S.in_use shelf.new ≡ Nothing }
     ensures ok { IsTrue S.tells → IfOk result (λ inputs.
         verdict_of (S.told shelf.old).holds (command_view command.entry) ≡ Ok (accepted_view inputs)) }
     ensures comparable { IfOk result AreComparable }
@@ -97,8 +95,7 @@ pub fn read_inputs<'a, S: Shelf>(
     shelf: &mut S,
 ) -> Result<Inputs, Refusal<'a>>
     requires { S.in_use shelf.old ≡ Nothing }
-    ensures in_use { OnOk result (S.in_use shelf.new ≡ Nothing) }
-    ensures closed { IfErr result (IsClosed (S.in_use shelf.new)) }
+    ensures in_use { S.in_use shelf.new ≡ Nothing }
     ensures ok { IsTrue S.tells → IfOk result (λ inputs.
         verdict (texts words.now) (S.told shelf.old).holds ≡ Ok (accepted_view inputs)) }
     ensures comparable { IfOk result AreComparable }

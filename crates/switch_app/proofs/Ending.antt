@@ -7,10 +7,8 @@ use Rattle.spec_base.specs.Counts.{Rose}
 use Rattle.spec_words.specs.Words.{Command, command_of}
 use Rattle.spec_run.specs.Verdict.{Files as Shelved, Accepted, Refusal as Refused, Usage, command_in, verdict, files_opened}
 use Rattle.spec_run.specs.CutShort.{IsCutSummary}
-use Rattle.spec_run.specs.Statuses.{done_status, usage_status, read_fault_status, write_fault_status, limit_status, out_of_memory_status, read_fault_text, write_fault_text, is_refusal, status_of as refusal_status, Prints}
+use Rattle.spec_run.specs.Statuses.{done_status, usage_status, read_fault_status, out_of_memory_status, read_fault_text, write_fault_text, is_refusal, status_of as refusal_status, Prints}
 use Rattle.edge_io.specs.declared.outside.Failed.TheVariants as failed
-use Rattle.edge_io.specs.declared.outside.InUse.{InUse}
-use Rattle.edge_io.specs.declared.outside.InUse.TheVariants.{Nothing}
 use Rattle.edge_io.specs.declared.outside.Shelf as shelf
 use Rattle.edge_io.specs.declared.outside.Sink as sink
 use Rattle.edge_io.specs.Counts.{Counts, with_fault, with_write_fault}
@@ -20,7 +18,7 @@ use Rattle.switch_input.specs.Known.{IsKnownCommand, IsKnown}
 use Rattle.switch_input.specs.declared.refusals.refusal.InputFault.{InputFault}
 use Rattle.switch_input.specs.declared.refusals.refusal.InputFault.TheVariants as fault
 use Rattle.switch_input.specs.declared.refusals.refusal.InputRefusal.TheVariants as input
-use Rattle.switch_input.specs.Refused.{fault_view, IsClosedAt}
+use Rattle.switch_input.specs.Refused.{fault_view}
 use Rattle.switch_output.specs.declared.refusal.WriteRefusal.TheVariants.{WriteFault, OutOfMemory}
 use Rattle.switch_output.specs.declared.refusal.OutputRefusal.TheVariants.{Files, Summary}
 use Rattle.switch_app.specs.declared.refusal.Refusal.{Refusal}
@@ -43,12 +41,6 @@ only_words (fault.Trace name why) is = cc is
 only_words (fault.Limit q) is = cc is
 
 -- no file is in use where it is no limit that is told
-closed_but : (now : InUse) (f : InputFault) → IsClosedAt now f → refusal_status (fault_view f) ≢ limit_status → now ≡ Nothing
-closed_but now fault.Usage closed other = closed
-closed_but now (fault.Text name why) closed other = closed
-closed_but now (fault.Trace name why) closed other = closed
-closed_but now (fault.Limit q) closed other = absurd (other refl)
-
 all_is_prefix : (before now : Told) (names : List (List ℕ)) → HasOpened before now names → HasOpenedPrefix before now names
 all_is_prefix before now names opened = record { opened = names; left = []; are_names = sym (append-nil names); has_opened = opened }
 
@@ -67,7 +59,7 @@ module _ {S K : Type 0} (g : shelf.Ghosts S) (h : sink.Ghosts K) (words : List (
     usage = λ is. left.usage (only_words f is);
     opened = left.reads.opened;
     unwritten = left.reads.only_read;
-    no_file = closed_but (g.in_use new) f left.closed;
+    no_file = left.no_file;
     counts = left.reads.counts;
     printed = λ t k. record { refusal = fault_view f; is_verdict = left.verdict t; printed = printed (text_of (Reading (input.Input f))) left.unsaid is k };
   })
@@ -76,7 +68,7 @@ module _ {S K : Type 0} (g : shelf.Ghosts S) (h : sink.Ghosts K) (words : List (
     since = left.reads.since;
     opened = λ t. subst (λ n. HasOpenedUpTo (g.told old) (g.told new) (files_opened words (g.told old).holds) n) (sym (left.reads.named t)) (left.reads.opened t);
     unwritten = left.reads.only_read;
-    no_file = left.closed;
+    no_file = left.no_file;
     printed = λ t k. subst (λ n. Printed said (read_fault_text n)) (sym (left.reads.named t)) (printed (read_fault_text name.now) left.unsaid is k);
   })
   ended (Reading input.OutOfMemory) left is silent = RunOut refl (record {

@@ -3,7 +3,7 @@ use Rattle.std.specs.Prelude.{◌≡◌, ◌≢◌, ℕ, ◌⊎◌, List, IsTrue
 use Rattle.spec_run.specs.Verdict.{Files, Usage, command_in, files_opened}
 use Rattle.spec_run.specs.Outputs.{IsDone}
 use Rattle.spec_run.specs.CutShort.{IsCutRun, IsPartOfRun, IsCutSummary}
-use Rattle.spec_run.specs.Statuses.{done_status, usage_status, read_fault_status, write_fault_status, limit_status, out_of_memory_status, read_fault_text, write_fault_text, out_of_memory_text, is_refusal, IsRefused, Prints, PrintsRefusal}
+use Rattle.spec_run.specs.Statuses.{done_status, usage_status, read_fault_status, write_fault_status, out_of_memory_status, read_fault_text, write_fault_text, out_of_memory_text, is_refusal, IsRefused, Prints, PrintsRefusal}
 use Rattle.edge_io.specs.declared.outside.InUse.TheVariants.{Nothing}
 use Rattle.edge_io.specs.declared.outside.Shelf as shelf
 use Rattle.edge_io.specs.declared.outside.Sink as sink
@@ -47,13 +47,13 @@ module _ {S K : Type 0} (g : shelf.Ghosts S) (h : sink.Ghosts K) (words : List (
 
   -- The words or a file are refused: the verdict is a refusal of this status, which is the first in the order of reading. With
   -- the status of words that the program doesn't take it is these that are refused, whatever the shelf is. Nothing failed, and
-  -- nothing is written. No file is left in use, but one that is too long.
+  -- nothing is written. No file is left in use.
   pub record IsTurnedDown (status : ℕ) : Type 0 where
     pub verdict : Knows → IsRefused words held status
     pub usage : status ≡ usage_status → command_in words ≡ Err Usage
     pub opened : OpensAll
     pub unwritten : WritesNothing
-    pub no_file : status ≢ limit_status → g.in_use new ≡ Nothing
+    pub no_file : g.in_use new ≡ Nothing
     pub counts : g.counts new ≡ g.counts old
     pub printed : Knows → IsTrue h.tells
         → PrintsRefusal words held h.needs_memory (h.faults said) (h.faults saying) (h.written said) (h.written saying)

@@ -17,7 +17,7 @@ use Rattle.edge_io.specs.Written.{written}
 use Rattle.switch_input.specs.Known.{IsKnown}
 use Rattle.switch_input.specs.declared.refusals.refusal.InputRefusal.{InputRefusal}
 use Rattle.switch_input.specs.Reading.{Ending, ReadsWhere}
-use Rattle.switch_input.specs.Refused.{TellsUsage, IsClosed, Explains, stop_of}
+use Rattle.switch_input.specs.Refused.{TellsUsage, Explains, stop_of}
 use Rattle.switch_output.specs.declared.refusal.WriteRefusal.{WriteRefusal}
 use Rattle.switch_output.specs.declared.refusal.WriteRefusal.TheVariants.{WriteFault, OutOfMemory}
 use Rattle.switch_output.specs.declared.refusal.OutputRefusal.TheVariants.{Files, Summary}
@@ -53,7 +53,7 @@ module _ {S K : Type 0} (g : shelf.Ghosts S) (h : sink.Ghosts K) (words : List (
     pub verdict : IsKnown g.tells words → Explains (verdict words (g.told old).holds) r
     pub usage : TellsUsage r → command_in words ≡ Err Usage
     pub reads : HasRead (stop_of r)
-    pub closed : IsClosed (g.in_use new) r
+    pub no_file : g.in_use new ≡ Nothing
     pub unsaid : saying ≡ said
 
   -- The files that are opened in reading were opened.

@@ -42,7 +42,7 @@
 //!   else a prefix. Nothing is printed after a fault in printing the summary.
 //! - A run that is accepted and meets no fault is done, unless memory runs out. Words that are refused end with their status,
 //!   and others never do, with every shelf.
-//! - No file is in use after a run that is done, a refusal, or a fault in reading or in printing, but one that is too long.
+//! - No file is in use after a run that is done, a refusal, or a fault in reading or in printing.
 //!   One in which writing failed may be.
 //!
 //! # How

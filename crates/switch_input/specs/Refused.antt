@@ -1,7 +1,5 @@
 -- What a refusal in reading says, and when it may come.
 use Rattle.std.specs.Prelude.{◌≡◌, ℕ, List, Result, Ok, Err}
-use Rattle.edge_io.specs.declared.outside.InUse.{InUse}
-use Rattle.edge_io.specs.declared.outside.InUse.TheVariants.{Nothing}
 use Rattle.spec_run.specs.Verdict as verdicts
 use Rattle.switch_input.specs.declared.refusals.refusal.InputFault.{InputFault}
 use Rattle.switch_input.specs.declared.refusals.refusal.InputFault.TheVariants.{Usage, Text, Trace, Limit}
@@ -50,16 +48,6 @@ Explains stage r = IfInput r (λ fault. stage ≡ Err (fault_view fault))
 -- It tells of no file that reading failed in it.
 abbrev pub TellsNoFault : InputRefusal → Type 0
 TellsNoFault r = IfReadFault r (λ _. ⊥)
-
--- No file is in use, but where a quantity is above its limit: a file that is too long is open still.
-abbrev pub IsClosedAt : InUse → InputFault → Type 0
-IsClosedAt now (Limit q) = Unit {0}
-IsClosedAt now fault = now ≡ Nothing
-
-abbrev pub IsClosed : InUse → InputRefusal → Type 0
-IsClosed now (Input fault) = IsClosedAt now fault
-IsClosed now (ReadFault name) = now ≡ Nothing
-IsClosed now OutOfMemory = now ≡ Nothing
 
 -- how reading ended at a refusal
 abbrev pub stop_of : InputRefusal → Ending

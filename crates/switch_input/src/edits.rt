@@ -14,7 +14,7 @@ ghost use Rattle.rule_tables.specs.History.{history_of};
 ghost use Rattle.edit_script.specs.ScriptViews.{script_view};
 ghost use Rattle.switch_input.specs.EditsViews.{script_in_bytes};
 ghost use Rattle.switch_input.specs.Reading.{ReadsFiles};
-ghost use Rattle.switch_input.specs.Refused.{IfReadFault, TakesWords, TellsNoFault, IsClosed, Explains, ending_of};
+ghost use Rattle.switch_input.specs.Refused.{IfReadFault, TakesWords, TellsNoFault, Explains, ending_of};
 
 use crate::reading::read_file;
 use crate::refusals::{InputFault, InputRefusal, MOST_EDITS_BYTES, refused_text};
@@ -96,8 +96,7 @@ pub fn read_edits<'a, S: Shelf>(
     name: &'a str,
 ) -> Result<EditsFile, InputRefusal<'a>>
     requires { S.in_use shelf.old ≡ Nothing }
-    ensures in_use { OnOk result (S.in_use shelf.new ≡ Nothing) }
-    ensures closed { IfErr result (IsClosed (S.in_use shelf.new)) }
+    ensures in_use { S.in_use shelf.new ≡ Nothing }
     ensures reads { ReadsFiles S.Shelf shelf.old shelf.new (name.now ∷ []) (ending_of result) }
     ensures ok { IsTrue S.tells
         → IfOk result (λ e. script_in (S.told shelf.old).holds name.now ≡ Ok (script_view e.script)) }

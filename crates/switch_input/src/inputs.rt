@@ -1,4 +1,4 @@
-ghost use Rattle.std.specs.Prelude.{◌≡◌, false, Ok, Err, IsTrue, OnOk, IfOk, IfErr};
+ghost use Rattle.std.specs.Prelude.{◌≡◌, false, Ok, Err, IsTrue, IfOk, IfErr};
 ghost use Rattle.edge_io.specs.declared.outside.InUse.TheVariants.{Nothing};
 ghost use Rattle.spec_base.specs.Files.{lookup_or_empty};
 ghost use Rattle.spec_run.specs.Verdict.{Usage, verdict, command_in, files_for, made_list, sources_opened, opened_for, files_opened};
@@ -7,7 +7,7 @@ ghost use Rattle.command_words.specs.CommandViews.{texts, command_view, input_vi
 ghost use Rattle.switch_input.specs.InputViews.{sources_for, run_for, Gives, accepted_view, IsWithinLimits};
 ghost use Rattle.switch_input.specs.Known.{IsKnownInput, IsKnown, NeedNoFile};
 ghost use Rattle.switch_input.specs.Reading.{ReadsFiles, ReadsWhere};
-ghost use Rattle.switch_input.specs.Refused.{TakesWords, TellsUsage, TellsNoFault, IsClosed, Explains, ending_of};
+ghost use Rattle.switch_input.specs.Refused.{TakesWords, TellsUsage, TellsNoFault, Explains, ending_of};
 
 use crate::command::read_command;
 use crate::edits::read_edits;
@@ -54,8 +54,7 @@ fn read_sources<'a, S: Shelf>(
     requires in_use { S.in_use shelf.old ≡ Nothing }
     requires ports { IfFiles command.input ArePorts }
     requires workers { HasWorkers command }
-    ensures in_use { OnOk result (S.in_use shelf.new ≡ Nothing) }
-    ensures closed { IfErr result (IsClosed (S.in_use shelf.new)) }
+    ensures in_use { S.in_use shelf.new ≡ Nothing }
     ensures reads { let names = sources_opened (S.told shelf.old).holds (sources_for command.entry) in
         ReadsFiles S.Shelf shelf.old shelf.new names (ending_of result) }
     ensures command { IfOk result (λ inputs. inputs.command ≡ command.entry) }
@@ -110,8 +109,7 @@ fn read_run<'a, S: Shelf>(
     requires in_use { S.in_use shelf.old ≡ Nothing }
     requires ports { IfFiles command.input ArePorts }
     requires workers { HasWorkers command }
-    ensures in_use { OnOk result (S.in_use shelf.new ≡ Nothing) }
-    ensures closed { IfErr result (IsClosed (S.in_use shelf.new)) }
+    ensures in_use { S.in_use shelf.new ≡ Nothing }
     ensures reads { let input = input_view command.entry.input in
         let names = opened_for (S.told shelf.old).holds input in
         ReadsWhere (IsKnownInput S.tells input) S.Shelf shelf.old shelf.new names (ending_of result) }
@@ -144,8 +142,7 @@ pub fn read_inputs<'a, S: Shelf>(
     requires { S.in_use shelf.old ≡ Nothing }
 
     // Nothing but reading is done, and each file is opened only where none before it is refused.
-    ensures in_use { OnOk result (S.in_use shelf.new ≡ Nothing) }
-    ensures closed { IfErr result (IsClosed (S.in_use shelf.new)) }
+    ensures in_use { S.in_use shelf.new ≡ Nothing }
     ensures reads { let names = files_opened (texts words.now) (S.told shelf.old).holds in
         let knows = IsKnown S.tells (texts words.now) in
         ReadsWhere knows S.Shelf shelf.old shelf.new names (ending_of result) }

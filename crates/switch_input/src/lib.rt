@@ -21,7 +21,7 @@
 //!   one at which reading failed, or, out of memory, a prefix. So none is opened after one that is refused.
 //! - Where a number makes what is read, or the words are refused, the shelf isn't touched. That the words are refused is told
 //!   where they are, and only there, whatever the shelf is.
-//! - No file is left in use, but one that is too long.
+//! - No file is left in use.
 //! - A read fault is told only where calls of reading failed, and of the file that was last asked for, before which none
 //!   did.
 //! - Nothing else is refused, unless memory runs out. Whatever the answer is, nothing is written, and all but a read fault

@@ -1,11 +1,11 @@
 //! The mirrors file: its bytes, and the mirrors that they say.
-ghost use Rattle.std.specs.Prelude.{◌≡◌, ◌≤◌, [], ◌∷◌, length, Ok, IsTrue, OnOk, IfOk, IfErr, Some};
+ghost use Rattle.std.specs.Prelude.{◌≡◌, ◌≤◌, [], ◌∷◌, length, Ok, IsTrue, IfOk, IfErr, Some};
 ghost use Rattle.edge_io.specs.declared.outside.InUse.TheVariants.{Nothing};
 ghost use Rattle.spec_run.specs.Verdict.{mirrors_within, mirrors_in, given_names};
 ghost use Rattle.spec_script.specs.Mirrors.{most_mirrors_bytes, most_mirrors};
 ghost use Rattle.command_words.specs.CommandViews.{text_view};
 ghost use Rattle.switch_input.specs.Reading.{ReadsFiles};
-ghost use Rattle.switch_input.specs.Refused.{IfReadFault, TakesWords, TellsNoFault, IsClosed, Explains, ending_of};
+ghost use Rattle.switch_input.specs.Refused.{IfReadFault, TakesWords, TellsNoFault, Explains, ending_of};
 
 use crate::reading::read_file;
 use crate::refusals::{InputFault, InputRefusal, MOST_MIRRORS_BYTES, refused_text};
@@ -42,8 +42,7 @@ fn read_mirrors_file<'a, S: Shelf>(
     name: &'a str,
 ) -> Result<Vec<Mirror>, InputRefusal<'a>>
     requires { S.in_use shelf.old ≡ Nothing }
-    ensures in_use { OnOk result (S.in_use shelf.new ≡ Nothing) }
-    ensures closed { IfErr result (IsClosed (S.in_use shelf.new)) }
+    ensures in_use { S.in_use shelf.new ≡ Nothing }
     ensures reads { ReadsFiles S.Shelf shelf.old shelf.new (name.now ∷ []) (ending_of result) }
     ensures ok { IsTrue S.tells → IfOk result
         (λ v. mirrors_in (S.told shelf.old).holds ports.now (Some name.now) ≡ Ok v.items) }
@@ -71,8 +70,7 @@ pub fn read_mirrors<'a, S: Shelf>(
     name: Option<&'a str>,
 ) -> Result<Vec<Mirror>, InputRefusal<'a>>
     requires { S.in_use shelf.old ≡ Nothing }
-    ensures in_use { OnOk result (S.in_use shelf.new ≡ Nothing) }
-    ensures closed { IfErr result (IsClosed (S.in_use shelf.new)) }
+    ensures in_use { S.in_use shelf.new ≡ Nothing }
     ensures reads { ReadsFiles S.Shelf shelf.old shelf.new (given_names (text_view name.entry)) (ending_of result) }
     ensures ok { IsTrue S.tells → IfOk result
         (λ v. mirrors_in (S.told shelf.old).holds ports.now (text_view name.entry) ≡ Ok v.items) }

@@ -1,12 +1,12 @@
 //! Files read whole, and the traces of the ports.
-ghost use Rattle.std.specs.Prelude.{◌≡◌, ◌<◌, ◌≤◌, [], ◌∷◌, length, Ok, Err, All, Contains, IsTrue, IsSomeAnd, OnOk, IfOk, IfErr, Some};
+ghost use Rattle.std.specs.Prelude.{◌≡◌, ◌<◌, ◌≤◌, [], ◌∷◌, length, Ok, Err, All, Contains, IsTrue, IsSomeAnd, IfOk, IfErr, Some};
 ghost use Rattle.edge_io.specs.declared.outside.InUse.TheVariants.{Nothing};
 ghost use Rattle.spec_run.specs.Limits.{most_trace_bytes, most_frames};
 ghost use Rattle.spec_run.specs.Verdict.{refused_trace, file_in, trace_in, traces_in, trace_names, traces_opened};
 ghost use Rattle.command_words.specs.PortViews.{port_view, ports_view};
 ghost use Rattle.switch_input.specs.InputViews.{trace_view};
 ghost use Rattle.switch_input.specs.Reading.{ReadsFiles};
-ghost use Rattle.switch_input.specs.Refused.{fault_view, IfInput, IfReadFault, TakesWords, TellsNoFault, IsClosed, Explains, ending_of};
+ghost use Rattle.switch_input.specs.Refused.{fault_view, IfInput, IfReadFault, TakesWords, TellsNoFault, Explains, ending_of};
 
 use crate::refusals::{InputFault, InputRefusal, MOST_FRAMES, MOST_TRACE_BYTES};
 use command_words::PortWord;
@@ -24,8 +24,7 @@ pub fn read_file<'a, S: Shelf>(
     of: Quantity,
 ) -> Result<Vec<u8>, InputRefusal<'a>>
     requires { S.in_use shelf.old ≡ Nothing }
-    ensures in_use { OnOk result (S.in_use shelf.new ≡ Nothing) }
-    ensures closed { IfErr result (IsClosed (S.in_use shelf.new)) }
+    ensures in_use { S.in_use shelf.new ≡ Nothing }
     ensures reads { ReadsFiles S.Shelf shelf.old shelf.new (name.now ∷ []) (ending_of result) }
     ensures few { IfOk result (λ v. length v.items ≤ most) }
     ensures bytes { IsTrue S.tells → IfOk result (λ v. (S.told shelf.old).holds name.now ≡ Some v.items) }
@@ -72,8 +71,7 @@ fn read_trace_file<'a, S: Shelf>(
     frames_left: usize,
 ) -> Result<TraceFile, InputRefusal<'a>>
     requires { S.in_use shelf.old ≡ Nothing }
-    ensures in_use { OnOk result (S.in_use shelf.new ≡ Nothing) }
-    ensures closed { IfErr result (IsClosed (S.in_use shelf.new)) }
+    ensures in_use { S.in_use shelf.new ≡ Nothing }
     ensures reads { ReadsFiles S.Shelf shelf.old shelf.new (name.now ∷ []) (ending_of result) }
     ensures ok { IsTrue S.tells → IfOk result (λ t.
         file_in (S.told shelf.old).holds bytes_left frames_left name.now ≡ Ok (trace_view t)) }
@@ -101,8 +99,7 @@ fn read_port_trace<'a, S: Shelf>(
     frames_left: usize,
 ) -> Result<TraceFile, InputRefusal<'a>>
     requires { S.in_use shelf.old ≡ Nothing }
-    ensures in_use { OnOk result (S.in_use shelf.new ≡ Nothing) }
-    ensures closed { IfErr result (IsClosed (S.in_use shelf.new)) }
+    ensures in_use { S.in_use shelf.new ≡ Nothing }
     ensures reads { ReadsFiles S.Shelf shelf.old shelf.new (trace_names (port_view w.now)) (ending_of result) }
     ensures ok { IsTrue S.tells → IfOk result (λ t.
         trace_in (S.told shelf.old).holds bytes_left frames_left (port_view w.now) ≡ Ok (trace_view t)) }
@@ -129,8 +126,7 @@ pub fn read_traces<'a, S: Shelf>(
     ports: &[PortWord<'a>],
 ) -> Result<Vec<Trace>, InputRefusal<'a>>
     requires { S.in_use shelf.old ≡ Nothing }
-    ensures in_use { OnOk result (S.in_use shelf.new ≡ Nothing) }
-    ensures closed { IfErr result (IsClosed (S.in_use shelf.new)) }
+    ensures in_use { S.in_use shelf.new ≡ Nothing }
     ensures reads { let names = traces_opened (S.told shelf.old).holds most_trace_bytes most_frames
         (ports_view ports.now) in
         ReadsFiles S.Shelf shelf.old shelf.new names (ending_of result) }

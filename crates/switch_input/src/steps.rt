@@ -1,12 +1,12 @@
 //! The steps file: its bytes, and the steps that they say.
-ghost use Rattle.std.specs.Prelude.{◌≡◌, ◌≤◌, [], ◌∷◌, length, Ok, IsTrue, OnOk, IfOk, IfErr, Some};
+ghost use Rattle.std.specs.Prelude.{◌≡◌, ◌≤◌, [], ◌∷◌, length, Ok, IsTrue, IfOk, IfErr, Some};
 ghost use Rattle.edge_io.specs.declared.outside.InUse.TheVariants.{Nothing};
 ghost use Rattle.spec_run.specs.Limits.{most_steps_bytes};
 ghost use Rattle.spec_run.specs.Verdict.{steps_within, steps_in, given_names};
 ghost use Rattle.spec_script.specs.Steps.{most_steps};
 ghost use Rattle.command_words.specs.CommandViews.{text_view};
 ghost use Rattle.switch_input.specs.Reading.{ReadsFiles};
-ghost use Rattle.switch_input.specs.Refused.{IfReadFault, TakesWords, TellsNoFault, IsClosed, Explains, ending_of};
+ghost use Rattle.switch_input.specs.Refused.{IfReadFault, TakesWords, TellsNoFault, Explains, ending_of};
 
 use crate::reading::read_file;
 use crate::refusals::{InputFault, InputRefusal, MOST_STEPS_BYTES, refused_text};
@@ -43,8 +43,7 @@ fn read_steps_file<'a, S: Shelf>(
     name: &'a str,
 ) -> Result<Vec<RunStep>, InputRefusal<'a>>
     requires { S.in_use shelf.old ≡ Nothing }
-    ensures in_use { OnOk result (S.in_use shelf.new ≡ Nothing) }
-    ensures closed { IfErr result (IsClosed (S.in_use shelf.new)) }
+    ensures in_use { S.in_use shelf.new ≡ Nothing }
     ensures reads { ReadsFiles S.Shelf shelf.old shelf.new (name.now ∷ []) (ending_of result) }
     ensures ok { IsTrue S.tells → IfOk result
         (λ v. steps_in (S.told shelf.old).holds ports.now (Some name.now) ≡ Ok v.items) }
@@ -66,8 +65,7 @@ pub fn read_steps<'a, S: Shelf>(
     name: Option<&'a str>,
 ) -> Result<Vec<RunStep>, InputRefusal<'a>>
     requires { S.in_use shelf.old ≡ Nothing }
-    ensures in_use { OnOk result (S.in_use shelf.new ≡ Nothing) }
-    ensures closed { IfErr result (IsClosed (S.in_use shelf.new)) }
+    ensures in_use { S.in_use shelf.new ≡ Nothing }
     ensures reads { ReadsFiles S.Shelf shelf.old shelf.new (given_names (text_view name.entry)) (ending_of result) }
     ensures ok { IsTrue S.tells → IfOk result
         (λ v. steps_in (S.told shelf.old).holds ports.now (text_view name.entry) ≡ Ok v.items) }

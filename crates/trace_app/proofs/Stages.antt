@@ -2,7 +2,6 @@
 use Rattle.std.proofs.Common.{◌≡◌, ℕ, Bool, true, false, ◌==◌, List, [], length, refl, sym, ap, ◌∙◌, subst, arith}
 use Rattle.std.specs.Prelude.{IfErr, Some, None, IsTrue, Result, Ok, Err}
 use Rattle.std.specs.List.{list_any, list_all}
-use Rattle.std.proofs.lemmas.List.{append-nil}
 use Rattle.spec_tables.specs.Rules.{Rule, Match}
 use Rattle.spec_tables.specs.Edits.{Edit, has_sound_actions}
 use Rattle.spec_tables.specs.Bundles.{edits_through, version, AreBundles}
@@ -15,21 +14,19 @@ use Rattle.rule_tables.proofs.Histories.{rules_of-history}
 use Rattle.pipe_model.specs.Runnable.{AreRunnable}
 use Rattle.pipe_model.proofs.Versions.{runnable-version}
 use Rattle.dump_lines.specs.Live.{IsOfEdits, live_in}
-use Rattle.edge_io.specs.declared.outside.InUse.{InUse}
-use Rattle.edge_io.specs.declared.outside.InUse.TheVariants.{Nothing}
 use Rattle.edge_io.specs.declared.outside.Shelf as shelf
 use Rattle.switch_input.specs.declared.refusals.refusal.InputRefusal.{InputRefusal}
 use Rattle.switch_input.specs.declared.refusals.refusal.InputRefusal.TheVariants as input
 use Rattle.switch_input.specs.Refused as reading
 use Rattle.switch_input.specs.Refused.{fault_view}
 use Rattle.switch_input.specs.Reading.{Read, ReadsWhere}
-use Rattle.switch_input.proofs.refusals.Reading.{closed_by as input_closed, reads_still as input_still}
+use Rattle.switch_input.proofs.refusals.Reading.{reads_still as input_still}
 use Rattle.spec_trace.specs.Words.{Command, command_of}
 use Rattle.spec_trace.specs.Verdict.{Input, NoPort as NoPortOf, match_in, key_of, accepted, case_of, verdict_of, verdict, command_in, opened_for, files_opened, Usage as UsageOf}
 use Rattle.trace_app.specs.declared.refusal.Refusal.{Refusal}
 use Rattle.trace_app.specs.declared.refusal.Refusal.TheVariants.{Usage, Reading, NoPort, Printing}
 use Rattle.trace_app.specs.Known.{IsKnown}
-use Rattle.trace_app.specs.Refused.{Explains, TellsUsage, TakesWords, TellsNoFault, IsClosed, stop_of, ending_of}
+use Rattle.trace_app.specs.Refused.{Explains, TellsUsage, TakesWords, TellsNoFault, stop_of, ending_of}
 
 -- ---- after the edits
 
@@ -81,13 +78,6 @@ module _ (knows : Type 0) {S : Type 0} (g : shelf.Ghosts S) (old new : S) (names
   pub reads_ending : {A : Type 0} (result : Result A Refusal) → IfErr result TellsNoFault → ReadsWhere knows g old new names (ending_of result)
   reads_ending (Ok a) never = read
   reads_ending (Err r) never = reads_still r never
-
-pub closed_by : {A : Type 0} (now : InUse) → now ≡ Nothing → (result : Result A Refusal) → IfErr result (IsClosed now)
-closed_by now none (Ok a) = tt
-closed_by now none (Err Usage) = none
-closed_by now none (Err (Reading r)) = input_closed {T = Unit {0}} now none (Err r)
-closed_by now none (Err (NoPort port)) = none
-closed_by now none (Err (Printing f)) = none
 
 -- ---- the tables
 

@@ -11,7 +11,7 @@ use Rattle.spec_trace.specs.Outputs.{IsCut}
 use Rattle.trace_app.specs.Known.{IsKnown}
 use Rattle.trace_app.specs.declared.refusal.Refusal.{Refusal}
 use Rattle.trace_app.specs.declared.refusal.Refusal.TheVariants.{Usage, Reading, NoPort, Printing}
-use Rattle.trace_app.specs.Refused.{Explains, TellsUsage, IsClosed, stop_of}
+use Rattle.trace_app.specs.Refused.{Explains, TellsUsage, stop_of}
 
 module _ {S K : Type 0} (g : shelf.Ghosts S) (h : sink.Ghosts K) (words : List (List ℕ)) (old new : S) (said saying : K) where
   -- The files of the words were read.
@@ -23,7 +23,7 @@ module _ {S K : Type 0} (g : shelf.Ghosts S) (h : sink.Ghosts K) (words : List (
     pub verdict : IsKnown g.tells words → Explains (verdict words (g.told old).holds) r
     pub usage : TellsUsage r → command_in words ≡ Err UsageOf
     pub reads : HasRead (stop_of r)
-    pub closed : IsClosed (g.in_use new) r
+    pub no_file : g.in_use new ≡ Nothing
     pub unsaid : saying ≡ said
 
   -- The trace was not printed whole.

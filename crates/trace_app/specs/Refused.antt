@@ -2,8 +2,6 @@
 use Rattle.std.specs.Prelude.{◌≡◌, ℕ, List, [], Result, Ok, Err}
 use Rattle.spec_run.specs.Statuses.{usage_status, write_fault_status, out_of_memory_status, out_of_memory_text}
 use Rattle.edge_io.specs.declared.outside.Failed.TheVariants as failed
-use Rattle.edge_io.specs.declared.outside.InUse.{InUse}
-use Rattle.edge_io.specs.declared.outside.InUse.TheVariants.{Nothing}
 use Rattle.switch_input.specs.declared.refusals.refusal.InputRefusal.{InputRefusal}
 use Rattle.switch_input.specs.Reading.{Ending, Read}
 use Rattle.switch_input.specs.Refused as reading
@@ -70,13 +68,6 @@ TellsNoFault Usage = Unit {0}
 TellsNoFault (Reading r) = reading.TellsNoFault r
 TellsNoFault (NoPort port) = Unit {0}
 TellsNoFault (Printing f) = Unit {0}
-
--- No file is in use, but where a quantity is above its limit: a file that is too long is open still.
-abbrev pub IsClosed : InUse → Refusal → Type 0
-IsClosed now Usage = now ≡ Nothing
-IsClosed now (Reading r) = reading.IsClosed now r
-IsClosed now (NoPort port) = now ≡ Nothing
-IsClosed now (Printing f) = now ≡ Nothing
 
 -- how reading ended at a refusal, and with an answer
 abbrev pub stop_of : Refusal → Ending

@@ -1,5 +1,5 @@
 //! What is traced: the words, the file of edits and the flow, read up to the first that is refused.
-ghost use Rattle.std.specs.Prelude.{◌≡◌, ◌≤◌, length, Ok, Err, IsTrue, OnOk, IfOk, IfErr};
+ghost use Rattle.std.specs.Prelude.{◌≡◌, ◌≤◌, length, Ok, Err, IsTrue, IfOk, IfErr};
 ghost use Rattle.std.specs.List.{list_all};
 ghost use Rattle.edge_io.specs.declared.outside.InUse.TheVariants.{Nothing};
 ghost use Rattle.spec_tables.specs.Bundles.{AreBundles};
@@ -16,7 +16,7 @@ ghost use Rattle.trace_app.specs.Known.{IsKnown};
 ghost use Rattle.trace_app.specs.Commands.{command_view};
 ghost use Rattle.trace_app.specs.InputViews.{accepted_view, IsTraceable};
 ghost use Rattle.switch_input.specs.Reading.{ReadsFiles, ReadsWhere};
-ghost use Rattle.trace_app.specs.Refused.{Explains, TellsUsage, TakesWords, IsUntold, TellsNoFault, IsClosed, ending_of};
+ghost use Rattle.trace_app.specs.Refused.{Explains, TellsUsage, TakesWords, IsUntold, TellsNoFault, ending_of};
 
 use crate::flow::{key_of, read_flow};
 use crate::refusal::Refusal;
@@ -105,8 +105,7 @@ fn read_sources<'a, S: Shelf>(
     command: Command<'a>,
 ) -> Result<Inputs, Refusal<'a>>
     requires { S.in_use shelf.old ≡ Nothing }
-    ensures in_use { OnOk result (S.in_use shelf.new ≡ Nothing) }
-    ensures closed { IfErr result (IsClosed (S.in_use shelf.new)) }
+    ensures in_use { S.in_use shelf.new ≡ Nothing }
     ensures reads { let names = opened_for (command_view command.entry) in
         ReadsFiles S.Shelf shelf.old shelf.new names (ending_of result) }
     ensures ok { IsTrue S.tells → IfOk result (λ inputs.
@@ -128,8 +127,7 @@ pub fn read_inputs<'a, S: Shelf>(
     shelf: &mut S,
 ) -> Result<Inputs, Refusal<'a>>
     requires { S.in_use shelf.old ≡ Nothing }
-    ensures in_use { OnOk result (S.in_use shelf.new ≡ Nothing) }
-    ensures closed { IfErr result (IsClosed (S.in_use shelf.new)) }
+    ensures in_use { S.in_use shelf.new ≡ Nothing }
     ensures reads { let knows = IsKnown S.tells (texts words.now) in
         ReadsWhere knows S.Shelf shelf.old shelf.new (files_opened (texts words.now)) (ending_of result) }
     ensures ok { let given = verdict (texts words.now) (S.told shelf.old).holds in

@@ -20,7 +20,7 @@
 //!   a prefix. Nothing is printed after a fault in printing the trace.
 //! - What is accepted and meets no fault is traced, unless memory runs out. Words that are refused end with their status,
 //!   and others never do, with every shelf.
-//! - No file is left in use, but one that is too long.
+//! - No file is left in use.
 //!
 //! # How
 //!

@@ -1,20 +1,17 @@
 -- Reading, stage after stage: what it does to a shelf in all.
-use Rattle.std.proofs.Common.{◌≡◌, ℕ, List, [], ◌∷◌, ◌++◌, refl, sym, ap, ◌∙◌, subst, append_assoc, arith}
+use Rattle.std.proofs.Common.{◌≡◌, ℕ, List, [], ◌∷◌, ◌++◌, refl, sym, ap, ◌∙◌, subst, append_assoc}
 use Rattle.std.specs.Prelude.{Result, Ok, Err, IfErr}
 use Rattle.std.proofs.lemmas.List.{append-nil}
-use Rattle.edge_io.specs.declared.outside.InUse.{InUse}
-use Rattle.edge_io.specs.declared.outside.InUse.TheVariants.{Nothing}
 use Rattle.edge_io.specs.declared.outside.Shelf as shelf
 use Rattle.edge_io.specs.Counts.{Counts}
 use Rattle.edge_io.specs.Shelf.{Told}
 use Rattle.edge_io.specs.Opened.{HasOpened, HasOpenedPrefix}
 use Rattle.edge_io.specs.ReadAll.{OnlyRead}
 use Rattle.switch_input.specs.declared.refusals.refusal.InputFault.{InputFault}
-use Rattle.switch_input.specs.declared.refusals.refusal.InputFault.TheVariants.{Usage, Text, Trace, Limit}
 use Rattle.switch_input.specs.declared.refusals.refusal.InputRefusal.{InputRefusal}
 use Rattle.switch_input.specs.declared.refusals.refusal.InputRefusal.TheVariants.{Input, ReadFault, OutOfMemory}
 use Rattle.switch_input.specs.Reading.{Ending, Read, FailedIn, RanOut, IfFailed, HasCounted, HasOpenedUntil, ReadsWhere}
-use Rattle.switch_input.specs.Refused.{TellsNoFault, IsClosedAt, IsClosed, stop_of, ending_of}
+use Rattle.switch_input.specs.Refused.{TellsNoFault, stop_of, ending_of}
 
 -- ---- what is told
 
@@ -57,20 +54,6 @@ counted_after before mid now e same counted = subst (λ (c : Counts). HasCounted
 
 since_after : (P Q : Counts) (at_last : Counts) (e : Ending) → P ≡ Q → IfFailed e (λ _. at_last ≡ P) → IfFailed e (λ _. at_last ≡ Q)
 since_after P Q at_last e same since = subst (λ (c : Counts). IfFailed e (λ _. at_last ≡ c)) same since
-
--- ---- the file in use
-
-pub closed_at : (now : InUse) → now ≡ Nothing → (f : InputFault) → IsClosedAt now f
-closed_at now none Usage = none
-closed_at now none (Text name fault) = none
-closed_at now none (Trace name fault) = none
-closed_at now none (Limit q) = tt
-
-pub closed_by : {T : Type 0} (now : InUse) → now ≡ Nothing → (result : Result T InputRefusal) → IfErr result (IsClosed now)
-closed_by now none (Ok a) = tt
-closed_by now none (Err (Input fault)) = closed_at now none fault
-closed_by now none (Err (ReadFault name)) = none
-closed_by now none (Err OutOfMemory) = none
 
 -- ---- the shelf
 

@@ -13,7 +13,7 @@ returns-in_err-inputs-clause-err g c =
     rw (p.1, p.2) (unread_leaves g.S.Shelf g.K.Sink (texts c.args.words.now) c.args.shelf.now c.read_inputs.new.shelf c.args.say.now c.args.say.now c.in_err-inputs.field-0.0 read.unsaid (record {
       verdict = read.err;
       reads = read.reads;
-      closed = read.closed;
+      no_file = read.in_use;
       unsaid = refl;
     }))
 
@@ -25,7 +25,7 @@ returns-in_err-told-clause-err g c =
     (record {
       verdict = λ t. tt;
       reads = reads_out (IsTrue g.S.Shelf.tells) g.S.Shelf c.args.shelf.now c.read_inputs.new.shelf _ read.reads;
-      closed = read.in_use;
+      no_file = read.in_use;
       unsaid = refl;
     })
     (λ is. record {

@@ -2,7 +2,7 @@ use Rattle.std.proofs.Common.{false, Err}
 use Rattle.std.proofs.lemmas.Result.{err_from_is_err_and}
 use Rattle.command_words.specs.CommandViews.{texts, input_view, command_view}
 use Rattle.switch_input.specs.Known.{IsKnownInput, IsKnown}
-use Rattle.switch_input.proofs.refusals.Reading.{closed_by, reads_knowing}
+use Rattle.switch_input.proofs.refusals.Reading.{reads_knowing}
 use Rattle.switch_input.proofs.Verdicts.{command_explains, words_read, run_explains, accepts, names_for}
 use Rattle.switch_input.proofs.Known.{known_input, usage_explained, usage_never, command_is}
 use Rattle.switch_input.proofs.inputs.read_inputs.Goals as goal
@@ -23,11 +23,6 @@ pub returns-in_err-command-clause-usage : goal.returns-in_err-command-clause-usa
 returns-in_err-command-clause-usage g c =
     let p = err_from_is_err_and c.from_residual.result c.from_residual.ensures.1 in
     rw (p.1, p.2) (usage_explained (texts c.args.words.now) c.in_err-command.field-0.0 c.in_err-command.ensures.err)
-
-pub returns-in_err-command-clause-closed : goal.returns-in_err-command-clause-closed
-returns-in_err-command-clause-closed g c =
-    let p = err_from_is_err_and c.from_residual.result c.from_residual.ensures.1 in
-    rw (p.1, p.2) (closed_by {T = Unit {0}} (g.S.Shelf.in_use c.args.shelf.now) c.requires (Err c.in_err-command.field-0.0))
 
 -- ---- they are taken
 

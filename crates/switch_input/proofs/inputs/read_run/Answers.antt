@@ -1,5 +1,5 @@
 use Rattle.std.proofs.Common.{[]}
-use Rattle.switch_input.proofs.refusals.Reading.{closed_by, reads_none, reads_ending}
+use Rattle.switch_input.proofs.refusals.Reading.{reads_none, reads_ending}
 use Rattle.switch_input.proofs.inputs.read_run.Goals as goal
 
 pub returns-in-Files-clause-reads : goal.returns-in-Files-clause-reads
@@ -9,6 +9,3 @@ pub returns-in-Made-clause-reads : goal.returns-in-Made-clause-reads
 returns-in-Made-clause-reads g c =
     rw c.in-Made.is (reads_ending (Unit {0}) g.S.Shelf c.args.shelf.now c.args.shelf.now [] (reads_none (Unit {0}) g.S.Shelf c.args.shelf.now)
     c.read_made.result c.read_made.ensures.no_fault)
-
-pub returns-in-Made-clause-closed : goal.returns-in-Made-clause-closed
-returns-in-Made-clause-closed g c = closed_by (g.S.Shelf.in_use c.args.shelf.now) c.requires.in_use c.read_made.result

@@ -1,6 +1,6 @@
 use Rattle.std.proofs.Common.{[], ◌∷◌, IsTrue, Err, arith, inl, inr}
 use Rattle.std.proofs.lemmas.Result.{err_from_is_err_and}
-use Rattle.switch_input.proofs.refusals.Reading.{closed_by, reads_still}
+use Rattle.switch_input.proofs.refusals.Reading.{reads_still}
 use Rattle.switch_input.proofs.Stages.{trace_too_long, trace_read, trace_refused, too_long_explains, said_explains}
 use Rattle.switch_input.proofs.reading.read_trace_file.Goals as goal
 
@@ -38,7 +38,3 @@ pub returns-in-Err-clause-reads : goal.returns-in-Err-clause-reads
 returns-in-Err-clause-reads g c =
     reads_still (IsTrue g.S.Shelf.tells) g.S.Shelf c.args.shelf.now c.read_file.new.shelf (c.args.name.now ∷ []) c.in_ok-bytes.ensures.reads
     c.refused.result c.refused.ensures.no_fault
-
-pub returns-in-Err-clause-closed : goal.returns-in-Err-clause-closed
-returns-in-Err-clause-closed g c =
-    closed_by {T = Unit {0}} (g.S.Shelf.in_use c.read_file.new.shelf) c.in_ok-bytes.ensures.in_use (Err c.refused.result)

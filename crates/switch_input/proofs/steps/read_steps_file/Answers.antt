@@ -1,6 +1,6 @@
 use Rattle.std.proofs.Common.{[], ◌∷◌, IsTrue}
 use Rattle.std.proofs.lemmas.Result.{err_from_is_err_and}
-use Rattle.switch_input.proofs.refusals.Reading.{closed_by, reads_ending}
+use Rattle.switch_input.proofs.refusals.Reading.{reads_ending}
 use Rattle.switch_input.proofs.Stages.{steps_too_long, steps_of_bytes, too_long_explains}
 use Rattle.switch_input.proofs.steps.read_steps_file.Goals as goal
 
@@ -29,6 +29,3 @@ pub returns-clause-reads : goal.returns-clause-reads
 returns-clause-reads g c =
     reads_ending (IsTrue g.S.Shelf.tells) g.S.Shelf c.args.shelf.now c.read_file.new.shelf (c.args.name.now ∷ []) c.in_ok-bytes.ensures.reads
     c.steps_of.result c.steps_of.ensures.no_fault
-
-pub returns-clause-closed : goal.returns-clause-closed
-returns-clause-closed g c = closed_by (g.S.Shelf.in_use c.read_file.new.shelf) c.in_ok-bytes.ensures.in_use c.steps_of.result

@@ -6,7 +6,7 @@ use Rattle.spec_trace.specs.Verdict.{Refusal, Accepted, opened_for}
 use Rattle.trace_app.specs.Commands.{command_view}
 use Rattle.trace_app.specs.InputViews.{accepted_view}
 use Rattle.trace_app.specs.Refused.{Explains}
-use Rattle.trace_app.proofs.Stages.{of_explains, of-script, closed_by, reads_ending}
+use Rattle.trace_app.proofs.Stages.{of_explains, of-script, reads_ending}
 use Rattle.trace_app.proofs.inputs.read_sources.Goals as goal
 
 pub returns-in_err-edits-clause-err : goal.returns-in_err-edits-clause-err
@@ -35,6 +35,3 @@ pub returns-clause-reads : goal.returns-clause-reads
 returns-clause-reads g c =
     reads_ending (IsTrue g.S.Shelf.tells) g.S.Shelf c.args.shelf.now c.read_edits.new.shelf (opened_for (command_view c.args.command)) c.in_ok-edits.ensures.reads
     c.inputs_of.result c.inputs_of.ensures.no_fault
-
-pub returns-clause-closed : goal.returns-clause-closed
-returns-clause-closed g c = closed_by (g.S.Shelf.in_use c.read_edits.new.shelf) c.in_ok-edits.ensures.in_use c.inputs_of.result

@@ -13,7 +13,7 @@ returns-in_err-inputs-clause-err g c =
       verdict = read.err;
       usage = read.usage;
       reads = read.reads;
-      closed = read.closed;
+      no_file = read.in_use;
       unsaid = refl;
     }))
 
