@@ -141,19 +141,27 @@ impl Gate for HeldPort {
     }
 }
 
-/// The places of frames, below 64, whose upcalls were translated, each as a bit.
+/// Numbers below 64, each as a bit.
 #[derive(Drop)]
-struct Places(AtomicU64);
+pub struct Numbers(AtomicU64);
 
-impl Places {
-    fn new() -> Places {
-        Places(AtomicU64::new(0))
+impl Numbers {
+    pub fn new() -> Numbers {
+        Numbers(AtomicU64::new(0))
     }
 
-    fn add(&self, place: u32) {
-        if place < u64::BITS {
-            self.0.fetch_or(1 << place, Ordering::SeqCst);
+    pub fn add(&self, number: u32) {
+        if number < u64::BITS {
+            self.0.fetch_or(1 << number, Ordering::SeqCst);
         }
+    }
+
+    /// Whether they are those below a number.
+    pub fn are_below(&self, number: u32) -> bool {
+        let below = 1u64
+            .checked_shl(number)
+            .map_or(u64::MAX, |bit| bit.wrapping_sub(1));
+        self.0.load(Ordering::SeqCst) == below
     }
 
     fn count(&self) -> u32 {
@@ -166,14 +174,14 @@ impl Places {
 #[derive(Drop)]
 pub struct LateBatch {
     first: Awaited,
-    late: Places,
+    late: Numbers,
 }
 
 impl LateBatch {
     pub fn new() -> LateBatch {
         LateBatch {
             first: Awaited::new(),
-            late: Places::new(),
+            late: Numbers::new(),
         }
     }
 
@@ -203,14 +211,14 @@ impl Gate for LateBatch {
 #[derive(Drop)]
 pub struct LateUpcalls {
     last_batch: Awaited,
-    late: Places,
+    late: Numbers,
 }
 
 impl LateUpcalls {
     pub fn new() -> LateUpcalls {
         LateUpcalls {
             last_batch: Awaited::new(),
-            late: Places::new(),
+            late: Numbers::new(),
         }
     }
 

@@ -9,7 +9,8 @@
 //! - One that holds a board's lock from the translation of an upcall to its settle looks up no frame meanwhile, one
 //!   that throws the boards of threads away has one miss alone, and one that looks up all frames first has no hit
 //!   (`frames_are_looked_up_while_an_upcall_is_translated`).
-//! - One that makes more or fewer threads than it is asked for never has just so many held at once
+//! - One that makes more or fewer threads than it is asked for begins as many workers otherwise
+//!   (`each_worker_begins_once`), or never has just so many held at once
 //!   (`there_are_as_many_receive_workers_as_asked_for`, `there_are_as_many_handlers_as_asked_for`), and one that
 //!   gives ports to receive workers otherwise polls a port while its worker is held
 //!   (`a_receive_worker_polls_every_second_port_of_two`).
@@ -27,6 +28,8 @@
 //! Nothing is built on this crate.
 #![tactic(auto)]
 
+#[cfg(test)]
+mod counting;
 #[cfg(test)]
 mod gates;
 #[cfg(test)]

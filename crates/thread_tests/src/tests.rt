@@ -1,3 +1,4 @@
+use crate::counting::Begun;
 use crate::gates::{FirstChecks, ThirdBatch, TwoUpcalls};
 use crate::holding::{Handlers, Held, HeldPort, LateBatch, LateUpcalls, Receivers, SecondBlock};
 use crate::running::{DONE, Run, Trace, run_through};
@@ -166,6 +167,17 @@ const OF_4: Run = Run {
     edits: "actions=flood",
     traces: &NEW_FLOWS,
 };
+
+#[test]
+fn each_worker_begins_once(rt: HostRuntime) -> Result<(), Fail> {
+    for (run, workers) in [(OF_1, 1), (OF_2, 2), (OF_4, 4)] {
+        let gate = Begun::new();
+        let ended = run_through(&rt, rt.alloc(), &run, &gate)?;
+        assert_eq!(rt; ended.status, DONE);
+        assert!(rt; gate.is_team_of(workers));
+    }
+    Ok(())
+}
 
 #[test]
 fn there_are_as_many_receive_workers_as_asked_for(rt: HostRuntime) -> Result<(), Fail> {

@@ -4,6 +4,7 @@ ghost use Rattle.std.specs.Prelude.{◌≡◌};
 use crate::mailbox::tell_all;
 use crate::phase::Phase;
 use crate::shared::Shared;
+use edge_io::{Gate, Point, Worker};
 use run_case::Case;
 use std::marker::PhantomData;
 use std::sync::Wait;
@@ -54,11 +55,15 @@ fn put_back<C: Case, T: RunTables<C>, P: Phase, R: Wait>(
 }
 
 /// Publishes the bundles of the block with the editor that lies in a slot, puts it back, and says that it has ended.
-pub fn edit<C: Case, T: RunTables<C>, P: Phase, R: Wait>(
+pub fn edit<C: Case, T: RunTables<C>, P: Phase, R: Wait, G: Gate>(
     rt: &R,
     shared: &Shared<'_, C, T, P>,
     slot: &mut Option<PhaseEditor<C, T, P>>,
+    gate: &G,
 ) {
+    gate.pass(Point::Begin {
+        worker: Worker::Editor,
+    });
     if let Some(PhaseEditor { editor, of }) = slot.take() {
         let editor = publish_block(rt, shared, editor);
         put_back(rt, slot, PhaseEditor { editor, of });

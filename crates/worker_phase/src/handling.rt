@@ -3,7 +3,7 @@ ghost use Rattle.std.specs.Prelude.{◌≡◌, ◌≤◌, ◌<◌, IfOk, length}
 
 use crate::phase::Phase;
 use crate::shared::{Shared, most_queued};
-use edge_io::Gate;
+use edge_io::{Gate, Point, Worker};
 use run_case::Case;
 use std::alloc::{AllocError, Global};
 use std::marker::PhantomData;
@@ -150,6 +150,10 @@ pub fn handle<C: Case, T: RunTables<C>, P: Phase, R: Wait, G: Gate>(
         mut pass,
         of,
     } = handler;
+    // Handlers have the first mailboxes, in the order of their numbers.
+    gate.pass(Point::Begin {
+        worker: Worker::Handler { number: mailbox },
+    });
     let mut done = Ok(());
     let mut taken = Vec::new(alloc);
     let mut idle = 0u32;

@@ -3,7 +3,7 @@ ghost use Rattle.std.specs.Prelude.{◌≡◌, ◌<◌};
 
 use crate::phase::Phase;
 use crate::shared::Shared;
-use edge_io::Gate;
+use edge_io::{Gate, Point, Worker};
 use pmd_board::Board;
 use run_case::Case;
 use rx_worker::{BATCH_SIZE, poll_batch};
@@ -103,6 +103,9 @@ pub fn receive<C: Case, T: RunTables<C>, P: Phase, R: Wait, G: Gate>(
     gate: &G,
 ) -> Receiver<C, P> {
     let Receiver { number, pass, of } = receiver;
+    gate.pass(Point::Begin {
+        worker: Worker::Receiver { number },
+    });
     let mut feeder = Feeder::new(rt, shared.queue, pass);
     poll_ports(rt, shared, number, &mut feeder, gate);
     shared.end_receiving();

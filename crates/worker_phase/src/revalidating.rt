@@ -3,7 +3,7 @@ ghost use Rattle.std.specs.Prelude.{◌≡◌};
 
 use crate::phase::Phase;
 use crate::shared::Shared;
-use edge_io::Gate;
+use edge_io::{Gate, Point, Worker};
 use revalidator::sweep_board;
 use run_case::Case;
 use std::alloc::{AllocError, Global};
@@ -82,6 +82,9 @@ pub fn revalidate<C: Case, T: RunTables<C>, P: Phase, R: Wait, G: Gate>(
     gate: &G,
 ) -> (Revalidator<C, T, P>, Result<(), AllocError>) {
     let Revalidator { mailbox, seer, of } = revalidator;
+    gate.pass(Point::Begin {
+        worker: Worker::Revalidator,
+    });
     let seer = told_last(rt, shared, mailbox, seer);
     let (seer, swept) = sweep_all(rt, alloc, shared, seer, gate);
     let seen = seer.version();

@@ -110,7 +110,7 @@ pub fn work<
             'receivers: for receiver in receivers {
                 receiving.push(begin(scope.spawn(move || receive(rt, shared, receiver, gate))))?;
             }
-            let editing = begin(scope.spawn(move || edit(rt, shared, slot)));
+            let editing = begin(scope.spawn(move || edit(rt, shared, slot, gate)));
             let mut handling = Vec::new(alloc);
             'handlers: for handler in handlers {
                 handling.push(begin(scope.spawn(move || handle(

@@ -80,6 +80,7 @@ impl Points {
 impl Gate for Points {
     fn pass(&self, point: Point) {
         match point {
+            Point::Begin { .. } => 0,
             Point::Batch { .. } => self.batches.fetch_add(1, Ordering::SeqCst),
             Point::Upcall { .. } => self.upcalls.fetch_add(1, Ordering::SeqCst),
             Point::Check { .. } => self.checks.fetch_add(1, Ordering::SeqCst),
