@@ -66,6 +66,10 @@ changed_to version actions visits e = record e { version = version; actions = ac
 abbrev pub paid : Entry → Entry
 paid e = record e { owed_packets = 0; owed_bytes = 0 }
 
+-- the entry of a number is there and has a property
+abbrev pub ForEntry : ℕ → List Entry → (Entry → Type 0) → Type 0
+ForEntry number entries P = (e : Entry) × (entry_of number entries ≡ Some e) × P e
+
 -- no two entries overlap
 abbrev pub AreDisjoint : List Entry → Type 0
 AreDisjoint entries = (i j : ℕ) (a b : Entry) → slice_get entries i ≡ Some a → slice_get entries j ≡ Some b → i < j

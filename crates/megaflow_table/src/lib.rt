@@ -74,8 +74,6 @@ mod overlaps;
 mod placed;
 mod ranks;
 mod subtables;
-mod visits;
 
 pub use entry::Entry;
 pub use megaflows::{Hit, Megaflows};
-pub use visits::Visits;

@@ -14,7 +14,7 @@ ghost use Rattle.board_steps.specs.StepViews.{settled_view};
 ghost use Rattle.port_caches.specs.Views.{AreCachesOf, IsHeld, actions_at, entry_view};
 ghost use Rattle.port_caches.specs.Steps.{AreRules, CanHit, HasFewTotals, IsCredited, IsFrameOf, IsHit, IsPut, IsSame, IsSettled, put_state, settle_state};
 
-use crate::entries::{displace, judged, named_by, new_entry, pay, spare_lists, visits_of};
+use crate::entries::{displace, judged, named_by, new_entry, pay};
 use crate::lists::{HeldList, WrittenList, hold, list_for, push_list, reserve_lists};
 use crate::stats::Totals;
 use board_steps::{EntryNumbers, Settled};
@@ -274,21 +274,21 @@ impl PortCaches {
                 Revalidated { done, lists }
             }
             PutDone::Kept => {
-                let visits = visits_of(made.visits);
-                let before = self.flows.change(number, version, own, visits);
-                let lists = spare_lists(made.actions, before);
+                let before = self.flows.change(number, version, own, made.visits);
+                let lists = SpareLists::of(made.actions, before);
                 Revalidated { done, lists }
             }
             PutDone::Replaced => {
-                let visits = visits_of(made.visits);
                 let WrittenList { place, spare } = list_for(
                     self.alloc,
                     &mut self.lists,
                     own as usize,
                     made.actions,
                 );
-                let before = self.flows.change(number, version, place as u32, visits);
-                let lists = spare_lists(spare, before);
+                let before = self
+                    .flows
+                    .change(number, version, place as u32, made.visits);
+                let lists = SpareLists::of(spare, before);
                 Revalidated { done, lists }
             }
         }
@@ -360,8 +360,15 @@ impl PortCaches {
             .credit(made.visits.as_slice(), 1, u64::from(length));
         let list = push_list(&mut self.lists, made.actions, true);
         self.made += 1;
-        let visits = visits_of(made.visits);
-        let entry = new_entry(self.made, key, mask, version, list as u32, visits, time);
+        let entry = new_entry(
+            self.made,
+            key,
+            mask,
+            version,
+            list as u32,
+            made.visits,
+            time,
+        );
         displace(
             &mut self.flows,
             &mut self.totals,

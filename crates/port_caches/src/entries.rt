@@ -16,27 +16,14 @@ ghost use Rattle.port_caches.specs.Steps.{AreRules};
 ghost use Rattle.port_caches.specs.declared.lists.HeldList.{HeldList};
 
 use crate::stats::Totals;
-use dp_actions::ActionList;
-use megaflow_table::{Entry, Megaflows, Visits};
+use megaflow_table::{Entry, Megaflows};
 use ovs_fields::{Key, Mask, covers};
-use pipe_model::{Plain, SpareLists};
+use pipe_model::{Plain, Visits};
 use spec_actions::DpAction;
 use spec_board::PutDone;
 
 /// How long an entry may stand unused before a sweep drops it, in nanoseconds: ten seconds (max-idle of Open vSwitch).
 const IDLE_TIME: u64 = 10_000_000_000;
-
-/// Visits as entries keep them. It takes no memory.
-pub(crate) fn visits_of(visits: pipe_model::Visits) -> Visits
-    ensures { result ≡ visits }
-{
-    Visits::new(visits.into_vec())
-}
-
-/// The memory of actions and visits that nothing names any more.
-pub(crate) fn spare_lists(actions: ActionList, visits: Visits) -> SpareLists {
-    SpareLists::of(actions, pipe_model::Visits::new(visits.into_vec()))
-}
 
 /// An entry that decided no packet yet. Its actions are a place among lists.
 pub(crate) fn new_entry(

@@ -106,12 +106,11 @@ invariant_of-self-in-Kept c =
     let there = viewed_some b.lists.items c.args.number b.flows.entries (subst (λ (v : Caches). IsSome (entry_of c.args.number v.entries)) (sym c.self.view_is) c.requires.live) in
     let paid = paid_there b c.self.invariant c.args.number there.0 there.1 c.pay.new.flows.entries c.pay.ensures.entries in
     let own = (c.named_by-own.ensures (flow.paid there.0) paid).1 in
-    let visits : AreRules (length c.pay.new.totals) c.visits_of-visits.result =
-    subst (λ (vs : List ℕ). AreRules (length c.pay.new.totals) vs) (sym (c.visits_of-visits.ensures))
-    (subst (λ (n : ℕ). AreRules n c.args.made.visits) (ap (λ (v : Caches). v.rules) (sym c.self.view_is) ∙ sym c.pay.ensures.rules) c.requires.rules) in
+    let visits : AreRules (length c.pay.new.totals) c.args.made.visits =
+    subst (λ (n : ℕ). AreRules n c.args.made.visits) (ap (λ (v : Caches). v.rules) (sym c.self.view_is) ∙ sym c.pay.ensures.rules) c.requires.rules in
     record {
       entries = subst (AreKept (length b.lists.items) b.made (length c.pay.new.totals)) (sym c.change-before.ensures.entries)
-          (changed_kept b c.self.invariant c.args.number there.0 there.1 c.pay.new.flows.entries c.pay.ensures.entries (length b.lists.items) c.named_by-own.result.1 c.args.version c.visits_of-visits.result
+          (changed_kept b c.self.invariant c.args.number there.0 there.1 c.pay.new.flows.entries c.pay.ensures.entries (length b.lists.items) c.named_by-own.result.1 c.args.version c.args.made.visits
           (length c.pay.new.totals) c.pay.ensures.rules (omega arith)
           (subst (λ (n : ℕ). n < length b.lists.items) (sym own) (kept_found (length b.lists.items) b.made (length b.totals) b.flows.entries c.args.number there.0 c.self.invariant.entries there.1).list)
           (inl own) visits);
@@ -134,9 +133,9 @@ returns-in-Kept c =
     λ s e of is result.
     subst (λ (r : PutDone). AreCachesOf after (effects.with_put r c.args.number c.args.version t (effects.put_by c.args.number c.args.version s))) (sym c.in-Kept.is)
     (changed_effect b c.self.invariant c.args.number there.0 there.1 c.pay.new.flows.entries c.pay.ensures.entries after refl refl c.pay.ensures.totals
-    b.lists.items c.named_by-own.result.1 c.args.version c.visits_of-visits.result t (length c.pay.new.totals) c.pay.ensures.rules (ap (map (entry_view b.lists.items)) c.change-before.ensures.entries)
+    b.lists.items c.named_by-own.result.1 c.args.version c.args.made.visits t (length c.pay.new.totals) c.pay.ensures.rules (ap (map (entry_view b.lists.items)) c.change-before.ensures.entries)
     (ap (actions_at b.lists.items) own ∙ kept_own b c.self.invariant c.args.number there.0 there.1 e is t mask s (result ∙ c.in-Kept.is))
-    (c.visits_of-visits.ensures) (λ n within other. refl) s of) in
+    refl (λ n within other. refl) s of) in
     subst (λ (v : Caches). IsPut c.args.number mask c.args.version t c.args.clock v c.judge-done.result after) c.self.view_is
     (put_is c.args.number mask c.args.version t c.args.clock (caches_in b) c.judge-done.result after
     (record { limit = c.change-before.ensures.limit ∙ c.pay.ensures.limit; rules = c.pay.ensures.rules; held = λ n actions is. is }) (omega arith) judged effect)
@@ -148,13 +147,12 @@ invariant_of-self-in-Replaced c =
     let paid = paid_there b c.self.invariant c.args.number there.0 there.1 c.pay.new.flows.entries c.pay.ensures.entries in
     let own = (c.named_by-own.ensures (flow.paid there.0) paid).1 in
     let list = c.list_for-place.ensures.list in
-    let visits : AreRules (length c.pay.new.totals) c.visits_of-visits-in-Replaced.result =
-    subst (λ (vs : List ℕ). AreRules (length c.pay.new.totals) vs) (sym (c.visits_of-visits-in-Replaced.ensures))
-    (subst (λ (n : ℕ). AreRules n c.args.made.visits) (ap (λ (v : Caches). v.rules) (sym c.self.view_is) ∙ sym c.pay.ensures.rules) c.requires.rules) in
+    let visits : AreRules (length c.pay.new.totals) c.args.made.visits =
+    subst (λ (n : ℕ). AreRules n c.args.made.visits) (ap (λ (v : Caches). v.rules) (sym c.self.view_is) ∙ sym c.pay.ensures.rules) c.requires.rules in
     record {
       entries = subst (AreKept (length c.list_for-place.new.lists.items) b.made (length c.pay.new.totals)) (sym c.change-before-in-Replaced.ensures.entries)
           (changed_kept b c.self.invariant c.args.number there.0 there.1 c.pay.new.flows.entries c.pay.ensures.entries (length c.list_for-place.new.lists.items) c.list_for-place.result.place c.args.version
-          c.visits_of-visits-in-Replaced.result (length c.pay.new.totals) c.pay.ensures.rules list.longer list.within
+          c.args.made.visits (length c.pay.new.totals) c.pay.ensures.rules list.longer list.within
           (subst (λ (n : ℕ). (c.list_for-place.result.place ≡ n) ⊎ (c.list_for-place.result.place ≡ length b.lists.items)) own list.own_or_new) visits);
       few = c.list_for-place.ensures.few c.self.invariant.few;
     }
@@ -176,9 +174,9 @@ returns-in-Replaced c =
     λ s of.
     subst (λ (r : PutDone). AreCachesOf after (effects.with_put r c.args.number c.args.version t (effects.put_by c.args.number c.args.version s))) (sym c.in-Replaced.is)
     (changed_effect b c.self.invariant c.args.number there.0 there.1 c.pay.new.flows.entries c.pay.ensures.entries after refl refl c.pay.ensures.totals
-    lists c.list_for-place.result.place c.args.version c.visits_of-visits-in-Replaced.result t (length c.pay.new.totals) c.pay.ensures.rules (ap (map (entry_view lists)) c.change-before-in-Replaced.ensures.entries)
+    lists c.list_for-place.result.place c.args.version c.args.made.visits t (length c.pay.new.totals) c.pay.ensures.rules (ap (map (entry_view lists)) c.change-before-in-Replaced.ensures.entries)
     (ap (λ (o : Option HeldList). option_map_or (λ (l : HeldList). l.actions) o []) list.there)
-    (c.visits_of-visits-in-Replaced.ensures)
+    refl
     (λ n within other. list.others n within (λ same. other (same ∙ own))) s of) in
     subst (λ (v : Caches). IsPut c.args.number mask c.args.version t c.args.clock v c.judge-done.result after) c.self.view_is
     (put_is c.args.number mask c.args.version t c.args.clock (caches_in b) c.judge-done.result after

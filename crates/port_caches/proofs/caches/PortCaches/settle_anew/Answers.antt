@@ -137,7 +137,7 @@ invariant_of-self-2 c =
       mask = c.args.mask.now;
       version = c.args.version;
       actions = c.push_list-list.result;
-      visits = c.visits_of-visits.result;
+      visits = c.args.made.visits;
       packets = 0;
       bytes = 0;
       owed_packets = 0;
@@ -148,10 +148,8 @@ invariant_of-self-2 c =
     c.displace.ensures.entries ∙ ap (λ (x : Entry). entries_after c.as_slice-2.result.now c.reserve.new.self.entries ++ x ∷ []) c.new_entry-entry.ensures
     ∙ ap (λ (es : List Entry). es ++ entry ∷ []) (anew.entries_left b kept key mask c.as_slice-2.result.now ns_is c.reserve.new.self.entries es_is) in
     let rules_is = c.displace.ensures.rules ∙ c.credit.ensures.rules in
-    let visits_are = c.visits_of-visits.ensures in
     let visits : AreRules (length c.displace.new.totals) entry.visits =
-    subst (λ (vs : List ℕ). AreRules (length c.displace.new.totals) vs) (sym visits_are)
-    (subst (λ (n : ℕ). AreRules n c.args.made.visits) (ap (λ (v : Caches). v.rules) (sym c.self.view_is) ∙ sym rules_is) c.requires.rules) in
+    subst (λ (n : ℕ). AreRules n c.args.made.visits) (ap (λ (v : Caches). v.rules) (sym c.self.view_is) ∙ sym rules_is) c.requires.rules in
     let room : 1 ≤ room_in b.lists = subst (λ (v : Caches). 1 ≤ v.room) (sym c.self.view_is) c.requires.room in
     record {
       entries = anew.anew_kept b kept key mask entry c.displace.new.flows.entries flows_are c.push_list-list.new.lists.items c.args.made.actions c.push_list-list.ensures.items
@@ -180,7 +178,7 @@ returns-clause-settled c =
       mask = c.args.mask.now;
       version = c.args.version;
       actions = c.push_list-list.result;
-      visits = c.visits_of-visits.result;
+      visits = c.args.made.visits;
       packets = 0;
       bytes = 0;
       owed_packets = 0;
@@ -191,10 +189,8 @@ returns-clause-settled c =
     c.displace.ensures.entries ∙ ap (λ (x : Entry). entries_after c.as_slice-2.result.now c.reserve.new.self.entries ++ x ∷ []) c.new_entry-entry.ensures
     ∙ ap (λ (es : List Entry). es ++ entry ∷ []) (anew.entries_left b kept key mask c.as_slice-2.result.now ns_is c.reserve.new.self.entries es_is) in
     let rules_is = c.displace.ensures.rules ∙ c.credit.ensures.rules in
-    let visits_are = c.visits_of-visits.ensures in
     let visits : AreRules (length c.displace.new.totals) entry.visits =
-    subst (λ (vs : List ℕ). AreRules (length c.displace.new.totals) vs) (sym visits_are)
-    (subst (λ (n : ℕ). AreRules n c.args.made.visits) (ap (λ (v : Caches). v.rules) (sym c.self.view_is) ∙ sym rules_is) c.requires.rules) in
+    subst (λ (n : ℕ). AreRules n c.args.made.visits) (ap (λ (v : Caches). v.rules) (sym c.self.view_is) ∙ sym rules_is) c.requires.rules in
     let first = once key mask c.args.version t c.args.length c.args.time (caches_in b) in
     let alike : (r : ℕ) → total_of c.credit.new.self r ≡ first r =
     λ r. c.credit.ensures.credited r ∙ ap₂ (λ (visits : List ℕ) (n : ℕ). credited visits 1 n (total_of b.totals) r) c.as_slice.ensures c.from.ensures in
@@ -209,7 +205,7 @@ returns-clause-settled c =
       mask = mask;
       version = c.args.version;
       actions = actions_are i;
-      visits = visits_are i;
+      visits = c.args.made.visits;
       packets = 0;
       bytes = 0;
       owed_packets = 0;
