@@ -21,7 +21,7 @@ pub mod PortBack
 pub mod LayoutKept
 pub mod BytesKept
 pub mod EachField
-pub mod Sending
+pub mod SentLists
 pub mod Shown
 pub mod Uncovered
 pub mod ThirdTag

@@ -12,7 +12,7 @@ use Rattle.spec_exec.specs.Sent.{Piece, sent}
 use Rattle.exec_laws.specs.ReadBack.{shows}
 use Rattle.exec_laws.specs.Sends.{after_actions}
 use Rattle.exec_laws.specs.Become.{is_of_tags, is_register, without_registers, CanBecome, KeyedOutput, outputs_of}
-use Rattle.exec_laws.proofs.Sending.{sent-before}
+use Rattle.exec_laws.proofs.SentLists.{sent-before}
 use Rattle.exec_laws.proofs.OnTheWay.{OnTheWay}
 use Rattle.exec_laws.proofs.CommitSteps.{map-at, commit-bytes, commit-whole, commit-shows, commit-single}
 use Rattle.exec_laws.proofs.Turned.{key-becomes, commit-registers, commit-silent}

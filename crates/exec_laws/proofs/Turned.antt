@@ -24,7 +24,7 @@ use Rattle.frame_laws.proofs.keys.KeyLaws.{key_of-IsClean}
 use Rattle.exec_laws.specs.ReadBack.{shows}
 use Rattle.exec_laws.specs.Sends.{after_actions}
 use Rattle.exec_laws.specs.Become.{is_of_tags, turned, CanTurn, is_register, without_registers, CanBecome}
-use Rattle.exec_laws.proofs.Sending.{AreSilent, sent-before}
+use Rattle.exec_laws.proofs.SentLists.{AreSilent, sent-before}
 use Rattle.exec_laws.proofs.CommitSteps.{no-change, map-at, base-is, base-tags, commit-leads}
 use Rattle.exec_laws.proofs.Tags.{are_proper, shown-proper}
 

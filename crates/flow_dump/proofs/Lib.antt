@@ -1,6 +1,6 @@
 pub mod Lines
 pub mod Counted
 pub mod Sending
-pub mod Sums
+pub mod JournalSums
 pub mod Numbered
 pub mod RuleTexts

@@ -24,7 +24,7 @@ use Rattle.exec_laws.proofs.Fields.{outer_of, inner_of, network-says}
 use Rattle.exec_laws.proofs.Tags.{are_proper, shown-proper}
 use Rattle.exec_laws.proofs.sending.TagTypes.{IsTyped, to-HasTagTypes, shown-outer, shown-inner, third-full}
 use Rattle.exec_laws.proofs.EachField.{short-stays}
-use Rattle.exec_laws.proofs.Sending.{sent-before}
+use Rattle.exec_laws.proofs.SentLists.{sent-before}
 use Rattle.exec_laws.proofs.OnTheWay.{OnTheWay}
 use Rattle.exec_laws.proofs.CommitSteps.{map-at}
 use Rattle.exec_laws.proofs.Turned.{map-same, key-turned, key-becomes, commit-same, commit-silent}

@@ -1,4 +1,4 @@
-use Rattle.exec_laws.proofs.Sending.{sent-silent, sent-before, sent-outputs}
+use Rattle.exec_laws.proofs.SentLists.{sent-silent, sent-before, sent-outputs}
 use Rattle.exec_laws.proofs.sends.outputs_alone_send.Goals as goal
 
 pub returns-clause-nothing : goal.returns-clause-nothing

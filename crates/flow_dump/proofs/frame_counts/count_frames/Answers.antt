@@ -3,7 +3,7 @@ use Rattle.spec_case.specs.Run.{Run}
 use Rattle.spec_board.specs.Texts.{Journal}
 use Rattle.spec_dumps.specs.Summary.{pieces_of}
 use Rattle.pmd_board.specs.BoardView.{journal_view}
-use Rattle.flow_dump.proofs.Sums.{places-more, dropped-yes, dropped-no}
+use Rattle.flow_dump.proofs.JournalSums.{places-more, dropped-yes, dropped-no}
 use Rattle.flow_dump.proofs.frame_counts.count_frames.Goals as goal
 use Rattle.flow_dump.proofs.frame_counts.count_frames.Goals.{then-times-eq0, else-times-eq0}
 

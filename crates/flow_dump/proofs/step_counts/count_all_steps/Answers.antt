@@ -3,7 +3,7 @@ use Rattle.std.proofs.lemmas.List.{take_all}
 use Rattle.pmd_board.specs.BoardView.{journal_view, journals_view}
 use Rattle.flow_dump.specs.StepCounts.{counts_of, counts_of_all, plus}
 use Rattle.flow_dump.proofs.Counted.{few_more}
-use Rattle.flow_dump.proofs.Sums.{counts-more}
+use Rattle.flow_dump.proofs.JournalSums.{counts-more}
 use Rattle.flow_dump.proofs.step_counts.count_all_steps.Goals as goal
 
 pub boards-preserved : goal.boards-preserved

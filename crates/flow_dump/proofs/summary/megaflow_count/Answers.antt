@@ -6,7 +6,7 @@ use Rattle.spec_dumps.specs.Rules.{end_of}
 use Rattle.spec_dumps.specs.Summary.{megaflow_count}
 use Rattle.port_caches.specs.Views.{entry_view}
 use Rattle.pmd_board.specs.BoardView.{journal_view, journals_view}
-use Rattle.flow_dump.proofs.Sums.{sum-more}
+use Rattle.flow_dump.proofs.JournalSums.{sum-more}
 use Rattle.flow_dump.proofs.summary.megaflow_count.Goals as goal
 
 pub boards-preserved : goal.boards-preserved
