@@ -22,5 +22,5 @@
 mod upcall;
 mod upcalls;
 
-pub use upcalls::Upcalls;
 pub use upcall::Upcall;
+pub use upcalls::Upcalls;
