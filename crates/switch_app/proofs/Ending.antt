@@ -18,6 +18,7 @@ use Rattle.switch_input.specs.Known.{IsKnownCommand, IsKnown}
 use Rattle.switch_input.specs.declared.refusals.refusal.InputFault.{InputFault}
 use Rattle.switch_input.specs.declared.refusals.refusal.InputFault.TheVariants as fault
 use Rattle.switch_input.specs.declared.refusals.refusal.InputRefusal.TheVariants as input
+use Rattle.switch_input.specs.Pieces.{FailsAtMostOnce}
 use Rattle.switch_input.specs.Refused.{fault_view}
 use Rattle.switch_output.specs.declared.refusal.WriteRefusal.TheVariants.{WriteFault, OutOfMemory}
 use Rattle.switch_output.specs.declared.refusal.OutputRefusal.TheVariants.{Files, Summary}
@@ -40,7 +41,6 @@ only_words (fault.Text name why) is = cc is
 only_words (fault.Trace name why) is = cc is
 only_words (fault.Limit q) is = cc is
 
--- no file is in use where it is no limit that is told
 all_is_prefix : (before now : Told) (names : List (List ℕ)) → HasOpened before now names → HasOpenedPrefix before now names
 all_is_prefix before now names opened = record { opened = names; left = []; are_names = sym (append-nil names); has_opened = opened }
 
@@ -52,55 +52,64 @@ module _ {S K : Type 0} (g : shelf.Ghosts S) (h : sink.Ghosts K) (words : List (
   printed : (text : List ℕ) → mid ≡ said → (IsTrue h.tells → Printed mid text) → IsTrue h.tells → Printed said text
   printed text same is k = subst (λ (s : K). Printed s text) same (is k)
 
+  failed_once : mid ≡ said → FailsAtMostOnce (h.faults mid) (h.faults saying) → FailsAtMostOnce (h.faults said) (h.faults saying)
+  failed_once same once = subst (λ (s : K). FailsAtMostOnce (h.faults s) (h.faults saying)) same once
+
   pub ended : (r : Refusal) → Leaves g h words old new said mid r → (IsTrue h.tells → Prints h.needs_memory (h.faults mid) (h.faults saying) (h.written mid) (h.written saying) (text_of r))
-      → (IsSilent r → saying ≡ mid) → Ends g h words old new said saying (status_of r)
-  ended (Reading (input.Input f)) left is silent = TurnedDown (is_turned_down f) (record {
+      → FailsAtMostOnce (h.faults mid) (h.faults saying) → (IsSilent r → saying ≡ mid) → Ends g h words old new said saying (status_of r)
+  ended (Reading (input.Input f)) left is once silent = TurnedDown (is_turned_down f) (record {
     verdict = λ t. record { refusal = fault_view f; is_verdict = left.verdict t; is_status = refl };
     usage = λ is. left.usage (only_words f is);
     opened = left.reads.opened;
     unwritten = left.reads.only_read;
     no_file = left.no_file;
     counts = left.reads.counts;
+    faults = failed_once left.unsaid once;
     printed = λ t k. record { refusal = fault_view f; is_verdict = left.verdict t; printed = printed (text_of (Reading (input.Input f))) left.unsaid is k };
   })
-  ended (Reading (input.ReadFault name)) left is silent = ReadingFailed refl (record {
+  ended (Reading (input.ReadFault name)) left is once silent = ReadingFailed refl (record {
     counts = left.reads.counts;
     since = left.reads.since;
     opened = λ t. subst (λ n. HasOpenedUpTo (g.told old) (g.told new) (files_opened words (g.told old).holds) n) (sym (left.reads.named t)) (left.reads.opened t);
     unwritten = left.reads.only_read;
     no_file = left.no_file;
+    faults = failed_once left.unsaid once;
     printed = λ t k. subst (λ n. Printed said (read_fault_text n)) (sym (left.reads.named t)) (printed (read_fault_text name.now) left.unsaid is k);
   })
-  ended (Reading input.OutOfMemory) left is silent = RunOut refl (record {
+  ended (Reading input.OutOfMemory) left is once silent = RunOut refl (record {
     counts = left.reads.counts;
     opened = left.reads.opened;
     run = λ t. inl (left.reads.only_read t);
+    faults = failed_once left.unsaid once;
     printed = printed (text_of (Reading input.OutOfMemory)) left.unsaid is;
   })
-  ended (Output (Files (WriteFault name))) left is silent = FileFailed refl (record {
+  ended (Output (Files (WriteFault name))) left is once silent = FileFailed refl (record {
     counts = left.cause;
     since = left.since;
     opened = left.opened;
     run = λ t. (left.run t).0;
+    faults = failed_once left.unsaid once;
     printed = λ t k. subst (λ n. Printed said (write_fault_text n)) (sym ((left.run t).1)) (printed (write_fault_text (string_bytes name)) left.unsaid is k);
   })
-  ended (Output (Files OutOfMemory)) left is silent = RunOut refl (record {
+  ended (Output (Files OutOfMemory)) left is once silent = RunOut refl (record {
     counts = left.cause;
     opened = λ t. all_is_prefix _ _ _ (left.opened t);
     run = left.run;
+    faults = failed_once left.unsaid once;
     printed = printed (text_of (Output (Files OutOfMemory))) left.unsaid is;
   })
-  ended (Output (Summary failed.Fault)) left is silent = SummaryFailed refl (record {
+  ended (Output (Summary failed.Fault)) left is once silent = SummaryFailed refl (record {
     counts = left.counts;
     faults = subst (λ (s : K). h.faults s ≡ with_fault (h.faults said)) (sym (silent refl)) (left.cause.fault refl);
     opened = left.opened;
     no_file = left.no_file;
     run = λ t. subst (λ (s : K). IsCutSummary words (g.told old).holds (g.told old).done (g.told new).done h.tells (h.written said) (h.written s)) (sym (silent refl)) (left.run t);
   })
-  ended (Output (Summary failed.OutOfMemory)) left is silent = RunOutLate refl (record {
+  ended (Output (Summary failed.OutOfMemory)) left is once silent = RunOutLate refl (record {
     counts = left.counts;
     opened = left.opened;
     no_file = left.no_file;
+    faults = subst (λ n. FailsAtMostOnce n (h.faults saying)) (left.cause.no_memory refl) once;
     run = λ t. record {
       broken = h.written mid;
       run = left.run t;

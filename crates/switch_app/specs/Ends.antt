@@ -1,5 +1,5 @@
 -- How a call of the switch ends: with which status, what is written and printed then, and which calls of the outside failed.
-use Rattle.std.specs.Prelude.{◌≡◌, ◌≢◌, ℕ, ◌⊎◌, List, IsTrue, Err}
+use Rattle.std.specs.Prelude.{◌≡◌, ℕ, ◌⊎◌, List, IsTrue, Err}
 use Rattle.spec_run.specs.Verdict.{Files, Usage, command_in, files_opened}
 use Rattle.spec_run.specs.Outputs.{IsDone}
 use Rattle.spec_run.specs.CutShort.{IsCutRun, IsPartOfRun, IsCutSummary}
@@ -11,6 +11,7 @@ use Rattle.edge_io.specs.Counts.{ReadFailed, with_fault, with_write_fault}
 use Rattle.edge_io.specs.Opened.{HasOpened, HasOpenedPrefix, HasOpenedUpTo}
 use Rattle.edge_io.specs.ReadAll.{OnlyRead}
 use Rattle.edge_io.specs.Written.{written}
+use Rattle.switch_input.specs.Pieces.{FailsAtMostOnce}
 use Rattle.switch_input.specs.Known.{IsKnown}
 
 -- The call is made with these words, and with a shelf and a sink that are as here before it, and as here after it.
@@ -55,6 +56,7 @@ module _ {S K : Type 0} (g : shelf.Ghosts S) (h : sink.Ghosts K) (words : List (
     pub unwritten : WritesNothing
     pub no_file : g.in_use new ≡ Nothing
     pub counts : g.counts new ≡ g.counts old
+    pub faults : FailsAtMostOnce (h.faults said) (h.faults saying)
     pub printed : Knows → IsTrue h.tells
         → PrintsRefusal words held h.needs_memory (h.faults said) (h.faults saying) (h.written said) (h.written saying)
 
@@ -66,6 +68,7 @@ module _ {S K : Type 0} (g : shelf.Ghosts S) (h : sink.Ghosts K) (words : List (
     pub opened : Knows → HasOpenedUpTo (g.told old) (g.told new) (files_opened words held) (g.told new).last
     pub unwritten : WritesNothing
     pub no_file : g.in_use new ≡ Nothing
+    pub faults : FailsAtMostOnce (h.faults said) (h.faults saying)
     pub printed : Knows → Says (read_fault_text (g.told new).last)
 
   -- One call of writing failed, after the last name was asked for: the run was accepted, the files before that name are whole,
@@ -75,6 +78,7 @@ module _ {S K : Type 0} (g : shelf.Ghosts S) (h : sink.Ghosts K) (words : List (
     pub since : Knows → g.counts_at_last new ≡ g.counts old
     pub opened : OpensAll
     pub run : Knows → IsCutRun words held (g.told old).done (written (g.in_use new) (g.told new)) (g.told new).last
+    pub faults : FailsAtMostOnce (h.faults said) (h.faults saying)
     pub printed : Knows → Says (write_fault_text (g.told new).last)
 
   -- One call of printing failed: all files of the run are written, a prefix of its summary is printed, and nothing after it.
@@ -92,6 +96,7 @@ module _ {S K : Type 0} (g : shelf.Ghosts S) (h : sink.Ghosts K) (words : List (
     pub opened : Knows → HasOpenedPrefix (g.told old) (g.told new) (files_opened words held)
     pub run : Knows → OnlyRead (g.told old) (g.told new)
         ⊎ IsPartOfRun words held (g.told old).done (written (g.in_use new) (g.told new))
+    pub faults : FailsAtMostOnce (h.faults said) (h.faults saying)
     pub printed : Says out_of_memory_text
 
   -- Of the summary a prefix is printed, and then that memory ran out.
@@ -105,6 +110,7 @@ module _ {S K : Type 0} (g : shelf.Ghosts S) (h : sink.Ghosts K) (words : List (
     pub counts : g.counts new ≡ g.counts old
     pub opened : OpensAll
     pub no_file : g.in_use new ≡ Nothing
+    pub faults : FailsAtMostOnce (h.faults said) (h.faults saying)
     pub run : Knows → BreaksOff
 
   -- The ways to end, by the status.

@@ -1,6 +1,7 @@
 //! The text of a refusal, printed.
 ghost use Rattle.std.specs.Prelude.{◌≡◌, IsTrue};
 ghost use Rattle.spec_run.specs.Statuses.{Prints};
+ghost use Rattle.switch_input.specs.Pieces.{FailsAtMostOnce};
 ghost use Rattle.switch_app.specs.Refused.{write_text, output_text, text_of, IsSilent};
 
 use crate::refusal::Refusal;
@@ -9,8 +10,9 @@ use switch_input::refusals::{say_input_refusal, say_out_of_memory, say_write_fau
 use switch_output::{OutputRefusal, WriteRefusal};
 
 fn say_write_refusal<K: Sink>(say: &mut K, refusal: &WriteRefusal)
-    ensures { IsTrue K.tells → Prints K.needs_memory (K.faults say.old) (K.faults say.new) (K.written say.old)
+    ensures text { IsTrue K.tells → Prints K.needs_memory (K.faults say.old) (K.faults say.new) (K.written say.old)
         (K.written say.new) (write_text refusal.now) }
+    ensures once { FailsAtMostOnce (K.faults say.old) (K.faults say.new) }
 {
     match refusal {
         WriteRefusal::WriteFault { name } => say_write_fault(say, name.as_str()),
@@ -22,6 +24,7 @@ fn say_write_refusal<K: Sink>(say: &mut K, refusal: &WriteRefusal)
 fn say_output_refusal<K: Sink>(say: &mut K, refusal: &OutputRefusal)
     ensures text { IsTrue K.tells → Prints K.needs_memory (K.faults say.old) (K.faults say.new) (K.written say.old)
         (K.written say.new) (output_text refusal.now) }
+    ensures once { FailsAtMostOnce (K.faults say.old) (K.faults say.new) }
     ensures silent { refusal.now ≡ OutputRefusal.Summary Failed.Fault → say.new ≡ say.old }
 {
     match refusal {
@@ -35,6 +38,7 @@ fn say_output_refusal<K: Sink>(say: &mut K, refusal: &OutputRefusal)
 pub fn say_refusal<K: Sink>(say: &mut K, refusal: &Refusal<'_>)
     ensures text { IsTrue K.tells → Prints K.needs_memory (K.faults say.old) (K.faults say.new) (K.written say.old)
         (K.written say.new) (text_of refusal.now) }
+    ensures once { FailsAtMostOnce (K.faults say.old) (K.faults say.new) }
     ensures silent { IsSilent refusal.now → say.new ≡ say.old }
 {
     match refusal {

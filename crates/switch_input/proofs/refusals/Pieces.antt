@@ -1,8 +1,11 @@
 -- What is printed of pieces, one after the other.
-use Rattle.std.proofs.Common.{◌≡◌, ℕ, zero, suc, ◌+◌, ◌<◌, List, [], ◌∷◌, ◌++◌, length, get_or, take, refl, sym, ap, ◌∙◌, append_assoc, arith}
+use Rattle.std.proofs.Common.{Ok, Err, ◌≡◌, ℕ, Result, inl, inr, zero, suc, ◌+◌, ◌<◌, List, [], ◌∷◌, ◌++◌, length, get_or, take, refl, sym, ap, ◌∙◌, append_assoc, arith}
 use Rattle.std.proofs.Math.Seq.{take-append-add}
 use denote.Ref.{Bor}
-use Rattle.switch_input.specs.Pieces.{joined}
+use Rattle.edge_io.specs.declared.outside.Failed.{Failed}
+use Rattle.edge_io.specs.declared.outside.Failed.TheVariants as failed
+use Rattle.edge_io.specs.Counts.{HasCause, with_fault}
+use Rattle.switch_input.specs.Pieces.{joined, FailsAtMostOnce}
 
 -- the start of a text is one of all that begins with it
 start : (n : ℕ) (text rest : List ℕ) → (m : ℕ) × (take n text ≡ take m (text ++ rest))
@@ -32,3 +35,9 @@ module _ (pieces : List (Bor (List ℕ))) (i : ℕ) (d : Bor (List ℕ)) (piece 
         printed.1 ∙ ap (λ xs. xs ++ take n piece) so_far ∙ append_assoc old (joined (take i pieces)) (take n piece)
             ∙ ap (λ p. old ++ (joined (take i pieces) ++ take n p)) is ∙ ap (λ xs. old ++ xs) all.1,
       )
+
+-- one call fails at most once
+pub fails_at_most_once : {T : Type 0} (before now : ℕ) (r : Result T Failed) → HasCause with_fault before now r → FailsAtMostOnce before now
+fails_at_most_once before now (Ok a) cause = inl cause.ok
+fails_at_most_once before now (Err failed.Fault) cause = inr (cause.fault refl)
+fails_at_most_once before now (Err failed.OutOfMemory) cause = inl (cause.no_memory refl)

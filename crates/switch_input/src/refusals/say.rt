@@ -3,7 +3,7 @@ ghost use Rattle.std.specs.Prelude.{◌≡◌, ◌++◌, IsTrue, codes};
 ghost use Rattle.std.specs.Fmt.{decimal};
 ghost use Rattle.spec_run.specs.Statuses.{Prints, line_reason, column_of, place_text, file_text, trace_text, limit_text, text_of as refusal_text, usage_text, write_fault_text, out_of_memory_text};
 ghost use Rattle.switch_input.specs.Refused.{fault_view};
-ghost use Rattle.switch_input.specs.Pieces.{joined};
+ghost use Rattle.switch_input.specs.Pieces.{joined, FailsAtMostOnce};
 ghost use Rattle.switch_input.specs.Texts.{input_text};
 
 use crate::refusals::limits::{limit_of, quantity_name};
@@ -17,8 +17,9 @@ use spec_script::FileFault;
 
 /// Prints texts, one after the other, up to the first at which the sink fails. It takes no memory.
 pub fn say_pieces<K: Sink>(say: &mut K, pieces: &[&str])
-    ensures { IsTrue K.tells → Prints K.needs_memory (K.faults say.old) (K.faults say.new) (K.written say.old)
+    ensures text { IsTrue K.tells → Prints K.needs_memory (K.faults say.old) (K.faults say.new) (K.written say.old)
         (K.written say.new) (joined pieces.now) }
+    ensures once { FailsAtMostOnce (K.faults say.old) (K.faults say.new) }
 {
     'pieces: for piece in pieces {
         match say_all(say, piece.as_bytes()) {
@@ -30,18 +31,20 @@ pub fn say_pieces<K: Sink>(say: &mut K, pieces: &[&str])
 
 // Prints a line that ends with a number.
 fn say_number<K: Sink>(say: &mut K, name: &str, what: &str, number: usize)
-    ensures { IsTrue K.tells
+    ensures text { IsTrue K.tells
         → Prints K.needs_memory (K.faults say.old) (K.faults say.new) (K.written say.old) (K.written say.new)
         (name.now ++ (what.now ++ (decimal number ++ codes "\n"))) }
+    ensures once { FailsAtMostOnce (K.faults say.old) (K.faults say.new) }
 {
     let mut digits = Buffer::new();
     say_pieces(say, &[name, what, digits.format(number), "\n"]);
 }
 
 fn say_version<K: Sink>(say: &mut K, name: &str, major: u16, minor: u16)
-    ensures { IsTrue K.tells
+    ensures text { IsTrue K.tells
         → Prints K.needs_memory (K.faults say.old) (K.faults say.new) (K.written say.old) (K.written say.new)
         (trace_text name.now (PcapFault.Version major minor)) }
+    ensures once { FailsAtMostOnce (K.faults say.old) (K.faults say.new) }
 {
     let mut first = Buffer::new();
     let mut second = Buffer::new();
@@ -57,8 +60,9 @@ fn say_version<K: Sink>(say: &mut K, name: &str, major: u16, minor: u16)
 }
 
 fn say_trace<K: Sink>(say: &mut K, name: &str, fault: PcapFault)
-    ensures { IsTrue K.tells → Prints K.needs_memory (K.faults say.old) (K.faults say.new) (K.written say.old)
+    ensures text { IsTrue K.tells → Prints K.needs_memory (K.faults say.old) (K.faults say.new) (K.written say.old)
         (K.written say.new) (trace_text name.now fault) }
+    ensures once { FailsAtMostOnce (K.faults say.old) (K.faults say.new) }
 {
     match fault {
         PcapFault::ShortHeader => say_pieces(say, &[name, ": short header\n"]),
@@ -74,8 +78,9 @@ fn say_trace<K: Sink>(say: &mut K, name: &str, fault: PcapFault)
 }
 
 fn say_limit<K: Sink>(say: &mut K, quantity: Quantity)
-    ensures { IsTrue K.tells → Prints K.needs_memory (K.faults say.old) (K.faults say.new) (K.written say.old)
+    ensures text { IsTrue K.tells → Prints K.needs_memory (K.faults say.old) (K.faults say.new) (K.written say.old)
         (K.written say.new) (limit_text quantity) }
+    ensures once { FailsAtMostOnce (K.faults say.old) (K.faults say.new) }
 {
     let mut digits = Buffer::new();
     let pieces = [
@@ -119,9 +124,10 @@ fn column_of(why: TextFault) -> u32
 
 // Prints a place in a file, and what is wrong there.
 fn say_place<K: Sink>(say: &mut K, name: &str, line: u32, column: u32, reason: &str)
-    ensures { IsTrue K.tells
+    ensures text { IsTrue K.tells
         → Prints K.needs_memory (K.faults say.old) (K.faults say.new) (K.written say.old) (K.written say.new)
         (place_text name.now line column reason.now) }
+    ensures once { FailsAtMostOnce (K.faults say.old) (K.faults say.new) }
 {
     let mut first = Buffer::new();
     let mut second = Buffer::new();
@@ -140,17 +146,19 @@ fn say_place<K: Sink>(say: &mut K, name: &str, line: u32, column: u32, reason: &
 
 // Prints what is wrong with a line of text, and where.
 fn say_line<K: Sink>(say: &mut K, name: &str, line: u32, why: TextFault)
-    ensures { IsTrue K.tells
+    ensures text { IsTrue K.tells
         → Prints K.needs_memory (K.faults say.old) (K.faults say.new) (K.written say.old) (K.written say.new)
         (place_text name.now line (column_of why) (line_reason why)) }
+    ensures once { FailsAtMostOnce (K.faults say.old) (K.faults say.new) }
 {
     say_place(say, name, line, column_of(why), line_reason(why));
 }
 
 // Prints what is wrong with a file of lines.
 fn say_text<K: Sink>(say: &mut K, name: &str, fault: FileFault)
-    ensures { IsTrue K.tells → Prints K.needs_memory (K.faults say.old) (K.faults say.new) (K.written say.old)
+    ensures text { IsTrue K.tells → Prints K.needs_memory (K.faults say.old) (K.faults say.new) (K.written say.old)
         (K.written say.new) (file_text name.now fault) }
+    ensures once { FailsAtMostOnce (K.faults say.old) (K.faults say.new) }
 {
     match fault {
         FileFault::Line { line, why } => say_line(say, name, line, why),
@@ -166,8 +174,9 @@ fn say_text<K: Sink>(say: &mut K, name: &str, fault: FileFault)
 
 // Prints which words the program takes.
 fn say_usage<K: Sink>(say: &mut K)
-    ensures { IsTrue K.tells → Prints K.needs_memory (K.faults say.old) (K.faults say.new)
+    ensures text { IsTrue K.tells → Prints K.needs_memory (K.faults say.old) (K.faults say.new)
         (K.written say.old) (K.written say.new) usage_text }
+    ensures once { FailsAtMostOnce (K.faults say.old) (K.faults say.new) }
 {
     let pieces = [
         "usage: megaswitch [--workers N] [--steps FILE] [--flow-limit N] ",
@@ -177,8 +186,9 @@ fn say_usage<K: Sink>(say: &mut K)
 }
 
 fn say_fault<K: Sink>(say: &mut K, fault: &InputFault<'_>)
-    ensures { IsTrue K.tells → Prints K.needs_memory (K.faults say.old) (K.faults say.new) (K.written say.old)
+    ensures text { IsTrue K.tells → Prints K.needs_memory (K.faults say.old) (K.faults say.new) (K.written say.old)
         (K.written say.new) (refusal_text (fault_view fault.now)) }
+    ensures once { FailsAtMostOnce (K.faults say.old) (K.faults say.new) }
 {
     match fault {
         InputFault::Usage => say_usage(say),
@@ -190,8 +200,9 @@ fn say_fault<K: Sink>(say: &mut K, fault: &InputFault<'_>)
 
 /// Prints why the words and the files were not read.
 pub fn say_input_refusal<K: Sink>(say: &mut K, refusal: &InputRefusal<'_>)
-    ensures { IsTrue K.tells → Prints K.needs_memory (K.faults say.old) (K.faults say.new) (K.written say.old)
+    ensures text { IsTrue K.tells → Prints K.needs_memory (K.faults say.old) (K.faults say.new) (K.written say.old)
         (K.written say.new) (input_text refusal.now) }
+    ensures once { FailsAtMostOnce (K.faults say.old) (K.faults say.new) }
 {
     match refusal {
         InputRefusal::Input(fault) => say_fault(say, fault),
@@ -202,16 +213,18 @@ pub fn say_input_refusal<K: Sink>(say: &mut K, refusal: &InputRefusal<'_>)
 
 /// Prints that writing the file of this name failed.
 pub fn say_write_fault<K: Sink>(say: &mut K, name: &str)
-    ensures { IsTrue K.tells → Prints K.needs_memory (K.faults say.old) (K.faults say.new) (K.written say.old)
+    ensures text { IsTrue K.tells → Prints K.needs_memory (K.faults say.old) (K.faults say.new) (K.written say.old)
         (K.written say.new) (write_fault_text name.now) }
+    ensures once { FailsAtMostOnce (K.faults say.old) (K.faults say.new) }
 {
     say_pieces(say, &["write fault: ", name, "\n"]);
 }
 
 /// Prints that memory ran out. It takes none.
 pub fn say_out_of_memory<K: Sink>(say: &mut K)
-    ensures { IsTrue K.tells → Prints K.needs_memory (K.faults say.old) (K.faults say.new) (K.written say.old)
+    ensures text { IsTrue K.tells → Prints K.needs_memory (K.faults say.old) (K.faults say.new) (K.written say.old)
         (K.written say.new) out_of_memory_text }
+    ensures once { FailsAtMostOnce (K.faults say.old) (K.faults say.new) }
 {
     say_pieces(say, &["out of memory\n"]);
 }
