@@ -1,6 +1,6 @@
 -- How a call of the tracer ends: with which status, what is printed then, and which calls of the outside failed. Nothing is
 -- written to the shelf.
-use Rattle.std.specs.Prelude.{◌≡◌, ◌≢◌, ℕ, List, IsTrue, Err}
+use Rattle.std.specs.Prelude.{◌≡◌, ℕ, List, IsTrue, Err}
 use Rattle.spec_run.specs.Verdict.{Files}
 use Rattle.spec_run.specs.Statuses.{done_status, usage_status, read_fault_status, write_fault_status, out_of_memory_status, read_fault_text, out_of_memory_text, Prints}
 use Rattle.edge_io.specs.declared.outside.InUse.TheVariants.{Nothing}
