@@ -1,27 +1,30 @@
 //! The steps of a board, with their results.
-ghost use Rattle.std.specs.Prelude.{◌≡◌};
+ghost use Rattle.std.specs.Prelude.{◌≡◌, IfOk};
 
 use spec_board::{Looked, PutDone};
+use std::alloc::{AllocError, Global};
 use std::marker::Model;
 
 /// The numbers of entries, in rising order.
+///
+/// They stand in a box, so that a step that has none takes little room.
 #[derive(Drop)]
-pub struct EntryNumbers(Vec<u32>);
+pub struct EntryNumbers(Box<Vec<u32>>);
 
 impl Model for EntryNumbers {
     ghost use Rattle.std.specs.Prelude.{ℕ, List};
 
     ghost Value = { List ℕ };
 
-    ghost view = { λ n. n.0.items };
+    ghost view = { λ n. n.0.value.items };
 }
 
 impl EntryNumbers {
-    /// The numbers of a vector. It takes no memory.
-    pub fn new(numbers: Vec<u32>) -> EntryNumbers
-        ensures { result ≡ numbers.items }
+    /// The numbers of a vector. The only error is out of memory.
+    pub fn new(alloc: Global, numbers: Vec<u32>) -> Result<EntryNumbers, AllocError>
+        ensures { IfOk result (λ n. n ≡ numbers.items) }
     {
-        EntryNumbers(numbers)
+        Ok(EntryNumbers(Box::new(alloc, numbers)?))
     }
 
     pub fn as_slice(&self) -> &[u32]
@@ -34,7 +37,7 @@ impl EntryNumbers {
     pub fn into_vec(self) -> Vec<u32>
         ensures { result.items ≡ self }
     {
-        self.0
+        Box::into_inner(self.0)
     }
 }
 

@@ -1,7 +1,7 @@
 //! Steps as texts, each added to the end of a line. After an error it isn't said what the line has.
 ghost use Rattle.std.specs.Prelude.{◌≡◌, ◌++◌, OnOk, All, codes, string_bytes};
 ghost use Rattle.std.specs.Fmt.{decimal};
-ghost use Rattle.spec_board.specs.Texts.{dropped_text, looked_text, put_text, settled_text, step_text, word_with};
+ghost use Rattle.spec_board.specs.Texts.{dropped_text, followed_by, looked_text, put_text, settled_text, step_text, word_with};
 ghost use Rattle.board_steps.specs.StepViews.{settled_view, step_view};
 ghost use Rattle.board_steps.specs.Printable.{IsPrintable, IsPrintableLooked, IsPrintableSettled, IsPrintableStep};
 
@@ -28,15 +28,42 @@ fn push_word_with(line: &mut String, word: &str, number: u32) -> Result<(), Allo
     push_number(line, number)
 }
 
+// Adds a number.
+fn push_decimal(line: &mut String, number: u32) -> Result<(), AllocError>
+    ensures text { OnOk result (string_bytes line.new ≡ string_bytes line.old ++ decimal number) }
+    ensures printable { IsPrintable number }
+{
+    line.push_str(Buffer::new().format(number))
+}
+
+// Adds a space and what a look found.
 fn push_looked(line: &mut String, looked: &Looked) -> Result<(), AllocError>
-    ensures text { OnOk result (string_bytes line.new ≡ string_bytes line.old ++ looked_text looked.now) }
+    ensures text { OnOk result
+        (string_bytes line.new ≡ string_bytes line.old ++ (codes " " ++ looked_text looked.now)) }
     ensures printable { OnOk result (IsPrintableLooked looked.now) }
 {
     match looked {
-        Looked::Exact(entry) => push_word_with(line, "exact", *entry),
-        Looked::Mega(entry) => push_word_with(line, "mega", *entry),
-        Looked::Miss => line.push_str("miss"),
+        Looked::Exact(entry) => {
+            line.push_str(" exact ")?;
+            push_decimal(line, *entry)
+        }
+        Looked::Mega(entry) => {
+            line.push_str(" mega ")?;
+            push_decimal(line, *entry)
+        }
+        Looked::Miss => line.push_str(" miss"),
     }
+}
+
+// Adds the text of a look.
+fn push_look(line: &mut String, place: u32, looked: &Looked) -> Result<(), AllocError>
+    ensures text { OnOk result (string_bytes line.new
+        ≡ string_bytes line.old ++ followed_by (word_with (codes "look") place) (looked_text looked.now)) }
+    ensures printable { OnOk result ((IsPrintable place) × (IsPrintableLooked looked.now)) }
+{
+    line.push_str("look ")?;
+    push_decimal(line, place)?;
+    push_looked(line, looked)
 }
 
 fn push_dropped(line: &mut String, dropped: &[u32]) -> Result<(), AllocError>
@@ -85,11 +112,7 @@ pub fn push_step(line: &mut String, step: &Step) -> Result<(), AllocError>
 {
     match step {
         Step::Open { block } => push_word_with(line, "open", *block),
-        Step::Look { place, result } => {
-            push_word_with(line, "look", *place)?;
-            line.push(' ')?;
-            push_looked(line, result)
-        }
+        Step::Look { place, result } => push_look(line, *place, result),
         Step::Settle {
             place,
             version,

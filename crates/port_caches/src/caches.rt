@@ -355,6 +355,7 @@ impl PortCaches {
                 list,
             });
         }
+        let dropped = EntryNumbers::new(self.alloc, overlapped)?;
         self.flows.reserve(mask)?;
         self.totals
             .credit(made.visits.as_slice(), 1, u64::from(length));
@@ -369,16 +370,11 @@ impl PortCaches {
             made.visits,
             time,
         );
-        displace(
-            &mut self.flows,
-            &mut self.totals,
-            overlapped.as_slice(),
-            entry,
-        );
+        displace(&mut self.flows, &mut self.totals, dropped.as_slice(), entry);
         Ok(SettledFrame {
             settled: Settled::Installed {
                 no: self.made,
-                dropped: EntryNumbers::new(overlapped),
+                dropped,
             },
             list,
         })

@@ -21,8 +21,8 @@ end
 #[test]
 fn each_kind_of_step_has_its_line(rt: HostRuntime) -> Result<(), Fail> {
     let alloc = rt.alloc();
-    let none = EntryNumbers::new(Vec::new(alloc));
-    let three = EntryNumbers::new(vec![in alloc; 1, 2, 12]?);
+    let none = EntryNumbers::new(alloc, Vec::new(alloc))?;
+    let three = EntryNumbers::new(alloc, vec![in alloc; 1, 2, 12]?)?;
     let look = |place, looked| Step::Look {
         place,
         result: looked,

@@ -81,7 +81,7 @@ credit-requires-clause-countable c rule =
 
 pub displace-requires-clause-live : goal.displace-requires-clause-live
 displace-requires-clause-live c =
-    anew.payable c.self.inside c.self.invariant.entries (numbers c.args.key.now) (bits c.args.mask.now) c.as_slice-2.result.now (c.as_slice-2.ensures.value ∙ c.in_ok-overlapped.ensures)
+    anew.payable c.self.inside c.self.invariant.entries (numbers c.args.key.now) (bits c.args.mask.now) c.as_slice-2.result.now (c.as_slice-2.ensures ∙ c.in_ok-dropped.ensures ∙ c.in_ok-overlapped.ensures)
     c.reserve.new.self.entries (ap (λ (f : Flows). f.entries) c.in_ok-reserve.ensures.ok) (length c.credit.new.self) c.credit.ensures.rules
 
 pub displace-requires-clause-countable : goal.displace-requires-clause-countable
@@ -99,7 +99,7 @@ displace-requires-clause-countable c rule =
     let uncovered : covering key (caches_in b).entries ≡ None = subst (λ (v : Caches). covering key v.entries ≡ None) (sym c.self.view_is) c.requires.uncovered in
     let fits : Fits key mask c.args.version t c.args.length c.args.time (caches_in b) = subst (Fits key mask c.args.version t c.args.length c.args.time) (sym c.self.view_is) c.requires.fits in
     let all_fits = installed_fits key mask c.args.version t c.args.length c.args.time (caches_in b) fits (anew.numbers b kept key mask) uncovered few (anew.numbers_seen b kept key mask) in
-    let ns_is = c.as_slice-2.ensures.value ∙ c.in_ok-overlapped.ensures in
+    let ns_is = c.as_slice-2.ensures ∙ c.in_ok-dropped.ensures ∙ c.in_ok-overlapped.ensures in
     let es_is = ap (λ (f : Flows). f.entries) c.in_ok-reserve.ensures.ok in
     let first = once key mask c.args.version t c.args.length c.args.time (caches_in b) in
     let alike : (r : ℕ) → total_of c.credit.new.self r ≡ first r =
@@ -113,13 +113,13 @@ displace-requires-clause-room c = ap (λ (f : Flows). f.room) c.in_ok-reserve.en
 pub displace-requires-clause-new : goal.displace-requires-clause-new
 displace-requires-clause-new c =
     subst (λ (e : Entry). All (λ (x : Entry). x.number < e.number) (entries_after c.as_slice-2.result.now c.reserve.new.self.entries)) (sym c.new_entry-entry.ensures)
-    (anew.below c.self.inside c.self.invariant.entries (numbers c.args.key.now) (bits c.args.mask.now) c.as_slice-2.result.now (c.as_slice-2.ensures.value ∙ c.in_ok-overlapped.ensures)
+    (anew.below c.self.inside c.self.invariant.entries (numbers c.args.key.now) (bits c.args.mask.now) c.as_slice-2.result.now (c.as_slice-2.ensures ∙ c.in_ok-dropped.ensures ∙ c.in_ok-overlapped.ensures)
     c.reserve.new.self.entries (ap (λ (f : Flows). f.entries) c.in_ok-reserve.ensures.ok))
 
 pub displace-requires-clause-free : goal.displace-requires-clause-free
 displace-requires-clause-free c =
     subst (λ (e : Entry). All (λ (x : Entry). flow.overlaps (numbers e.key) (bits e.mask) x ≡ false) (entries_after c.as_slice-2.result.now c.reserve.new.self.entries)) (sym c.new_entry-entry.ensures)
-    (anew.free c.self.inside c.self.invariant.entries (numbers c.args.key.now) (bits c.args.mask.now) c.as_slice-2.result.now (c.as_slice-2.ensures.value ∙ c.in_ok-overlapped.ensures)
+    (anew.free c.self.inside c.self.invariant.entries (numbers c.args.key.now) (bits c.args.mask.now) c.as_slice-2.result.now (c.as_slice-2.ensures ∙ c.in_ok-dropped.ensures ∙ c.in_ok-overlapped.ensures)
     c.reserve.new.self.entries (ap (λ (f : Flows). f.entries) c.in_ok-reserve.ensures.ok))
 
 pub invariant_of-self-2 : goal.invariant_of-self-2
@@ -129,7 +129,7 @@ invariant_of-self-2 c =
     let mask = bits c.args.mask.now in
     let t = translation_in c.args.made in
     let kept = c.self.invariant.entries in
-    let ns_is = c.as_slice-2.ensures.value ∙ c.in_ok-overlapped.ensures in
+    let ns_is = c.as_slice-2.ensures ∙ c.in_ok-dropped.ensures ∙ c.in_ok-overlapped.ensures in
     let es_is = ap (λ (f : Flows). f.entries) c.in_ok-reserve.ensures.ok in
     let entry : Entry = record {
       number = b.made + 1;
@@ -170,7 +170,7 @@ returns-clause-settled c =
     let few : nat_lt (length (filter (λ (e : states.Entry). not (overlaps key mask e)) (caches_in b).entries)) (caches_in b).limit ≡ true =
     lt-ltb _ _ (omega (arith, counted, seen, items, c.if-len-limit.false, c.limit.ensures, c.len.ensures.length, c.len-2.ensures, c.in_ok-overlapped.overlapped.ok.0)) in
     let uncovered : covering key (caches_in b).entries ≡ None = subst (λ (v : Caches). covering key v.entries ≡ None) (sym c.self.view_is) c.requires.uncovered in
-    let ns_is = c.as_slice-2.ensures.value ∙ c.in_ok-overlapped.ensures in
+    let ns_is = c.as_slice-2.ensures ∙ c.in_ok-dropped.ensures ∙ c.in_ok-overlapped.ensures in
     let es_is = ap (λ (f : Flows). f.entries) c.in_ok-reserve.ensures.ok in
     let entry : Entry = record {
       number = b.made + 1;
@@ -212,9 +212,9 @@ returns-clause-settled c =
       owed_bytes = 0;
       used = c.args.time;
     } in
-    subst (λ (v : Caches). IsSettled key mask c.args.version t c.args.length c.args.time v (board.Installed (b.made + 1) c.new.result) after) c.self.view_is
+    subst (λ (v : Caches). IsSettled key mask c.args.version t c.args.length c.args.time v (board.Installed (b.made + 1) c.in_ok-dropped.dropped) after) c.self.view_is
     (subst (λ (ns : List ℕ). IsSettled key mask c.args.version t c.args.length c.args.time (caches_in b) (board.Installed (b.made + 1) ns) after)
-    (sym (c.new.ensures ∙ c.in_ok-overlapped.ensures))
+    (sym (c.in_ok-dropped.ensures ∙ c.in_ok-overlapped.ensures))
     (installed key mask c.args.version t c.args.length c.args.time (caches_in b) after (anew.numbers b kept key mask) uncovered few (anew.numbers_seen b kept key mask)
     (record {
       limit = c.displace.ensures.limit ∙ ap (λ (f : Flows). f.limit) c.in_ok-reserve.ensures.ok;
