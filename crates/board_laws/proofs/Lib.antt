@@ -29,3 +29,4 @@ pub mod Balance
 pub mod Looked
 pub mod Stated
 mod Premises
+pub mod StableSorts

@@ -12,8 +12,8 @@
 //!
 //! # What is promised
 //!
-//! An `ActionList` is a list of them, in order. Contracts see it as that list, and neither making one nor giving its
-//! vector back takes memory.
+//! An `ActionList` is a list of them, in order, and `Visits` are the numbers of the rules that a translation visited.
+//! Contracts see them as these lists, and neither making one nor giving its vector back takes memory.
 //!
 //! `commit` appends exactly the actions that the definition of commit in `spec_xlate` gives for two keys, in the order of
 //! the key. Out of memory is its only error, and then the list is as before.
@@ -33,7 +33,9 @@
 mod action_list;
 mod changes;
 mod key_tags;
+mod visits;
 
 pub use action_list::ActionList;
 pub use changes::commit;
 pub use spec_actions::DpAction;
+pub use visits::Visits;

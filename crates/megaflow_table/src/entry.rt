@@ -1,7 +1,7 @@
 ghost use Rattle.std.specs.Prelude.{◌≡◌};
 
+use dp_actions::Visits;
 use ovs_fields::{Key, Mask, agree, and};
-use pipe_model::Visits;
 use std::mem;
 
 /// A megaflow: it decides every packet whose key agrees with `key` on `mask`.

@@ -14,10 +14,10 @@ use crate::ranks::{count_hit, rank_at};
 use crate::subtables::{
     Fresh, Subtables, insert_under, number_in, remove_under, reserve_fresh, reserve_under,
 };
+use dp_actions::Visits;
 use indexmap::IndexMap;
 use masked_map::PacketKey;
 use ovs_fields::{Key, Mask};
-use pipe_model::Visits;
 use std::alloc::{AllocError, Global};
 use std::marker::Model;
 

@@ -54,7 +54,7 @@ mod translated;
 mod translating;
 
 pub use interpreter::{Ended, run_through, translate_by};
-pub use lists::{Plain, SpareLists, Visits};
+pub use lists::{Plain, SpareLists};
 pub use lookups::{Found, Lookups};
 pub use scanning::plain;
 pub use translated::Translated;

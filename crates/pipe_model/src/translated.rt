@@ -1,8 +1,8 @@
 ghost use Rattle.std.specs.Prelude.{◌≡◌};
 ghost use Rattle.ovs_fields.specs.Packed.{numbers, bits};
 
-use crate::lists::{Plain, Visits};
-use dp_actions::ActionList;
+use crate::lists::Plain;
+use dp_actions::{ActionList, Visits};
 use ovs_fields::{Key, Mask};
 use std::marker::Model;
 

@@ -8,11 +8,11 @@ ghost use Rattle.spec_xlate.specs.Tags.{is_full, pushed, popped};
 ghost use Rattle.spec_xlate.specs.Translation.{start, in_port_of, emit_all, committed, stopped, with_current, resumed, output, output_all, other_ports, slice_of, slice_bits, write, write_tag, lower_ttl, act, action_limit};
 ghost use Rattle.ovs_fields.specs.Packed.{numbers};
 
-use crate::lists::{Plain, SpareLists, Visits};
+use crate::lists::{Plain, SpareLists};
 use crate::mode::Mode;
 use crate::outputs::{append_outputs, append_outputs_but, cut_off};
 use crate::ports::{has_others, other_port};
-use dp_actions::ActionList;
+use dp_actions::{ActionList, Visits};
 use named_fields::{
     NamedField, Prerequisite, Slice, TAG_BIT, holds, is_full, named, pop_tag, push_tag, read_slice,
     slice_bits, write_bits, write_field,

@@ -16,9 +16,10 @@ ghost use Rattle.port_caches.specs.Steps.{AreRules};
 ghost use Rattle.port_caches.specs.declared.lists.HeldList.{HeldList};
 
 use crate::stats::Totals;
+use dp_actions::Visits;
 use megaflow_table::{Entry, Megaflows};
 use ovs_fields::{Key, Mask, covers};
-use pipe_model::{Plain, Visits};
+use pipe_model::Plain;
 use spec_actions::DpAction;
 use spec_board::PutDone;
 

@@ -1,4 +1,3 @@
 pub mod InOrder
 mod Rows
-pub mod StableSorts
 pub mod Places

@@ -5,9 +5,9 @@ ghost use Rattle.pipe_model.specs.Plains.{translation_in};
 ghost use Rattle.pipe_model.specs.Xlates.{IsWildcardSound};
 ghost use Rattle.run_xlate.specs.Views.{xlate_of};
 
-use dp_actions::ActionList;
+use dp_actions::{ActionList, Visits};
 use ovs_fields::{Key, Mask};
-use pipe_model::{Plain, Translated, Visits};
+use pipe_model::{Plain, Translated};
 use run_case::Case;
 use std::marker::{Model, PhantomData};
 

@@ -2,9 +2,9 @@ ghost use Rattle.std.specs.Prelude.{◌≡◌, ◌<◌, false, All, IsTrue, IfOk
 ghost use Rattle.ovs_fields.specs.Packed.{numbers, bits};
 ghost use Rattle.megaflow_table.specs.Entries.{overlaps};
 
+use dp_actions::Visits;
 use megaflow_table::{Entry, Megaflows};
 use ovs_fields::{FieldId, Key, Mask};
-use pipe_model::Visits;
 use std::alloc::{AllocError, Global};
 use std::test::Fail;
 

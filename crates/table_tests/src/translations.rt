@@ -4,9 +4,9 @@ ghost use Rattle.spec_tables.specs.declared.edit_word.EditWord.TheVariants.{Add}
 ghost use Rattle.rule_tables.specs.History.{newest, rules_of};
 ghost use Rattle.pipe_model.specs.Runnable.{AreRunnable};
 
-use dp_actions::{ActionList, DpAction};
+use dp_actions::{ActionList, DpAction, Visits};
 use ovs_fields::{FieldId, Key};
-use pipe_model::{Plain, SpareLists, Translating, Visits, plain};
+use pipe_model::{Plain, SpareLists, Translating, plain};
 use rule_tables::{Actions, Edit, EditWord, Match, OfAction, VersionedRules};
 use std::alloc::{AllocError, Global};
 use std::test::Fail;

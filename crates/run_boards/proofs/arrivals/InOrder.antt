@@ -6,7 +6,7 @@ use Rattle.std.specs.Cmp.{IsStrictWeakOrder}
 use Rattle.std.specs.List.Sorted.{IsSorted, IsStable}
 use Rattle.spec_case.specs.declared.arrival.Arrival.{Arrival}
 use Rattle.spec_case.specs.Arrivals.{arrival_cmp, comes_before, in_order}
-use Rattle.run_boards.proofs.arrivals.StableSorts.{sorted_stably}
+use Rattle.board_laws.proofs.StableSorts.{sorted_stably}
 
 -- by three numbers, one after the other
 order : IsStrictWeakOrder comes_before
