@@ -2,7 +2,7 @@
 """Makes the frames of this folder, asks tshark what they say, and makes rows of that.
 
     python3 vectors/make.py                  writes frames.tsv, which needs tshark
-    python3 vectors/make.py --rows           writes the rows in crates/frame_vectors/proofs from frames.tsv
+    python3 vectors/make.py --rows           writes the rows in crates/worked_rows/proofs/frames from frames.tsv
     python3 vectors/make.py --check          tells whether these rows are those of frames.tsv: status 0, or else 1
     python3 vectors/make.py --asked          tells whether tshark still prints frames.tsv, its version aside: so too
     python3 vectors/make.py --capture FILE   writes the frames as a capture file
@@ -19,7 +19,7 @@ from frames import ALL_FRAMES, MODULES
 
 HERE = Path(__file__).resolve().parent
 TABLE = HERE / "frames.tsv"
-PROOFS = HERE.parent / "crates" / "frame_vectors" / "proofs"
+PROOFS = HERE.parent / "crates" / "worked_rows" / "proofs" / "frames"
 
 
 class Fault(Exception):

@@ -33,7 +33,7 @@ use Rattle.std.specs.Prelude.{{{prelude}}}
 use Rattle.spec_keys.specs.declared.field_id.FieldId.TheVariants.{{{fields}}}
 use Rattle.spec_frames.specs.declared.layout.L3.TheVariants as l3
 use Rattle.spec_frames.specs.declared.layout.L4.TheVariants as l4
-use Rattle.frame_vectors.proofs.Shown.{{{shown}}}
+use Rattle.worked_rows.proofs.frames.Shown.{{{shown}}}
 """
 
 ROW = """
