@@ -101,9 +101,6 @@ module _
 pub tuple2_send : (n : Sym) (A B : RattleType) → IsSend A → IsSend B → IsSend (TupleAt n (A ∷ B ∷ []))
 tuple2_send n A B a b = search sendable depth 20
 
-pub tuple3_send : (n : Sym) (A B D : RattleType) → IsSend A → IsSend B → IsSend D → IsSend (TupleAt n (A ∷ B ∷ D ∷ []))
-tuple3_send n A B D a b d = search sendable depth 20
-
 pub tuple4_send : (n : Sym) (A B D E : RattleType) → IsSend A → IsSend B → IsSend D → IsSend E → IsSend (TupleAt n (A ∷ B ∷ D ∷ E ∷ []))
 tuple4_send n A B D E a b d e = search sendable depth 20
 

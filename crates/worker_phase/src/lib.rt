@@ -1,4 +1,4 @@
-//! A run decided by workers: each block is a phase of threads.
+//! A phase: a block of a run, worked at by threads.
 //!
 //! # What?
 //!
@@ -10,9 +10,8 @@
 //!
 //! # What is promised
 //!
-//! `decide_by_workers` answers finished boards (`run_boards`), whatever the threads did and in whichever order: there is
-//! a journal for each port, it is legal and complete, each frame is decided once and within its window, and each rule has
-//! what it is due. Which of the many journals that a run may have these are, nobody promises. The only error is out of
+//! A `WorkerPool` takes boards to a block of a `WorkedRun` and gives boards back. They are boards of the run, whose journals
+//! are legal, by their type; which boards they are, and how far they have come, no contract says. The only error is out of
 //! memory.
 //!
 //! By its bounds the call may wait, so that it returns is no part of what is proved; nor is which thread took a step, and
@@ -21,12 +20,11 @@
 //! # How
 //!
 //! What comes out of a lock, or from a thread, is known by its type alone. That is enough: a board's journal is legal by its
-//! type, whoever had it, and `close_phase` tests whether the boards are those of the block, and completes it. If they
-//! weren't, it would decide the whole run anew, and no further phase would be started. So no proof follows what the
-//! threads do.
+//! type, whoever had it, and whoever ends the phase tests whether the boards are those of the block (`worker_run`). So no
+//! proof follows what the threads do.
 //!
-//! - A **phase** (`pool`, `working`) takes boards and gives boards. The types of what its workers hand on have a name of the
-//!   phase (`phase`), by which they are of its queue and of its tables. Editor and seers stay from phase to phase (`pool`).
+//! - The types of what workers hand on have a name of the **phase** (`phase`), by which they are of its queue and of its
+//!   tables. Editor and seers stay from phase to phase (`pool`).
 //! - A **receive worker** (`receiving`) polls its ports one after the other, each until its block is looked up, so that the
 //!   caches of one port stay in the processor's. The port at place q belongs to the worker q mod N.
 //! - A **handler** (`handling`) takes its share of the upcalls that wait, and those of one port have one lock for their
@@ -35,10 +33,9 @@
 //! - The **editor** (`editing`) publishes the block's bundles in order, and puts news of each version into the mailbox of
 //!   each seer (`mailbox`).
 //! - The **revalidator** (`revalidating`) makes a sweep of each board, and another where a newer version was told meanwhile.
-//! - **Threads** (`scoped`) are started in this order: receive workers, editor, handlers, revalidator. Where none can be
-//!   made, the calling thread does the work at once.
-//! - At the **end** of a phase (`assembling`, `deciding`) the calling thread takes in the passes and pops what is left in the
-//!   queue. It carries tables of its own on by the block's bundles, and with these `close_phase` completes the block.
+//! - **Threads** (`scoped`) are started in this order: receive workers, editor, handlers, revalidator. Each tells the gate that
+//!   it begins, and which it is. Where none can be made, the calling thread does the work at once.
+//! - At the **end** (`assembling`) the calling thread takes in the passes and pops what is left in the queue.
 //!
 //! A look takes a fraction of the time of a translation. Receive workers that know no brake would look the whole block up in
 //! a moment: each frame of a new flow would miss, the queue would be full, and what it refuses is left to the end of the
@@ -52,12 +49,12 @@
 //!
 //! # What is left to others
 //!
-//! Who keeps the tables (`RunTables` of `table_versions`), what a batch, an upcall and a sweep do to a board (`rx_worker`, `upcall_handler`, `revalidator`), the queue and the
-//! tables that threads share (`upcall_queue`, `table_publish`), and the end of a block (`step_runner`).
+//! Who keeps the tables (`RunTables` of `table_versions`), what a batch, an upcall and a sweep do to a board (`rx_worker`,
+//! `upcall_handler`, `revalidator`), the queue and the tables that threads share (`upcall_queue`, `table_publish`), and what
+//! comes of the boards that a phase gives back (`worker_run`).
 #![tactic(auto)]
 
 mod assembling;
-mod deciding;
 mod editing;
 mod handling;
 mod mailbox;
@@ -69,4 +66,5 @@ mod scoped;
 mod shared;
 mod working;
 
-pub use deciding::decide_by_workers;
+pub use pool::WorkerPool;
+pub use working::WorkedRun;

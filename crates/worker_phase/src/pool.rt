@@ -6,17 +6,16 @@ ghost use Rattle.spec_tables.specs.Edits.{has_sound_actions};
 ghost use Rattle.spec_words.specs.Words.{most_workers};
 
 use crate::shared::most_queued;
-use crate::working::work_at_block;
+use crate::working::{Means, WorkedRun, work_at_block};
 use edge_io::Gate;
 use pmd_board::Board;
-use run_case::{Case, RunData};
+use run_case::Case;
 use std::alloc::{AllocError, Global};
 use std::marker::Brand;
 use std::sync::Wait;
 use std::thread::Threads;
 use table_publish::{Editor, Seer, publish};
 use table_versions::RunTables;
-use table_versions::edits::RunEdits;
 use upcall_queue::UpcallQueue;
 
 /// How many workers of each kind a run has, the editor of its tables, and a seer of them for each handler and for the
@@ -50,8 +49,7 @@ impl<C: Case + Send + Sync, T: RunTables<C> + Send + Sync> WorkerPool<C, T> {
         self,
         rt: &R,
         alloc: Global,
-        run: &RunData<C>,
-        edits: &RunEdits<C>,
+        run: &WorkedRun<'_, C>,
         boards: Vec<Board<C>>,
         block: u32,
         gate: &G,
@@ -74,8 +72,15 @@ impl<C: Case + Send + Sync, T: RunTables<C> + Send + Sync> WorkerPool<C, T> {
                 return Err(e);
             }
         };
+        let means = Means {
+            seers,
+            queue: &queue,
+            passes,
+            boards,
+            workers,
+        };
         let (editor, worked) = work_at_block::<C, T, Brand, R, G>(
-            rt, alloc, run, edits, editor, seers, &queue, passes, boards, block, workers, gate,
+            rt, alloc, run, editor, means, block, gate,
         );
         // The editor is always back; no contract can say so of what a thread leaves.
         let Some(editor) = editor else {

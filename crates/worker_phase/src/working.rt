@@ -20,6 +20,25 @@ use table_versions::RunTables;
 use table_versions::edits::RunEdits;
 use upcall_queue::{Pass, UpcallQueue};
 
+/// A run that workers decide, and the flow limit of its boards.
+pub struct WorkedRun<'a, C: Case> {
+    pub data: &'a RunData<C>,
+    pub edits: &'a RunEdits<C>,
+    pub flow_limit: u32,
+    pub ghost limit: { flow_limit ≡ C.run.flow_limit },
+}
+
+/// What a phase has beside its editor: a seer for each handler and for the revalidator, a queue with its passes, the boards,
+/// and how many workers of each kind there are.
+#[derive(Drop)]
+pub struct Means<'a, C: Case, T: RunTables<C>> {
+    pub seers: Vec<Seer<C, T>>,
+    pub queue: &'a UpcallQueue<C>,
+    pub passes: Vec<Pass<C>>,
+    pub boards: Vec<Board<C>>,
+    pub workers: u8,
+}
+
 // Works at a block in threads. It gives the seers back, and the boards as they come out of their locks.
 fn work_in_threads<
     C: Case + Send + Sync,
@@ -30,26 +49,27 @@ fn work_in_threads<
 >(
     rt: &R,
     alloc: Global,
-    run: &RunData<C>,
-    edits: &RunEdits<C>,
+    run: &WorkedRun<'_, C>,
     slot: &mut Option<PhaseEditor<C, T, P>>,
-    seers: Vec<Seer<C, T>>,
-    queue: &UpcallQueue<C>,
-    passes: Vec<Pass<C>>,
-    boards: Vec<Board<C>>,
+    means: Means<'_, C, T>,
     block: u32,
-    workers: u8,
     gate: &G,
 ) -> Result<(Vec<Seer<C, T>>, Vec<Board<C>>), AllocError>
-    requires publication { All (λ s. s.publication ≡ P.publication) seers.items }
-    requires queue { queue.now.name ≡ P.queue }
-    requires passes { All (λ p. p.queue ≡ P.queue) passes.items }
+    requires publication { All (λ s. s.publication ≡ P.publication) means.seers.items }
+    requires queue { means.queue.now.name ≡ P.queue }
+    requires passes { All (λ p. p.queue ≡ P.queue) means.passes.items }
     requires there { block ≤ last_block C.run }
-    requires some { 0 < workers }
+    requires some { 0 < means.workers }
     ensures { IfOk result (λ r. All (λ s. s.publication ≡ P.publication) r.0.items) }
 {
+    let Means {
+        seers,
+        queue,
+        mut passes,
+        boards,
+        workers,
+    } = means;
     let count = workers as usize;
-    let mut passes = passes;
     let team = workers_of::<C, T, P>(alloc, seers, &mut passes, count)?;
     let first = next_pass::<C, P>(&mut passes)?;
     let locks = locked(alloc, boards)?;
@@ -58,8 +78,8 @@ fn work_in_threads<
     let editing = AtomicU64::new(1);
     let given = Condvar::new();
     let shared = Shared {
-        run,
-        edits,
+        run: run.data,
+        edits: run.edits,
         locks: locks.as_slice(),
         queue,
         mailboxes: boxes.as_slice(),
@@ -67,7 +87,7 @@ fn work_in_threads<
         editing: &editing,
         given: &given,
         workers: count,
-        last: run.hi(block),
+        last: run.data.hi(block),
         of: PhantomData,
     };
     let team = work(rt, alloc, &shared, slot, team, gate)?;
@@ -89,26 +109,21 @@ pub fn work_at_block<
 >(
     rt: &R,
     alloc: Global,
-    run: &RunData<C>,
-    edits: &RunEdits<C>,
+    run: &WorkedRun<'_, C>,
     editor: Editor<C, T>,
-    seers: Vec<Seer<C, T>>,
-    queue: &UpcallQueue<C>,
-    passes: Vec<Pass<C>>,
-    boards: Vec<Board<C>>,
+    means: Means<'_, C, T>,
     block: u32,
-    workers: u8,
     gate: &G,
 ) -> (
     Option<Editor<C, T>>,
     Result<(Vec<Seer<C, T>>, Vec<Board<C>>), AllocError>,
 )
     requires editor { editor.publication ≡ P.publication }
-    requires publication { All (λ s. s.publication ≡ P.publication) seers.items }
-    requires queue { queue.now.name ≡ P.queue }
-    requires passes { All (λ p. p.queue ≡ P.queue) passes.items }
+    requires publication { All (λ s. s.publication ≡ P.publication) means.seers.items }
+    requires queue { means.queue.now.name ≡ P.queue }
+    requires passes { All (λ p. p.queue ≡ P.queue) means.passes.items }
     requires there { block ≤ last_block C.run }
-    requires some { 0 < workers }
+    requires some { 0 < means.workers }
     ensures editor { IfSome result.0 (λ e. e.publication ≡ editor.publication) }
     ensures seers { IfOk result.1 (λ r. All (λ s. s.publication ≡ editor.publication) r.0.items) }
 {
@@ -116,9 +131,7 @@ pub fn work_at_block<
         editor,
         of: PhantomData,
     });
-    let worked = work_in_threads::<C, T, P, R, G>(
-        rt, alloc, run, edits, &mut slot, seers, queue, passes, boards, block, workers, gate,
-    );
+    let worked = work_in_threads::<C, T, P, R, G>(rt, alloc, run, &mut slot, means, block, gate);
     match slot {
         Some(PhaseEditor { editor, of: _ }) => (Some(editor), worked),
         None => (None, worked),

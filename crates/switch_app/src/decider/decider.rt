@@ -56,7 +56,7 @@ pub fn decide_by_workers<C: Case + Send + Sync, R: Threads + Wait + Sync, G: Gat
     requires limit { flow_limit ≡ C.run.flow_limit }
     requires workers { (1 ≤ workers) × (workers ≤ most_workers) }
 {
-    worker_phase::decide_by_workers::<C, ClassifierTables<C>, R, G>(
+    worker_run::decide_by_workers::<C, ClassifierTables<C>, R, G>(
         rt, alloc, run, edits, flow_limit, workers, gate,
     )
 }

@@ -6,7 +6,7 @@ use denote.Ref.{MutRef, NamedLft, ShrRef}
 use mir.Syntax.{named}
 use Rattle.std.proofs.Crossing as std
 use Rattle.std.specs.contracts.option.Option as option
-use Rattle.worker_phase.proofs.Crossing.{done_send, handler_send, phase_editor_send, receiver_send, revalidator_send, shared_sync, some_send, tuple2_send, tuple3_send, tuple4_send, tuple5_send}
+use Rattle.worker_phase.proofs.Crossing.{done_send, handler_send, phase_editor_send, receiver_send, revalidator_send, shared_sync, some_send, tuple2_send, tuple4_send, tuple5_send}
 use Rattle.worker_phase.proofs.scoped.fn.work.scope.Goals as goal
 use Rattle.worker_phase.specs.contracts.editing.PhaseEditor as phase_editor
 use Rattle.worker_phase.specs.contracts.shared.Shared as shared_state
@@ -43,7 +43,8 @@ spawn-requires-2-send-F g c κs within =
     shr_send _ _ _ (shared_sync (param 0 g.row.C) (param 1 g.row.T) (param 2 g.row.P) g.C.Case g.T.RunTables g.P.Phase c_send c_sync kept_send kept_sync of_send of_sync ℓ) in
     let slot : IsSend (MutRef (named 8) κs.1.1.1.1.1.1.1.1.0 (option.the_row (phase_editor.the_row (param 0 g.row.C) (param 1 g.row.T) (param 2 g.row.P) g.P.Phase g.C.Case g.T.RunTables))) =
     mut_send _ _ _ (some_send _ (phase_editor_send (param 0 g.row.C) (param 1 g.row.T) (param 2 g.row.P) g.C.Case g.T.RunTables g.P.Phase c_send c_sync kept_send kept_sync of_send of_sync)) in
-    param_send 1 _ (arg_send _ exit.no _ (tuple3_send _ _ _ _ rt shared slot))
+    let gate : IsSend (ShrRef (named 9) κs.1.1.1.1.1.1.1.1.1.0 (param 4 g.row.G)) = shr_send _ _ _ (param_sync 4 _ bounds.7) in
+    param_send 1 _ (arg_send _ exit.no _ (tuple4_send _ _ _ _ _ rt shared slot gate))
 
 pub spawn-requires-in-handlers-send-F : goal.spawn-requires-in-handlers-send-F
 spawn-requires-in-handlers-send-F g c κs within =

@@ -6,7 +6,6 @@ ghost use Rattle.spec_tables.specs.Edits.{has_sound_actions};
 ghost use Rattle.spec_words.specs.Words.{most_workers};
 ghost use Rattle.run_boards.specs.Finished.{AreFinished};
 
-use crate::pool::WorkerPool;
 use edge_io::Gate;
 use pmd_board::Board;
 use run_boards::{Boards, Finished};
@@ -17,28 +16,40 @@ use std::thread::Threads;
 use step_runner::close_phase;
 use table_versions::edits::RunEdits;
 use table_versions::{RunTables, Tables};
+use worker_phase::{WorkedRun, WorkerPool};
+
+// What a phase leaves to the next one.
+struct Left<C: Case, T: RunTables<C>> {
+    pool: WorkerPool<C, T>,
+    boards: Boards<C>,
+}
 
 // Ends a phase: the tables, which aren't the published ones, are carried to the last version of its block, and the boards
 // finish it. It says whether they fitted; where they didn't, the whole run is finished.
 fn close_block<C: Case, T: RunTables<C>>(
     alloc: Global,
-    run: &RunData<C>,
-    edits: &RunEdits<C>,
+    run: &WorkedRun<'_, C>,
     boards: Vec<Board<C>>,
     tables: &mut Tables<C, T>,
     block: u32,
-    flow_limit: u32,
 ) -> Result<(Boards<C>, bool), AllocError>
     requires sound { IsTrue (list_all has_sound_actions C.run.edits) }
-    requires limit { flow_limit ≡ C.run.flow_limit }
     requires there { block ≤ last_block C.run }
     requires version { tables.old ≤ hi C.run block }
     ensures version { IfOk result (λ r. r.1 ≡ true → tables.new ≡ hi C.run block) }
     ensures finished { IfOk result (λ r. MatchBool r.1
         (block ≡ last_block C.run → AreFinished C.run r.0) (AreFinished C.run r.0)) }
 {
-    tables.follow(edits, run.hi(block))?;
-    close_phase(alloc, run, edits, boards, tables, block, flow_limit)
+    tables.follow(run.edits, run.data.hi(block))?;
+    close_phase(
+        alloc,
+        run.data,
+        run.edits,
+        boards,
+        tables,
+        block,
+        run.flow_limit,
+    )
 }
 
 // A phase, and its end.
@@ -50,26 +61,23 @@ fn decide_block<
 >(
     rt: &R,
     alloc: Global,
-    run: &RunData<C>,
-    edits: &RunEdits<C>,
-    pool: WorkerPool<C, T>,
-    boards: Boards<C>,
+    run: &WorkedRun<'_, C>,
+    left: Left<C, T>,
     tables: &mut Tables<C, T>,
     block: u32,
-    flow_limit: u32,
     gate: &G,
-) -> Result<(WorkerPool<C, T>, Boards<C>, bool), AllocError>
+) -> Result<(Left<C, T>, bool), AllocError>
     requires sound { IsTrue (list_all has_sound_actions C.run.edits) }
-    requires limit { flow_limit ≡ C.run.flow_limit }
     requires there { block ≤ last_block C.run }
     requires version { tables.old ≤ hi C.run block }
-    ensures version { IfOk result (λ r. r.2 ≡ true → tables.new ≡ hi C.run block) }
-    ensures finished { IfOk result (λ r. MatchBool r.2
-        (block ≡ last_block C.run → AreFinished C.run r.1) (AreFinished C.run r.1)) }
+    ensures version { IfOk result (λ r. r.1 ≡ true → tables.new ≡ hi C.run block) }
+    ensures finished { IfOk result (λ r. MatchBool r.1
+        (block ≡ last_block C.run → AreFinished C.run r.0.boards) (AreFinished C.run r.0.boards)) }
 {
-    let (pool, left) = pool.work(rt, alloc, run, edits, boards.into_vec(), block, gate)?;
-    match close_block(alloc, run, edits, left, tables, block, flow_limit) {
-        Ok((boards, fit)) => Ok((pool, boards, fit)),
+    let Left { pool, boards } = left;
+    let (pool, boards) = pool.work(rt, alloc, run, boards.into_vec(), block, gate)?;
+    match close_block(alloc, run, boards, tables, block) {
+        Ok((boards, fit)) => Ok((Left { pool, boards }, fit)),
         Err(e) => {
             pool.end(rt);
             Err(e)
@@ -86,41 +94,26 @@ fn decide_blocks<
 >(
     rt: &R,
     alloc: Global,
-    run: &RunData<C>,
-    edits: &RunEdits<C>,
-    pool: WorkerPool<C, T>,
-    boards: Boards<C>,
-    flow_limit: u32,
+    run: &WorkedRun<'_, C>,
+    left: Left<C, T>,
     gate: &G,
 ) -> Result<Boards<C>, AllocError>
     requires sound { IsTrue (list_all has_sound_actions C.run.edits) }
-    requires limit { flow_limit ≡ C.run.flow_limit }
     ensures { IfOk result (AreFinished C.run) }
 {
-    let last = run.last_block();
-    let mut pool = pool;
-    let mut boards = boards;
+    let last = run.data.last_block();
+    let mut left = left;
     let mut tables = Tables::<C, T>::new(alloc);
     'blocks: for block in 0..last + 1 {
-        let (next, left, fit) = decide_block(
-            rt,
-            alloc,
-            run,
-            edits,
-            pool,
-            boards,
-            &mut tables,
-            block,
-            flow_limit,
-            gate,
-        )?;
+        let (next, fit) = decide_block(rt, alloc, run, left, &mut tables, block, gate)?;
         if !fit {
-            next.end(rt);
-            return Ok(left);
+            let Left { pool, boards } = next;
+            pool.end(rt);
+            return Ok(boards);
         }
-        pool = next;
-        boards = left;
+        left = next;
     }
+    let Left { pool, boards } = left;
     pool.end(rt);
     Ok(boards)
 }
@@ -152,6 +145,11 @@ pub fn decide_by_workers<
 {
     let boards = Boards::new(alloc, run, flow_limit)?;
     let pool = WorkerPool::<C, T>::new(rt, alloc, workers)?;
-    let boards = decide_blocks(rt, alloc, run, edits, pool, boards, flow_limit, gate)?;
+    let worked = WorkedRun {
+        data: run,
+        edits,
+        flow_limit,
+    };
+    let boards = decide_blocks(rt, alloc, &worked, Left { pool, boards }, gate)?;
     Finished::new(alloc, run, boards)
 }
