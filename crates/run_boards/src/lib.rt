@@ -23,7 +23,7 @@
 //!
 //! # What is left to others
 //!
-//! Which steps the boards take: `step_runner`, `given_steps` and `worker_phase`. What is written of finished boards:
+//! Which steps the boards take: `step_runner`, `given_steps` and `worker_run`. What is written of finished boards:
 //! `egress_capture`, `egress_capture::mirror`, `flow_dump` and `netflow_v5`.
 //!
 //! The order of arrivals stands in `arrivals`.

@@ -32,7 +32,7 @@
 //!
 //! # What is left to others
 //!
-//! Given steps (`given_steps`), and the threads of workers (`worker_phase`). What is written of finished boards,
+//! Given steps (`given_steps`), and the threads of workers (`worker_phase`, `worker_run`). What is written of finished boards,
 //! `egress_capture` and `flow_dump` write; what datapath actions make of a frame is `action_exec`'s.
 #![tactic(auto)]
 
