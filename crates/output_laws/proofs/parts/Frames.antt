@@ -9,6 +9,7 @@ use Rattle.spec_pcap.specs.Pcap.{Frame, Capture, frame_number}
 use Rattle.spec_case.specs.declared.arrival.Arrival.{Arrival}
 use Rattle.spec_case.specs.Run.{Run, frames_in, frames_of, frame_at}
 use Rattle.spec_case.specs.Blocks.{frames_before}
+use Rattle.spec_base.specs.Sorting.{sort_by}
 use Rattle.spec_base.proofs.SortLaws.{All-sort_by}
 use Rattle.spec_case.specs.Arrivals.{arrivals_at, arrivals_in, arrivals, comes_before, in_order}
 use Rattle.output_laws.specs.Parts.{frames_until, frames_since, trace_until, trace_since, before, since, IsCutIn, MayBeCutAt}
@@ -208,7 +209,7 @@ module _ (time : ℕ) where
     arrivals_split : (ports : List ℕ) (traces : List Capture) → AreOf frames ports traces → All (IsCutIn time) traces
         → in_order (arrivals_in ports traces)
         ≡ in_order (arrivals_in ports (map (trace_until time) traces)) ++ map (moved from) (in_order (arrivals_in ports (map (trace_since time) traces)))
-    unfolding arrivals_in in_order
+    unfolding arrivals_in sort_by
     arrivals_split [] traces are cut = refl
     arrivals_split (p ∷ ps) [] are cut = refl
     arrivals_split (p ∷ ps) (t ∷ ts) are cut =

@@ -5,8 +5,8 @@ use Rattle.spec_tables.specs.Rules.{Rule}
 use Rattle.spec_tables.specs.Bundles.{edits_through}
 use Rattle.spec_case.specs.Run.{last_version}
 use Rattle.spec_flow_text.specs.Actions.{is_respellable}
-use Rattle.spec_dumps.specs.Rules.{counts_of, live_rules}
-use Rattle.translation_laws.proofs.MemberLaws.{Among, All-Among}
+use Rattle.spec_dumps.specs.Rules.{comes_before, counts_of, live_rules}
+use Rattle.translation_laws.proofs.MemberLaws.{Among, All-Among, Among-sort_by}
 use Rattle.text_laws.proofs.PlainValues.{ValueTexts}
 use Rattle.text_laws.proofs.ValuesBack.{ReadValues}
 use Rattle.text_laws.proofs.matches.FlowTexts.{spelled_sound}
@@ -15,7 +15,6 @@ use Rattle.output_laws.specs.Lines.{IsWritable}
 use Rattle.output_laws.specs.Dumps.{dumped_rules}
 use Rattle.output_laws.proofs.rule_text.Back.{rule_feedless}
 use Rattle.output_laws.proofs.rule_text.Stated.{rules_made}
-use Rattle.output_laws.proofs.rule_text.Distinct.{among_order}
 use Rattle.output_laws.proofs.rule_text.Dumped.{script_is, rules_are}
 use Rattle.output_laws.proofs.rule_text.dumps.dumped_rules_read_back.Goals as goal
 
@@ -45,7 +44,7 @@ returns-clause-script c run journals d =
     let matching = edit_matching (λ word at line t h. c.read_match_can_be_spelled.ensures word at line t h) in
     let actions = edit_actions (λ at line actions h again. c.read_actions_can_be_spelled.ensures at line actions h again) in
     let writable : (r : Rule) → Among r (dumped_rules run) → IsWritable r = λ r there.
-    let live = among_order r (live_rules run) there in
+    let live = Among-sort_by comes_before r (live_rules run) there in
     let made = rules_made c.numbers_are_within.ensures matching actions run.edits d.read (edits_through run.bundles (last_version run)) r live in
     let again = All-Among (λ (x : Rule). IsTrue (list_all is_respellable x.actions)) (live_rules run) d.respellable r live in
     record { cookie = made.cookie; table = made.table; priority = made.priority; matching = made.matching; actions = made.actions again } in
