@@ -25,7 +25,7 @@ use Rattle.port_caches.proofs.ListLaws.{found}
 use Rattle.port_caches.proofs.Views.{viewed, changed-view}
 
 -- All counts of an entry take one more packet of so many bytes.
-record HasRoom (length : ℕ) (e : Entry) : Type 0 where
+pub record HasRoom (length : ℕ) (e : Entry) : Type 0 where
   pub packets : flow.counted_on e.packets 1 ≡ e.packets + 1
   pub bytes : flow.counted_on e.bytes length ≡ e.bytes + length
   pub owed_packets : flow.counted_on e.owed_packets 1 ≡ e.owed_packets + 1
