@@ -7,4 +7,4 @@ pub returns : goal.returns
 returns g c = λ t.
     subst (λ (z : List ℕ). Prints g.K.Sink.needs_memory (g.K.Sink.faults c.args.say.now) (g.K.Sink.faults c.say_pieces.new.say)
     (g.K.Sink.written c.args.say.now) (g.K.Sink.written c.say_pieces.new.say) (codes "limit: cubes " ++ (z ++ codes "\n")))
-    c.format.ensures.text (c.say_pieces.ensures t)
+    c.format.ensures.text (c.say_pieces.ensures.text t)
