@@ -172,14 +172,15 @@ def changed_rows(program):
 
 def lost_rows(program):
     """A process that is killed, or a program, is another one's part then; but not twice."""
-    with tempfile.TemporaryDirectory() as folder:
-        room = Room(program, folder, f"sleep {SLOW}")
-        process = room.start()
-        room.wait_for(lambda: room.runs() >= 2)
-        os.kill(children(process.pid)[0], signal.SIGKILL)
-        end, told = room.end(process)
-        yield "a process that is killed", is_whole(end), True
-        yield "what is told of it", re.findall("ended by itself.*; it is tried once more", told) != [], True
+    for place, what in enumerate(["the process that joins parts", "its process"]):
+        with tempfile.TemporaryDirectory() as folder:
+            room = Room(program, folder, f"sleep {SLOW}")
+            process = room.start()
+            room.wait_for(lambda: room.runs() >= 2)
+            os.kill(children(process.pid)[place], signal.SIGKILL)
+            end, told = room.end(process)
+            yield f"{what} is killed", is_whole(end), True
+            yield "what is told of it", f"{what} ended by itself, with -9; it is tried once more" in told, True
     with tempfile.TemporaryDirectory() as folder:
         # Two may count three at once, of which one makes the file.
         once = f"(set -C; : >{folder}/killed) 2>/dev/null"
@@ -190,6 +191,32 @@ def lost_rows(program):
     with tempfile.TemporaryDirectory() as folder:
         end, told = Room(program, folder, "kill -9 $$").run()
         yield "a program that is killed again and again", end, Ended(FAILED, "", {})
+
+
+def elsewhere_rows(program):
+    """A part that failed is tried again by another process, also where there is one at a time."""
+    for jobs in (1, 2):
+        with tempfile.TemporaryDirectory() as folder:
+            room = Room(program, folder, refuses_mark(OUT_OF_MEMORY))
+            room.mark()
+            room.run(f"--jobs={jobs}", "--part-frames=8")
+            with open(room.log, encoding="utf-8") as file:
+                tried = re.findall(rf"{MARKED_PART:06}-(\d+)$", file.read(), re.MULTILINE)
+            yield f"processes that try a part, with {jobs} jobs", (len(tried), len(set(tried))), (2, 2)
+
+
+def ahead_rows(program):
+    """So many programs run at a time as there are jobs; and while they run, each next part is made ready."""
+    for jobs in (1, 2):
+        with tempfile.TemporaryDirectory() as folder:
+            begun, seen = os.path.join(folder, "begun"), os.path.join(folder, "seen")
+            running = f"$(for it in $(cat {begun}); do [ ! -d /proc/$it ] || echo $it; done | wc -l)"
+            ready = "$(ls -A .. | grep -c '^[.]0')"
+            room = Room(program, folder, f"echo $$ >>{begun}; sleep {SLOW}; echo {running} {ready} >>{seen}")
+            room.run(f"--jobs={jobs}", "--part-frames=8")
+            with open(seen, encoding="utf-8") as file:
+                most = tuple(map(max, zip(*(map(int, line.split()) for line in file))))
+            yield f"programs at a time, and parts ready, with {jobs} jobs", most, (jobs, 2 * jobs)
 
 
 def children(process):
@@ -374,8 +401,8 @@ def cluster_rows(program):
 
 
 def all_rows(program, kind):
-    by_processes = [word_rows, input_rows, launcher_rows, interrupted_rows, changed_rows, lost_rows, full_rows]
-    for rows in [cluster_rows] if kind == "cluster" else [*by_processes, beside_rows]:
+    by_processes = [word_rows, input_rows, launcher_rows, interrupted_rows, changed_rows, lost_rows, elsewhere_rows]
+    for rows in [cluster_rows] if kind == "cluster" else [*by_processes, ahead_rows, full_rows, beside_rows]:
         yield from rows(program)
 
 

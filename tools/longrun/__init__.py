@@ -9,6 +9,6 @@ whole run does.
 - `edits`: which edits a part is given, and how. `captures`: traces as they are read. `cutting`: where they are cut.
 - `parts`: one part, from its inputs to its files. `crew` runs parts by processes of this machine, `cluster` by Dask,
   and `remote` is what workers of Dask do.
-- `joining`: what parts have made becomes one; `flows` does so for flows. `progress`: how far it is.
-- `refusals`: how a run ends.
+- `joining`: what parts have made becomes one; `flows` does so for flows, and `appending` for captures.
+- `helpers`: processes of the tool itself. `progress`: how far it is. `refusals`: how a run ends.
 """

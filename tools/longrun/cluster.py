@@ -4,14 +4,13 @@ A worker is sent the inputs of a part, and sends back what the program has writt
 shared between machines; the program has to be on each of them.
 """
 import concurrent.futures
-import functools
 import logging
 import os
 import queue
 import threading
 
 from . import remote
-from .parts import Outcome
+from .parts import Attempt, Outcome, ended_by
 from .refusals import FAILED, Refused
 from .remote import Ended, write_file
 
@@ -94,32 +93,43 @@ class Cluster:
 
     def do(self, work, avoided):
         try:
-            outcome = work.done(self.headers, functools.partial(self.run_at, avoided))
+            outcome = work.done_before(self.headers) or self.attempted(work, avoided)
+        except (OSError, Refused) as fault:
+            outcome = Outcome(work.part, ended_by(fault, work.folder), None, None)
         except Exception as why:
             outcome = Outcome(work.part, Ended(None, f"it was lost: {why}"), None, None)
         self.outcomes.put(outcome)
 
-    def run_at(self, avoided, attempt, words, inputs, meanwhile):
+    def attempted(self, work, avoided):
         """Has a worker run the program: another one than what is to be avoided, where there is one."""
+        attempt = Attempt(work)
         try:
-            ended, files, where = self.answer(avoided, words, inputs, meanwhile)
+            ended, files, where = self.answer(attempt, avoided)
+            for name, data in files.items():
+                write_file(os.path.join(attempt.path, name), [data])
+            return attempt.outcome(ended, where)
+        finally:
+            attempt.remove()
+
+    def answer(self, attempt, avoided):
+        """What a worker answers."""
+        try:
+            return self.asked(attempt, avoided)
+        except Refused:
+            raise
         except Exception as why:
             raise Lost(f"{type(why).__name__} {why}")
-        for name, data in files.items():
-            write_file(os.path.join(attempt, name), [data])
-        return ended, where
 
-    def answer(self, avoided, words, inputs, meanwhile):
-        """What a worker answers."""
+    def asked(self, attempt, avoided):
         others = [it for it in self.client.scheduler_info()["workers"] if it != avoided] or None
+        work = attempt.work
         with self.transfers:
-            data = [{name: b"".join(pieces) for name, pieces in inputs.items()}]
+            data = [attempt.pass_on(work.inputs(self.headers), lambda _, pieces: b"".join(pieces))]
             [there] = self.client.scatter(data, workers=others, hash=False)
             data.clear()
         task = self.client.submit(
-            remote.run_remotely, self.programs, self.plan.checksum, words, there, workers=others, pure=False
+            remote.run_remotely, self.programs, self.plan.checksum, work.words, there, workers=others, pure=False
         )
-        meanwhile()
         self.wait(task)
         with self.transfers:
             return task.result()

@@ -129,8 +129,8 @@ class Packets:
 
     def frames_at(self, port):
         """The frames of a port: when each came in, and its record."""
-        header, *_, data = self.inputs[f"{port}.pcap"]
-        form, frames, data = FORMS[header[:4]], [], bytes(data)
+        capture = self.inputs[f"{port}.pcap"]
+        form, frames, data = FORMS[capture.before[0][:4]], [], b"".join(capture.records())
         runs, _ = Records(f"{port}.pcap", form).runs(0, data)
         for some in runs:
             for at, mark in enumerate(some.times):
@@ -140,8 +140,7 @@ class Packets:
 
     def trace(self, port, begin, end):
         """The trace of a port with the frames from one number up to another."""
-        *before, _ = self.inputs[f"{port}.pcap"]
-        yield from before
+        yield from self.inputs[f"{port}.pcap"].before
         for place, (_, record) in enumerate(self.frames[port]):
             is_looked_at = begin <= self.numbers[port, place] < end
             yield record if is_looked_at else record[:TIME_SIZE] + NO_LENGTHS

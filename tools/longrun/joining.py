@@ -1,19 +1,12 @@
 """What the parts have made, as one switch would have made it."""
-import errno
 import os
 import re
-import struct
 from collections import Counter
 
-from .captures import FORMS, HEADER_SIZE, RECORD_SIZE, SECOND
+from .appending import Appender
 from .flows import Flows, Packets
 from .parts import MILLISECOND, OUT
 from .refusals import write_fault
-from .remote import write_all
-
-# Where the system can't copy from file to file by itself.
-NOT_COPIED = (errno.EXDEV, errno.EINVAL, errno.ENOSYS, errno.EOPNOTSUPP, errno.EPERM)
-PIECE = 1 << 20
 
 COUNTS = re.compile(rb"n_packets=0(,?) n_bytes=0")
 NUMBER = re.compile(rb"rule=(\d+)")
@@ -29,10 +22,11 @@ OF_OPENER = {"frames": 1, "miss": 1, "installed": 1, "dropped": 1}
 class Joined:
     """The outputs of a run, to which parts are added in their order."""
 
-    def __init__(self, command, known, folder, headers):
+    def __init__(self, command, known, folder, headers, tell):
         self.command, self.known, self.folder, self.headers = command, known, folder, headers
         self.counts, self.packets, self.bytes, self.flows = Counter(), Counter(), Counter(), Flows()
-        self.files, self.parts, self.origin, self.last = {}, 0, None, None
+        self.names, self.parts, self.origin, self.last = set(), 0, None, None
+        self.appender = Appender(folder, self.final, tell)
 
     def add(self, work, record):
         """Adds the next part."""
@@ -45,7 +39,8 @@ class Joined:
             self.bytes[int(number)] += size
         for name in record["sizes"]:
             if name.endswith(".pcap"):
-                self.copy(work, name)
+                self.names.add(name)
+                self.appender.append(work.part.number, name, work.opener)
         if self.command.netflow and work.part.frames:
             self.add_flows(work)
 
@@ -58,24 +53,6 @@ class Joined:
         offset = (begin - self.origin) // MILLISECOND
         self.flows.add_part(datagrams, offset, lambda: Packets(work, self.headers, self.folder))
 
-    # ---- captures
-
-    def copy(self, work, name):
-        """Appends the frames of a part to the file that has those of the parts before."""
-        try:
-            with open(self.folder.part(work.part.number, name), "rb", buffering=0) as part:
-                if name not in self.files:
-                    self.files[name] = open(self.joined(name), "wb", buffering=0)
-                    self.files[name].write(part.read(HEADER_SIZE))
-                begin = HEADER_SIZE + RECORD_SIZE * begins_with(part, work.opener)
-                copy(part, begin, self.files[name])
-        except OSError as why:
-            raise write_fault(self.final(name), why.strerror)
-
-    def joined(self, name):
-        """Where an output is until it is whole."""
-        return self.folder.path(f".joined-{name}")
-
     def final(self, name):
         return self.command.out + name.removeprefix(OUT)
 
@@ -86,11 +63,10 @@ class Joined:
         self.write(f"{OUT}.rules", self.rules())
         if self.command.netflow:
             self.write(f"{OUT}.netflow", self.flows.export(self.origin, self.last))
-        for name, file in self.files.items():
-            file.close()
-        for name in sorted(self.files, key=self.order):
+        self.appender.finish()
+        for name in sorted(self.names, key=self.order):
             try:
-                os.replace(self.joined(name), self.final(name))
+                os.replace(self.folder.joined(name), self.final(name))
             except OSError as why:
                 raise write_fault(self.final(name), why.strerror)
         return self.summary()
@@ -98,14 +74,14 @@ class Joined:
     def order(self, name):
         """Outputs come in the order in which the program writes them."""
         ports = [f"{OUT}.p{port}.pcap" for port in self.command.traces]
-        mirrors = [f"{OUT}.m{number}.pcap" for number in range(1, len(self.files))]
+        mirrors = [f"{OUT}.m{number}.pcap" for number in range(1, len(self.names))]
         return [*ports, f"{OUT}.rules", f"{OUT}.netflow", *mirrors].index(name)
 
     def write(self, name, pieces):
+        self.names.add(name)
         try:
-            self.files[name] = open(self.joined(name), "wb")
-            self.files[name].writelines(pieces)
-            self.files[name].flush()
+            with open(self.folder.joined(name), "wb") as file:
+                file.writelines(pieces)
         except OSError as why:
             raise write_fault(self.final(name), why.strerror)
 
@@ -122,32 +98,4 @@ class Joined:
         return "".join(" ".join(f"{name}={counts[name]}" for name in line) + "\n" for line in SUMMARY)
 
     def close(self):
-        for file in self.files.values():
-            file.close()
-
-
-def begins_with(file, opener):
-    """Whether a file of copies begins with a frame of the tool's own."""
-    if not opener:
-        return False
-    begin = os.pread(file.fileno(), HEADER_SIZE + RECORD_SIZE, 0)
-    if len(begin) < HEADER_SIZE + RECORD_SIZE:
-        return False
-    form = FORMS[begin[:4]]
-    seconds, fraction = struct.unpack_from(form.order + "II", begin, HEADER_SIZE)
-    return seconds * SECOND + fraction * form.unit == opener.time
-
-
-def copy(source, begin, target):
-    """Appends the bytes of a file from a place on to another one."""
-    left = os.fstat(source.fileno()).st_size - begin
-    try:
-        while left > 0 and (count := os.copy_file_range(source.fileno(), target.fileno(), left, begin)):
-            begin, left = begin + count, left - count
-    except OSError as why:
-        if why.errno not in NOT_COPIED:
-            raise
-    source.seek(begin)
-    while left > 0 and (piece := source.read(PIECE)):
-        write_all(target, piece)
-        left -= len(piece)
+        self.appender.close()

@@ -7,7 +7,6 @@ import contextlib
 import fcntl
 import hashlib
 import json
-import mmap
 import os
 import re
 import shutil
@@ -16,7 +15,7 @@ import zlib
 from collections import namedtuple
 
 from .captures import FORMS, RECORD_SIZE, SECOND
-from .refusals import Refused, read_fault, write_fault
+from .refusals import DONE, Refused, read_fault, write_fault
 from .remote import Ended, write_file
 
 MILLISECOND = 1000000
@@ -26,6 +25,9 @@ EDITS, MIRRORS, OUT = "edits", "mirrors", "out"
 COUNTED = re.compile(rb"^cookie=\S+, table=\d+, n_packets=([1-9]\d*), n_bytes=(\d+), .* # rule=(\d+)$", re.MULTILINE)
 GONE = re.compile(rb"^# gone rule=(\d+) n_packets=([1-9]\d*) n_bytes=(\d+)$", re.MULTILINE)
 COUNT = re.compile(r"([a-z]+)=(\d+)")
+
+# How much of a capture is in memory at once as inputs are made of it.
+PIECE = 1 << 18
 
 # What parts are made of: the program, its checksum, the options for it, the edits, the mirrors file or None, and the
 # ports of the words.
@@ -112,6 +114,10 @@ class Folder:
         """Where a process makes a part: another one may still be at it."""
         return self.path(f".{number:06}-{os.getpid()}")
 
+    def joined(self, name):
+        """Where an output is until it is whole."""
+        return self.path(f".joined-{name}")
+
     def unpacked(self, number, port):
         """The records of a part whose trace is unpacked as it is read."""
         return self.path(f".unpacked-{number:06}-{port}")
@@ -141,15 +147,61 @@ class Folder:
                     os.remove(self.path(name, file))
 
 
+# ---- the inputs of a part
+
+
+class Capture:
+    """The capture of a part at a port: what stands before its records, and these, piece by piece as they are read."""
+
+    def __init__(self, name, before, stretch):
+        self.name, self.before, self.stretch = name, before, stretch
+
+    def __iter__(self):
+        yield from self.before
+        yield from self.records()
+
+    def records(self):
+        file, at, end = self.stretch
+        try:
+            with open(file, "rb", buffering=0, closefd=isinstance(file, str)) as file:
+                while at < end:
+                    piece = os.pread(file.fileno(), min(PIECE, end - at), at)
+                    if not piece:
+                        raise read_fault(self.name)
+                    yield piece
+                    at += len(piece)
+        except OSError:
+            raise read_fault(self.name)
+
+
+class Sum:
+    """The size of a file and its checksum, as its pieces go by. It is that of gzip, since it is much sooner made than
+    one that nobody can forge."""
+
+    def __init__(self):
+        self.size = self.checksum = 0
+
+    def over(self, pieces):
+        for piece in pieces:
+            self.size += len(piece)
+            self.checksum = zlib.crc32(piece, self.checksum)
+            yield piece
+
+    def end(self, pieces):
+        """Has all pieces go by."""
+        for _ in self.over(pieces):
+            pass
+        return self
+
+
 # ---- one part
 
 
 class Work:
-    """A part that is to be done. Where flows are exported, origin is the part that has the first frame of all."""
+    """A part that is to be done. It may have a frame of the tool's own before all others."""
 
-    def __init__(self, plan, folder, part, origin):
-        self.plan, self.folder, self.part = plan, folder, part
-        self.opener = opener_of(part, origin)
+    def __init__(self, plan, folder, part, opener):
+        self.plan, self.folder, self.part, self.opener = plan, folder, part, opener
 
     @property
     def words(self):
@@ -167,15 +219,35 @@ class Work:
         for port, stretch in part.stretches.items():
             header = headers[port]
             own = self.opener is not None and self.opener.port == port
-            begin = [header, empty_record(FORMS[header[:4]], self.opener.time)] if own else [header]
-            files[f"{port}.pcap"] = [*begin, contents_of(stretch, f"{port}.pcap")]
+            before = [header, empty_record(FORMS[header[:4]], self.opener.time)] if own else [header]
+            files[f"{port}.pcap"] = Capture(f"{port}.pcap", before, stretch)
         return files
 
-    def key(self, inputs):
-        """By what it is known that a part was done before: checksums of the program, the words and the inputs."""
-        files = [[name, sum(map(len, pieces)), checksum_of(pieces)] for name, pieces in inputs.items()]
+    def key(self, sums):
+        """By what it is known that a part was done before: the program, the words and the inputs, by their sums."""
+        files = [[name, it.size, it.checksum] for name, it in sums.items()]
         about = json.dumps([self.plan.checksum, self.words, files])
         return hashlib.sha256(about.encode()).hexdigest()
+
+    def key_of(self, inputs):
+        return self.key({name: Sum().end(pieces) for name, pieces in inputs.items()})
+
+    def done_before(self, headers):
+        """The outcome of the part, where it was done before; or None."""
+        record = self.record()
+        if not record or record["key"] != self.key_of(self.inputs(headers)):
+            return None
+        return Outcome(self.part, Ended(DONE, ""), None, record, False)
+
+    def made_ready(self, headers):
+        """An attempt at the part, with its inputs written."""
+        attempt = Attempt(self)
+        try:
+            attempt.write(self.inputs(headers))
+        except (OSError, Refused):
+            attempt.remove()
+            raise
+        return attempt
 
     def record(self):
         """The record of the part where it was done, with all that it has made still there; or None."""
@@ -187,69 +259,67 @@ class Work:
             return None
         return record if record["sizes"] == sizes else None
 
-    def keep(self, attempt, key, names, text):
-        """Makes the folder of a part of what its run has made, and gives its record."""
-        for name in names:
-            if name != EDITS and os.path.exists(os.path.join(attempt, name)):
-                os.remove(os.path.join(attempt, name))
-        made = [name for name in os.listdir(attempt) if name != EDITS]
+
+class Attempt:
+    """A part under way: the folder of its run, until what that has made is kept."""
+
+    def __init__(self, work):
+        self.work, self.inputs, self.key = work, (), None
+        self.path = work.folder.attempt(work.part.number)
+        self.remove()
+        os.mkdir(self.path)
+
+    def write(self, inputs):
+        self.pass_on(inputs, lambda name, pieces: write_file(os.path.join(self.path, name), pieces))
+
+    def pass_on(self, inputs, take):
+        """Has the inputs taken, file by file, and gives what was made of them. By what they are known is found out as
+        they go by, so that they are read once."""
+        sums = {name: Sum() for name in inputs}
+        taken = {name: take(name, sums[name].over(pieces)) for name, pieces in inputs.items()}
+        self.inputs, self.key = sums.keys(), self.work.key(sums)
+        return taken
+
+    def outcome(self, ended, where=None):
+        """What becomes of the part as its run has ended so."""
+        record = None
+        try:
+            if ended.status == DONE:
+                record = self.keep(ended.text)
+        except OSError as fault:
+            ended = ended_by(fault, self.work.folder)
+        finally:
+            self.remove()
+        return Outcome(self.work.part, ended, where, record)
+
+    def keep(self, text):
+        """Makes the folder of the part of what its run has made, and gives its record."""
+        for name in os.listdir(self.path):
+            if name in self.inputs and name != EDITS:
+                os.remove(os.path.join(self.path, name))
+        made = [name for name in os.listdir(self.path) if name != EDITS]
         record = {
-            "key": key,
+            "key": self.key,
             "counts": {name: int(count) for name, count in COUNT.findall(text)},
-            "rules": rules_in(os.path.join(attempt, f"{OUT}.rules")),
-            "sizes": {name: os.path.getsize(os.path.join(attempt, name)) for name in made},
+            "rules": rules_in(os.path.join(self.path, f"{OUT}.rules")),
+            "sizes": {name: os.path.getsize(os.path.join(self.path, name)) for name in made},
         }
-        write_file(os.path.join(attempt, SUMMARY_NAME), [text.encode()])
-        write_file(os.path.join(attempt, RECORD_NAME), [json.dumps(record).encode()])
-        shutil.rmtree(self.folder.part(self.part.number), ignore_errors=True)
-        os.rename(attempt, self.folder.part(self.part.number))
+        write_file(os.path.join(self.path, SUMMARY_NAME), [text.encode()])
+        write_file(os.path.join(self.path, RECORD_NAME), [json.dumps(record).encode()])
+        folder = self.work.folder.part(self.work.part.number)
+        shutil.rmtree(folder, ignore_errors=True)
+        os.rename(self.path, folder)
         return record
 
-    def done(self, headers, run):
-        """Does the part, unless it was done before. run has the program run in a folder on inputs, does something
-        meanwhile, and tells how that ended and where it ran."""
-        try:
-            inputs = self.inputs(headers)
-        except Refused as refused:
-            return Outcome(self.part, Ended(refused.status, refused.text), None, None)
-        record = self.record()
-        if record and record["key"] == self.key(inputs):
-            return Outcome(self.part, Ended(0, ""), None, record, False)
-        attempt, record, where, keys = self.folder.attempt(self.part.number), None, None, []
-        try:
-            shutil.rmtree(attempt, ignore_errors=True)
-            os.mkdir(attempt)
-            ended, where = run(attempt, self.words, inputs, lambda: keys.append(self.key(inputs)))
-            if ended.status == 0:
-                record = self.keep(attempt, keys[0], list(inputs), ended.text)
-        except OSError as why:
-            fault = write_fault(why.filename or attempt)
-            ended = Ended(fault.status, fault.text)
-        finally:
-            shutil.rmtree(attempt, ignore_errors=True)
-        return Outcome(self.part, ended, where, record)
+    def remove(self):
+        shutil.rmtree(self.path, ignore_errors=True)
 
 
-def checksum_of(pieces):
-    """That of gzip, since it is much sooner made than one that nobody can forge."""
-    checksum = 0
-    for piece in pieces:
-        checksum = zlib.crc32(piece, checksum)
-    return checksum
-
-
-def contents_of(stretch, name):
-    """The records of a part at a port, where they stand."""
-    before = stretch.begin % mmap.ALLOCATIONGRANULARITY
-    size = stretch.end - stretch.begin
-    if not size:
-        return b""
-    try:
-        with open(stretch.file, "rb", closefd=isinstance(stretch.file, str)) as file:
-            whole = mmap.mmap(file.fileno(), before + size, offset=stretch.begin - before, access=mmap.ACCESS_READ)
-    except (OSError, ValueError):
-        raise read_fault(name)
-    return memoryview(whole)[before:]
+def ended_by(fault, folder):
+    """How a part ends whose files can't be read or written."""
+    if not isinstance(fault, Refused):
+        fault = write_fault(fault.filename or folder.name)
+    return Ended(fault.status, fault.text)
 
 
 def rules_in(name):

@@ -36,12 +36,13 @@ class Progress:
         self.frames += frames
         self.run_frames += frames if is_run else 0
 
+    @property
+    def is_due(self):
+        return self.is_shown and time.monotonic() - self.told >= PAUSE
+
     def show(self, cut, read, size):
         """Tells how far it is, where so many frames were cut, and so many bytes of all were read."""
-        now = time.monotonic()
-        if not self.is_shown or now - self.told < PAUSE:
-            return
-        self.told = now
+        self.told = now = time.monotonic()
         text = self.line(now - self.begun, cut * size / read if read and size else 0)
         self.clear()
         self.stream.write(text)

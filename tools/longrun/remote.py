@@ -34,18 +34,37 @@ def write_file(name, pieces):
             write_all(file, piece)
 
 
-def run(program, words, folder, meanwhile=lambda: None):
-    """Runs the program in a folder, and does something meanwhile. Where this process is ended, so is the program."""
-    process = subprocess.Popen(
-        [program, *words], cwd=folder, stdin=subprocess.DEVNULL, stdout=subprocess.PIPE, stderr=subprocess.PIPE
-    )
+class Running:
+    """The program as it runs in a folder."""
+
+    def __init__(self, program, words, folder):
+        self.process = subprocess.Popen(
+            [program, *words], cwd=folder, stdin=subprocess.DEVNULL, stdout=subprocess.PIPE, stderr=subprocess.PIPE
+        )
+
+    @property
+    def streams(self):
+        """What it prints to, which it does as it ends."""
+        return [self.process.stdout, self.process.stderr]
+
+    def ended(self):
+        """Waits for its end."""
+        text, complaint = self.process.communicate()
+        status = self.process.returncode
+        return Ended(status, (text if status == 0 else text + complaint).decode(errors="replace"))
+
+    def stop(self):
+        self.process.kill()
+        self.process.wait()
+
+
+def run(program, words, folder):
+    """Runs the program in a folder. Where this process is ended, so is the program."""
+    running = Running(program, words, folder)
     try:
-        meanwhile()
-        text, complaint = process.communicate()
+        return running.ended()
     finally:
-        process.kill()
-        process.wait()
-    return Ended(process.returncode, (text if process.returncode == 0 else text + complaint).decode(errors="replace"))
+        running.stop()
 
 
 def program_like(checksum, programs):

@@ -1,12 +1,12 @@
 """A whole run: traces are cut, parts are done side by side, and what they made is put together in their order."""
+import contextlib
 from collections import deque, namedtuple
 
-from .cluster import Cluster
 from .crew import Crew
 from .cutting import Cutter
 from .edits import Edits
 from .joining import Joined
-from .parts import Folder, Plan, Work
+from .parts import Folder, Plan, Work, opener_of
 from .program import checked, contents, found_program
 from .refusals import FAILED, Refused
 
@@ -31,28 +31,28 @@ def run(command, progress):
         by_block = Edits(edits)
         known = Known(about.rules, about.edits, by_block.syncs + 1)
         plan = Plan(program.path, program.checksum, command.options, by_block, mirrors, list(command.traces))
-        cutter = Cutter(command, by_block, folder, progress.tell)
-        try:
-            return Session(command, plan, known, folder, cutter, progress).run()
-        finally:
-            cutter.close()
+        with contextlib.closing(Cutter(command, by_block, folder, progress.tell)) as cutter:
+            headers = {trace.port: trace.header for trace in cutter.traces}
+            with contextlib.closing(Joined(command, known, folder, headers, progress.tell)) as joined:
+                return Session(command, plan, folder, headers, cutter, joined, progress).run()
 
 
 class Session:
     """The parts of a run: those under way, and those that are done and wait for one before them."""
 
-    def __init__(self, command, plan, known, folder, cutter, progress):
-        self.plan, self.folder, self.cutter, self.progress = plan, folder, cutter, progress
-        headers = {trace.port: trace.header for trace in cutter.traces}
-        self.joined = Joined(command, known, folder, headers)
+    def __init__(self, command, plan, folder, headers, cutter, joined, progress):
+        self.plan, self.folder, self.cutter, self.joined, self.progress = plan, folder, cutter, joined, progress
         if command.scheduler:
+            # Here, since others needn't wait for what it needs of Python.
+            from .cluster import Cluster
+
             self.side = Cluster(command.scheduler, plan, headers, command.program, progress.tell)
         else:
             self.side = Crew(command.jobs, plan, folder, headers)
         self.exports = command.netflow
-        # Parts that are cut and wait for a place. By their numbers: those that aren't added yet, those that failed
-        # once, and the records of those that are done.
-        self.waiting, self.works, self.failed, self.records, self.frames = deque(), {}, set(), {}, 0
+        # Parts that are cut and wait for a place. By their numbers: those that aren't added yet, where those were run
+        # that failed once, and the records of those that are done.
+        self.waiting, self.works, self.failed, self.records, self.frames = deque(), {}, {}, {}, 0
 
     def run(self):
         try:
@@ -60,7 +60,7 @@ class Session:
             for part in self.cutter.parts():
                 if part:
                     origin = origin or (part if self.exports else None)
-                    self.put(Work(self.plan, self.folder, part, origin))
+                    self.put(Work(self.plan, self.folder, part, opener_of(part, origin)))
                 self.go_on(patiently=self.has_enough)
             while self.works:
                 self.go_on(patiently=True)
@@ -69,7 +69,6 @@ class Session:
             return summary
         finally:
             self.side.close()
-            self.joined.close()
             self.progress.clear()
 
     def put(self, work):
@@ -93,13 +92,15 @@ class Session:
             while (number := self.joined.parts + 1) in self.records:
                 self.joined.add(self.works[number], self.records.pop(number))
                 self.folder.forget_unpacked(self.works.pop(number).part)
-            self.progress.show(self.frames, *self.cutter.progress())
+            if self.progress.is_due:
+                self.progress.show(self.frames, *self.cutter.progress())
             if not patiently or not self.has_enough:
                 return
 
     def start_some(self):
         while self.waiting and not self.side.is_full:
-            self.side.start(self.waiting.popleft())
+            work = self.waiting.popleft()
+            self.side.start(work, self.failed.get(work.part.number))
 
     def take(self, outcome):
         if outcome.record is None:
@@ -109,7 +110,8 @@ class Session:
             self.progress.done(outcome.part.frames, outcome.is_run)
 
     def try_again(self, work, outcome):
-        """Starts a part again that has failed, elsewhere if it can be, or names it where it failed before."""
+        """Has a part that has failed start as the next one, elsewhere if it can be; or names it where it failed
+        before."""
         number, ended = work.part.number, outcome.ended
         said = f"part {number}, {told_times(work.part)}: " + (
             ended.text.strip() if ended.status is None else f"status {ended.status}: {ended.text.strip()}"
@@ -117,9 +119,9 @@ class Session:
         if number in self.failed:
             status = ended.status if ended.status and ended.status > 0 else FAILED
             raise Refused(status, ended.text if status == ended.status else "", said)
-        self.failed.add(number)
+        self.failed[number] = outcome.where
         self.progress.tell(f"{said}; it is tried once more")
-        self.side.start(work, outcome.where)
+        self.waiting.appendleft(work)
 
 
 def told_times(part):
