@@ -22,7 +22,7 @@ import tempfile
 import time
 
 sys.dont_write_bytecode = True
-from long_run import ODD, TOP, joined, outputs, trace
+from long_run import KEPT_OF_PART, ODD, TOP, joined, outputs, trace
 from row_check import tell
 from run_rows import DATAGRAM, WEB
 from simulation.captures import SECOND
@@ -375,6 +375,8 @@ def cluster_rows(program):
         with tempfile.TemporaryDirectory() as folder:
             end, _ = Room(program, folder).run("--scheduler", dask.address, *words)
             yield "a run by two workers of Dask", is_whole(end), True
+            kept = sorted(os.listdir(os.path.join(folder, "out.parts", f"{MARKED_PART:06}")))
+            yield "what is kept of a part of it", kept, KEPT_OF_PART
         with tempfile.TemporaryDirectory() as folder:
             room = Room(program, folder, refuses_mark(OUT_OF_MEMORY))
             room.mark()

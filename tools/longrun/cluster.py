@@ -10,7 +10,7 @@ import queue
 import threading
 
 from . import remote
-from .parts import Attempt, Outcome, ended_by
+from .parts import EDITS, Attempt, Outcome, ended_by
 from .refusals import FAILED, Refused
 from .remote import Ended, write_file
 
@@ -102,33 +102,34 @@ class Cluster:
 
     def attempted(self, work, avoided):
         """Has a worker run the program: another one than what is to be avoided, where there is one."""
-        attempt = Attempt(work)
+        attempt, inputs = Attempt(work), work.inputs(self.headers)
         try:
-            ended, files, where = self.answer(attempt, avoided)
+            ended, files, where = self.answer(attempt, inputs, avoided)
             for name, data in files.items():
                 write_file(os.path.join(attempt.path, name), [data])
+            write_file(os.path.join(attempt.path, EDITS), inputs[EDITS])
             return attempt.outcome(ended, where)
         finally:
             attempt.remove()
 
-    def answer(self, attempt, avoided):
+    def answer(self, attempt, inputs, avoided):
         """What a worker answers."""
         try:
-            return self.asked(attempt, avoided)
+            return self.asked(attempt, inputs, avoided)
         except Refused:
             raise
         except Exception as why:
             raise Lost(f"{type(why).__name__} {why}")
 
-    def asked(self, attempt, avoided):
+    def asked(self, attempt, inputs, avoided):
         others = [it for it in self.client.scheduler_info()["workers"] if it != avoided] or None
-        work = attempt.work
+        words = attempt.work.words
         with self.transfers:
-            data = [attempt.pass_on(work.inputs(self.headers), lambda _, pieces: b"".join(pieces))]
+            data = [attempt.pass_on(inputs, lambda _, pieces: b"".join(pieces))]
             [there] = self.client.scatter(data, workers=others, hash=False)
             data.clear()
         task = self.client.submit(
-            remote.run_remotely, self.programs, self.plan.checksum, work.words, there, workers=others, pure=False
+            remote.run_remotely, self.programs, self.plan.checksum, words, there, workers=others, pure=False
         )
         self.wait(task)
         with self.transfers:
