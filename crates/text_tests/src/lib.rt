@@ -7,7 +7,7 @@
 #[cfg(test)]
 mod actions;
 #[cfg(test)]
-mod dp_actions;
+mod datapath;
 #[cfg(test)]
 mod made;
 #[cfg(test)]
