@@ -9,9 +9,9 @@
 //! - One that holds a board's lock from the translation of an upcall to its settle looks up no frame meanwhile, one
 //!   that throws the boards of threads away has one miss alone, and one that looks up all frames first has no hit
 //!   (`frames_are_looked_up_while_an_upcall_is_translated`).
-//! - One that makes more or fewer threads than it is asked for begins as many workers otherwise
-//!   (`each_worker_begins_once`), or never has just so many held at once
-//!   (`there_are_as_many_receive_workers_as_asked_for`, `there_are_as_many_handlers_as_asked_for`), and one that
+//! - One that makes more or fewer workers than it is asked for, or gives two handlers one mailbox, doesn't begin each
+//!   worker once (`each_worker_begins_once`). One whose workers don't run side by side never has just so many held at
+//!   once (`there_are_as_many_receive_workers_as_asked_for`, `there_are_as_many_handlers_as_asked_for`), and one that
 //!   gives ports to receive workers otherwise polls a port while its worker is held
 //!   (`a_receive_worker_polls_every_second_port_of_two`).
 //! - One whose revalidator leaves a port out checks no megaflow of it, and one that sweeps again and again checks one
