@@ -9,6 +9,7 @@ ghost use Rattle.spec_board.specs.Effects.{is_among, key_of_entry};
 ghost use Rattle.spec_board.specs.Results.{entry_of};
 ghost use Rattle.spec_case.specs.Run.{last_version};
 
+use crate::closing::closes;
 use crate::rows::PORT;
 use ovs_fields::Key;
 use pipe_model::SpareLists;
@@ -48,6 +49,11 @@ pub enum Call {
     After(u32, Option<u32>),
     /// At the place of the order of masks stands that of the entry, with so many hits.
     Rank(u32, Option<(u32, u64)>),
+    /// A new board with this flow limit takes the board's place.
+    Renew(u32),
+    /// The board is handed to the end of a phase of the block, which says whether it fits. What it leaves takes the board's
+    /// place.
+    Close(u32, bool),
 }
 
 /// What a settle did, beside deciding a frame.
@@ -208,9 +214,11 @@ fn answers<C: Case>(
     run: &RunData<C>,
     edits: &RunEdits<C>,
     board: &mut Board<C>,
+    flow_limit: u32,
     call: Call,
 ) -> Result<bool, AllocError>
-    requires { IsTrue (list_all has_sound_actions C.run.edits) }
+    requires sound { IsTrue (list_all has_sound_actions C.run.edits) }
+    requires limit { flow_limit ≡ C.run.flow_limit }
 {
     match call {
         Call::Open(block, answer) => Ok(board.open_block(block) == answer),
@@ -228,6 +236,11 @@ fn answers<C: Case>(
         Call::Total(rule, counts) => Ok(has_total(board, rule, counts)),
         Call::After(number, next) => Ok(board.entries().after(number) == next),
         Call::Rank(at, expected) => Ok(has_rank(board, at, expected)),
+        Call::Renew(limit) => {
+            *board = Board::new(alloc, run, board.port(), limit)?;
+            Ok(true)
+        }
+        Call::Close(block, fits) => closes(alloc, run, edits, board, block, flow_limit, fits),
     }
 }
 
@@ -241,10 +254,11 @@ pub fn first_wrong<C: Case>(
 ) -> Result<Option<usize>, AllocError>
     requires port { HasPort C.run.ports PORT }
     requires sound { IsTrue (list_all has_sound_actions C.run.edits) }
+    requires limit { flow_limit ≡ C.run.flow_limit }
 {
     let mut board = Board::new(alloc, run, PORT, flow_limit)?;
     for (place, call) in calls.iter().enumerate() {
-        if !answers(alloc, run, edits, &mut board, *call)? {
+        if !answers(alloc, run, edits, &mut board, flow_limit, *call)? {
             return Ok(Some(place));
         }
     }

@@ -182,6 +182,7 @@ fn in_run<C: Case>(
     requires few_bundles { length C.run.bundles < MANY }
     requires few_syncs { length C.run.syncs ≤ 1 }
     requires counted { AreCounted C.run.traces }
+    requires limit { row.now.flow_limit ≡ C.run.flow_limit }
 {
     let run = RunData::<C>::new(
         alloc,

@@ -35,4 +35,5 @@ in_run-requires c =
       few_bundles = omega (arith, edits, c.in_ok-edits.ensures.each, c.in_ok-bundles.ensures.count, c.requires);
       few_syncs = c.in_ok-syncs.ensures.few;
       counted = rw traces (one_counted _ c.in_ok-trace_of.ensures);
+      limit = refl;
     }
