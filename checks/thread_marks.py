@@ -5,8 +5,11 @@ where the last version isn't swept, and looks up the frames that are left, each 
 such end of a block's lines is counted for it, whoever made them. All lines before are threads'.
 """
 from collections import Counter
+from itertools import accumulate
 
 SWEEP, SETTLE = "begin", "settle"
+# A look after a settle under a version that the block before didn't have.
+NEWER = "newer"
 
 
 def blocks_in(journal):
@@ -73,17 +76,38 @@ def by_threads(lines):
     return lines[: before_puts(lines, settles)]
 
 
-def marks_in(lines):
-    """How often threads began a sweep of a block, settled, and after a settle looked up with which result."""
-    marks = Counter()
+def marks_in(lines, before):
+    """How often threads began a sweep of a block, settled, and after a settle looked up with which result, and after one
+    under a version newer than that of the block before."""
+    marks, newest = Counter(), before
     for word, *rest in by_threads(lines):
         if word != "look":
             marks[word] += 1
+            newest = max(newest, int(rest[1])) if word == SETTLE else newest
         elif marks[SETTLE]:
             marks[rest[1]] += 1
+            marks[NEWER] += newest > before
     return marks
+
+
+def swept_in(lines):
+    """The versions at which sweeps of a block began. The end of a block sees to it that its last version is swept."""
+    return [int(words[1]) for words in lines if words[0] == SWEEP]
+
+
+def last_versions(blocks):
+    """The last version of each block."""
+    return accumulate((max(swept_in(lines), default=0) for lines in blocks), max)
 
 
 def marks_of(journal):
     """The marks of all blocks by port."""
-    return {port: sum(map(marks_in, blocks), Counter()) for port, blocks in blocks_in(journal).items()}
+    return {
+        port: sum(map(marks_in, blocks, [0, *last_versions(blocks)]), Counter())
+        for port, blocks in blocks_in(journal).items()
+    }
+
+
+def most_sweeps(journal):
+    """How many sweeps of one port began in one block, at most."""
+    return max((len(swept_in(lines)) for blocks in blocks_in(journal).values() for lines in blocks), default=0)

@@ -10,8 +10,13 @@ byte. Where no block has both edits and frames, the files of the ports and of th
 without workers. A run that doesn't end in time is told as one that hangs.
 
 Then come busy runs (busy_runs.py), which are held to the same, until each port was swept by threads, its upcalls settled,
-and its frames found by their keys and by masks, before the end of a block does what threads have left (thread_marks.py): no
-proof says that they do anything. So many rounds have to be enough for that, also on a machine that has other work.
+and its frames found by their keys and by masks, some of them after an upcall was settled under a version of the block,
+before the end of a block does what threads have left (thread_marks.py): no proof says that they do anything. So many rounds
+have to be enough for that, also on a machine that has other work.
+
+A journal doesn't tell which thread took a step, nor how many there are, nor what waits for whom. Who makes fewer workers,
+or gives ports to them otherwise, writes journals like any other; the tests of thread_tests and publish_tests, and
+refused_threads.py, tell of those.
 
 It prints the first run that is wrong and keeps its folder, or what threads never did, and ends with 1; else it prints how
 many runs there were, in how many of them threads did what one thread alone doesn't do, and how often threads did what in
@@ -33,7 +38,7 @@ from simulation.refusals import Refused
 from simulation.replay import Unlawful
 from simulation.schedule import blocks_of
 from simulation.switch import read_input
-from thread_marks import SETTLE, SWEEP, marks_of
+from thread_marks import NEWER, SETTLE, SWEEP, marks_of, most_sweeps
 from whole_run import journal_of, ran_in, simulated
 
 WORKERS = [1, 2, 4, 16]
@@ -41,7 +46,10 @@ WORKERS = [1, 2, 4, 16]
 PATIENCE = 60
 
 # What threads have to do at each port, by the words of the journal.
-DONE_BY_THREADS = [SWEEP, SETTLE, EXACT, MEGA]
+DONE_BY_THREADS = [SWEEP, SETTLE, EXACT, MEGA, NEWER]
+
+# How often a port is swept in a block: twice by the revalidator, and once by the end of the block.
+MOST_SWEEPS = 3
 
 
 def without_steps(words):
@@ -101,6 +109,8 @@ class Runs:
         if not wrong and got.files and has_edits_apart(words, given):
             if same_for_all(got.files) != same_for_all(alone.files):
                 wrong = "edits are apart from frames, and yet another run than without workers"
+        if not wrong and most_sweeps(journal_of(got) or "") > MOST_SWEEPS:
+            wrong = f"a port is swept more than {MOST_SWEEPS} times in a block"
         self.mark(got)
         return wrong and f"{words}: {wrong}"
 
