@@ -21,6 +21,7 @@ use table_versions::edits::RunEdits;
 use upcall_queue::{Pass, UpcallQueue};
 
 /// A run that workers decide, and the flow limit of its boards.
+#[derive(Drop)]
 pub struct WorkedRun<'a, C: Case> {
     pub data: &'a RunData<C>,
     pub edits: &'a RunEdits<C>,
