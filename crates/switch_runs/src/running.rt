@@ -86,15 +86,24 @@ pub fn status_of<R: Threads + Wait + Sync, S: Shelf>(
     Ok(run_switch(rt, alloc, &owned, shelf, say, &OpenGate))
 }
 
-/// The files that a run writes.
-pub fn files_of(alloc: Global, run: &Run<'_>) -> Result<Vec<File>, AllocError> {
+/// The files of the ports and of the rules that a run writes.
+fn sent_of(alloc: Global, run: &Run<'_>) -> Result<Vec<File>, AllocError> {
     let mut files = Vec::new(alloc);
     for (port, bytes) in run.sent {
         let name = format!(in alloc; "out.p{port}.pcap")?;
         files.push((name, bytes_of(alloc, bytes)?))?;
     }
+    files.push((
+        String::from_str(alloc, "out.rules")?,
+        text_of(alloc, run.rules)?,
+    ))?;
+    Ok(files)
+}
+
+/// The files that a run writes.
+pub fn files_of(alloc: Global, run: &Run<'_>) -> Result<Vec<File>, AllocError> {
+    let mut files = sent_of(alloc, run)?;
     for (name, text) in [
-        ("out.rules", run.rules),
         ("out.megaflows", run.megaflows),
         ("out.journal", run.journal),
     ] {
@@ -114,7 +123,12 @@ pub fn files_with_outlets(alloc: Global, outlets: &Outlets) -> Result<Vec<File>,
 
 /// Whether these are the same files.
 pub fn are_files(files: &[File], wanted: &[File]) -> bool {
-    files.len() == wanted.len()
+    files.len() == wanted.len() && begin_with(files, wanted)
+}
+
+/// Whether the first of these files are the wanted ones.
+fn begin_with(files: &[File], wanted: &[File]) -> bool {
+    files.len() >= wanted.len()
         && files.iter().zip(wanted).all(|(file, want)| file.0.as_str() == want.0.as_str()
             && file.1 == want.1)
 }
@@ -254,4 +268,23 @@ pub fn ends_with_outlets<R: Threads + Wait + Sync>(
         None
     };
     Ok(told && ended.leaves(&files) && has_opened_its_files(alloc, &ended, given, run)?)
+}
+
+/// Whether a run with so many workers is done and leaves its files of ports and of rules, whatever steps the workers chose;
+/// and whether it opened all that it names, each once.
+pub fn sends_by_workers<R: Threads + Wait + Sync>(
+    rt: &R,
+    alloc: Global,
+    run: &Run<'_>,
+    workers: &str,
+) -> Result<bool, AllocError> {
+    let mut words = vec![in alloc; "--workers", workers]?;
+    words.extend_from_slice(run.words)?;
+    let ended = run_on(rt, alloc, &words, &Inputs::of(run), 0)?;
+    let sent = sent_of(alloc, run)?;
+    Ok(
+        ended.status == DONE
+            && begin_with(ended.shelf.made(), &sent)
+            && has_opened_its_files(alloc, &ended, None, run)?,
+    )
 }

@@ -6,8 +6,8 @@
 //!
 //! Runs stand in tables, by what they show: what is sent (`sending`), which rules are told (`rules`), what caches decide
 //! (`caching`), how frames are rewritten (`rewrites`), tagged (`tags`) and dropped (`limits`), which fields a megaflow is
-//! about (`matches`), given steps (`given`, `schedules`), flows and mirrors (`outlets`). Each has all its files and its
-//! summary. Their texts come from the formats' own page and from the switch's simulation, which shares nothing with the
+//! about (`matches`), given steps (`given`, `schedules`), flows and mirrors (`outlets`), and what is the same with workers
+//! (`workers`). Each has all its files and its summary. Their texts come from the formats' own page and from the switch's simulation, which shares nothing with the
 //! program. A test proves in a time that grows with its table, so no table is long.
 //!
 //! Nothing is built on this crate.
@@ -35,3 +35,5 @@ mod sending;
 mod tags;
 #[cfg(test)]
 mod tests;
+#[cfg(test)]
+mod workers;

@@ -8,6 +8,7 @@ use crate::rules::RULES;
 use crate::schedules::SCHEDULES;
 use crate::sending::{IN_NANOSECONDS, SENDING};
 use crate::tags::TAGS;
+use crate::workers::BY_WORKERS;
 use edge_io::memory::MemoryShelf;
 use std::alloc::{AllocError, Global};
 use std::sync::Wait;
@@ -16,11 +17,18 @@ use std::thread::Threads;
 use switch_runs::bytes::text_of;
 use switch_runs::cases::{Given, Run};
 use switch_runs::known::FORWARDED;
-use switch_runs::running::{DONE, ends_as_shown, ends_with_outlets, run_over, run_with_failing};
+use switch_runs::running::{
+    DONE, ends_as_shown, ends_with_outlets, run_over, run_with_failing, sends_by_workers,
+};
 
 // The summary of what the number 7 makes.
 const MADE: &str = "ports=4 frames=20000 edits=81 blocks=2|exact=0 mega=19760 miss=240|\
     installed=240 present=0 full=0|sent=10283 dropped=9717 entries=240";
+
+// What of it is the same with any number of workers: its first line, and how many frames are sent and dropped.
+const MADE_BEGIN: &str = "ports=4 frames=20000 edits=81 blocks=2";
+
+const MADE_SENT: &str = "sent=10283 dropped=9717 ";
 
 // The megaflow of a frame of 00:00:00:00:00:01 under rules of each bit of the source's address.
 const EACH_BIT_CONSULTED: &str =
@@ -182,6 +190,16 @@ fn flows_and_copies_are_written_where_they_are_asked_for(rt: HostRuntime) -> Res
     Ok(())
 }
 
+#[test]
+fn four_workers_send_what_one_thread_does(rt: HostRuntime) -> Result<(), Fail> {
+    let alloc = rt.alloc();
+    assert_eq!(rt; first_that_differs(&rt, alloc, &BY_WORKERS)?, None);
+    for run in &BY_WORKERS {
+        assert!(rt; sends_by_workers(&rt, alloc, run, "4")?, "{}", run.shows);
+    }
+    Ok(())
+}
+
 // Whether a run of what the number 7 makes prints its summary, and opens and writes no file.
 fn sums_up_what_is_made<R: Threads + Wait + Sync>(
     rt: &R,
@@ -197,5 +215,48 @@ fn what_a_number_makes_is_the_same_each_time(rt: HostRuntime) -> Result<(), Fail
     let alloc = rt.alloc();
     assert!(rt; sums_up_what_is_made(&rt, alloc)?);
     assert!(rt; sums_up_what_is_made(&rt, alloc)?);
+    Ok(())
+}
+
+// Whether a run of what the number 7 makes, with so many workers, tells the same first line, and the same as sent and
+// dropped, and opens and writes no file.
+fn sends_what_is_made<R: Threads + Wait + Sync>(
+    rt: &R,
+    alloc: Global,
+    workers: &str,
+) -> Result<bool, AllocError> {
+    let words = ["--generate", "7", "--workers", workers];
+    let shelf = MemoryShelf::new(alloc, Vec::new(alloc), Vec::new(alloc));
+    let ended = run_over(rt, alloc, &words, shelf, Vec::new(alloc))?;
+    Ok(
+        ended.status == DONE
+            && ended.shelf.calls() == 0
+            && has_line(ended.say.text(), 0, MADE_BEGIN)
+            && has_line(ended.say.text(), 3, MADE_SENT),
+    )
+}
+
+// Whether the line of a text at this place, from 0, begins so.
+fn has_line(text: &[u8], at: usize, begin: &str) -> bool {
+    text.split(|byte| *byte == b'\n')
+        .nth(at)
+        .is_some_and(|line| line.starts_with(begin.as_bytes()))
+}
+
+#[test]
+fn few_workers_send_the_same_of_what_a_number_makes(rt: HostRuntime) -> Result<(), Fail> {
+    let alloc = rt.alloc();
+    for workers in ["0", "1", "2"] {
+        assert!(rt; sends_what_is_made(&rt, alloc, workers)?, "{}", workers);
+    }
+    Ok(())
+}
+
+#[test]
+fn many_workers_send_the_same_of_what_a_number_makes(rt: HostRuntime) -> Result<(), Fail> {
+    let alloc = rt.alloc();
+    for workers in ["4", "16"] {
+        assert!(rt; sends_what_is_made(&rt, alloc, workers)?, "{}", workers);
+    }
     Ok(())
 }
