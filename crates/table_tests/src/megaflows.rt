@@ -14,9 +14,6 @@ const DL_DST_BITS: u128 = 0xffff_ffff_ffff;
 
 const DL_TYPE_BITS: u128 = 0xffff;
 
-/// Counts below it have room for one more packet.
-const FEW: u64 = 1000;
-
 /// The key of a packet that came in by a port for an Ethernet address.
 fn key_of(port: u16, address: u32) -> Key {
     let mut key = Key::zero();
@@ -96,14 +93,9 @@ fn install(table: &mut Megaflows, entry: Entry) -> Result<(), AllocError> {
     Ok(())
 }
 
-/// An entry decides a packet, where it is there and has decided few.
+/// An entry decides a packet, if it is there.
 fn hit(table: &mut Megaflows, number: u32, length: u32, time: u64) {
-    let Some(entry) = table.get(number) else {
-        return;
-    };
-    let packets = entry.packets.max(entry.owed_packets);
-    let bytes = entry.bytes.max(entry.owed_bytes);
-    if packets.max(bytes) < FEW {
+    if table.get(number).is_some() {
         // Where it was seen may be anywhere.
         table.hit(number, number as usize, length, time);
     }
