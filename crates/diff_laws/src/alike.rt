@@ -1,44 +1,33 @@
-ghost use Rattle.std.specs.Prelude.{◌≡◌, ℕ, List, []};
-ghost use Rattle.spec_case.specs.Run.{Run};
-ghost use Rattle.spec_board.specs.Texts.{Journal};
+ghost use Rattle.std.specs.Prelude.{◌≡◌, ℕ, List};
 ghost use Rattle.spec_script.specs.Mirrors.{Mirror};
 ghost use Rattle.spec_netflow.specs.Datagrams.{netflow_file};
 ghost use Rattle.spec_run.specs.Journals.{actions_for};
 ghost use Rattle.spec_run.specs.Mirrored.{mirror_file};
 ghost use Rattle.spec_run.specs.Outputs.{frames_out, port_file};
-ghost use Rattle.spec_diff.specs.Classes.{Class};
-ghost use Rattle.diff_laws.specs.Runs.{AreByAllEdits, AreCompared, HasNone};
+ghost use Rattle.diff_laws.specs.Compared.{OfUntouched, OfAlike};
 
 /// Where no class has one of the frames, both runs decide the same for each of them. So the same goes out at each
 /// port, and the files of the ports, those of mirrors, and that of the flows are the same.
 pub fn runs_without_such_frames_are_alike()
-    ensures actions { (o n : Run) (classes : List Class) (a b : List Journal)
-        → AreCompared o n classes → HasNone o classes → AreByAllEdits o a → AreByAllEdits n b
-        → (port place : ℕ) → actions_for o a port place ≡ actions_for n b port place }
-    ensures frames { (o n : Run) (classes : List Class) (a b : List Journal)
-        → AreCompared o n classes → HasNone o classes → AreByAllEdits o a → AreByAllEdits n b
-        → (port : ℕ) → frames_out o a port ≡ frames_out n b port }
-    ensures port_files { (o n : Run) (classes : List Class) (a b : List Journal)
-        → AreCompared o n classes → HasNone o classes → AreByAllEdits o a → AreByAllEdits n b
-        → (out : List ℕ) (port : ℕ) → port_file out o a port ≡ port_file out n b port }
-    ensures mirrors { (o n : Run) (classes : List Class) (a b : List Journal)
-        → AreCompared o n classes → HasNone o classes → AreByAllEdits o a → AreByAllEdits n b
-        → (out : List ℕ) (number : ℕ) (m : Mirror) → mirror_file out o a number m ≡ mirror_file out n b number m }
-    ensures flows { (o n : Run) (classes : List Class) (a b : List Journal)
-        → AreCompared o n classes → HasNone o classes → AreByAllEdits o a → AreByAllEdits n b
-        → (out : List ℕ) → netflow_file out o (actions_for o a) ≡ netflow_file out n (actions_for n b) }
+    ensures actions { OfUntouched (λ o n a b.
+        (port place : ℕ) → actions_for o a port place ≡ actions_for n b port place) }
+    ensures frames { OfUntouched (λ o n a b.
+        (port : ℕ) → frames_out o a port ≡ frames_out n b port) }
+    ensures port_files { OfUntouched (λ o n a b.
+        (out : List ℕ) (port : ℕ) → port_file out o a port ≡ port_file out n b port) }
+    ensures mirrors { OfUntouched (λ o n a b.
+        (out : List ℕ) (number : ℕ) (m : Mirror) → mirror_file out o a number m ≡ mirror_file out n b number m) }
+    ensures flows { OfUntouched (λ o n a b.
+        (out : List ℕ) → netflow_file out o (actions_for o a) ≡ netflow_file out n (actions_for n b)) }
 {}
 
 /// Where nothing is listed, the files of the ports, those of mirrors, and that of the flows are the same, whatever
 /// the traces are.
 pub fn nothing_listed_changes_nothing()
-    ensures port_files { (o n : Run) (a b : List Journal)
-        → AreCompared o n [] → AreByAllEdits o a → AreByAllEdits n b
-        → (out : List ℕ) (port : ℕ) → port_file out o a port ≡ port_file out n b port }
-    ensures mirrors { (o n : Run) (a b : List Journal)
-        → AreCompared o n [] → AreByAllEdits o a → AreByAllEdits n b
-        → (out : List ℕ) (number : ℕ) (m : Mirror) → mirror_file out o a number m ≡ mirror_file out n b number m }
-    ensures flows { (o n : Run) (a b : List Journal)
-        → AreCompared o n [] → AreByAllEdits o a → AreByAllEdits n b
-        → (out : List ℕ) → netflow_file out o (actions_for o a) ≡ netflow_file out n (actions_for n b) }
+    ensures port_files { OfAlike (λ o n a b.
+        (out : List ℕ) (port : ℕ) → port_file out o a port ≡ port_file out n b port) }
+    ensures mirrors { OfAlike (λ o n a b.
+        (out : List ℕ) (number : ℕ) (m : Mirror) → mirror_file out o a number m ≡ mirror_file out n b number m) }
+    ensures flows { OfAlike (λ o n a b.
+        (out : List ℕ) → netflow_file out o (actions_for o a) ≡ netflow_file out n (actions_for n b)) }
 {}
