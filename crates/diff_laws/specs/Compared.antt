@@ -1,6 +1,6 @@
 -- What holds of two runs by their comparison, whatever journals they have.
-use Rattle.std.specs.Prelude.{ℕ, ◌≤◌, List, [], length}
-use Rattle.spec_case.specs.Run.{Run, frames_of}
+use Rattle.std.specs.Prelude.{List, []}
+use Rattle.spec_case.specs.Run.{Run}
 use Rattle.spec_board.specs.Texts.{Journal}
 use Rattle.spec_diff.specs.Classes.{Class}
 use Rattle.diff_laws.specs.Runs.{AreByAllEdits, AreCompared, HasNone}
@@ -9,10 +9,6 @@ use Rattle.diff_laws.specs.Runs.{AreByAllEdits, AreCompared, HasNone}
 abbrev pub OfCompared : List Class → (Run → Run → List Journal → List Journal → Type 0) → Type 0
 OfCompared classes claim =
     (o n : Run) (a b : List Journal) → AreCompared o n classes → AreByAllEdits o a → AreByAllEdits n b → claim o n a b
-
--- It holds of each frame of a run, by its port and its place.
-abbrev pub OfFrames : Run → (ℕ → ℕ → Type 0) → Type 0
-OfFrames run claim = (port place : ℕ) → 1 ≤ place → place ≤ length (frames_of run port) → claim port place
 
 -- It holds of those of which no class has a frame.
 abbrev pub OfUntouched : (Run → Run → List Journal → List Journal → Type 0) → Type 0

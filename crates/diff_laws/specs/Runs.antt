@@ -18,11 +18,13 @@ use Rattle.spec_diff.specs.Classes.{Class, IsDifference, holding, matches_of}
 abbrev pub last_switch : Run → Switch
 last_switch run = switch_at run (last_version run)
 
+-- It holds of each frame of a run, by its port and its place.
+abbrev pub OfFrames : Run → (ℕ → ℕ → Type 0) → Type 0
+OfFrames run claim = (port place : ℕ) → 1 ≤ place → place ≤ length (frames_of run port) → claim port place
+
 -- No edit stands in a block after that of a frame.
 abbrev pub HasEditsFirst : Run → Type 0
-HasEditsFirst run =
-    (port place : ℕ) → 1 ≤ place → place ≤ length (frames_of run port)
-    → hi run (block_of run port place) ≡ last_version run
+HasEditsFirst run = OfFrames run (λ port place. hi run (block_of run port place) ≡ last_version run)
 
 -- These are whole journals, and each frame was decided under the tables that all edits make.
 pub record AreByAllEdits (run : Run) (journals : List Journal) : Type 0 where
@@ -46,9 +48,7 @@ pub record AreCompared (o n : Run) (classes : List Class) : Type 0 where
 
 -- No class has one of the frames.
 abbrev pub HasNone : Run → List Class → Type 0
-HasNone run classes =
-    (port place : ℕ) → 1 ≤ place → place ≤ length (frames_of run port)
-    → holding (key_at run port place) (matches_of classes) ≡ 0
+HasNone run classes = OfFrames run (λ port place. holding (key_at run port place) (matches_of classes) ≡ 0)
 
 -- What was decided is what a class says of both.
 pub record IsAsSaid (old new : List DpAction) (c : Class) : Type 0 where
