@@ -1,5 +1,5 @@
-//! Places for news while no seer learns.
-ghost use Rattle.std.specs.Prelude.{◌≡◌, IsTrue, length};
+//! Places for readers: how many there are, and that news find some while no seer learns.
+ghost use Rattle.std.specs.Prelude.{◌≡◌, ◌≤◌, IsTrue, length};
 ghost use Rattle.std.specs.List.{list_all};
 ghost use Rattle.spec_tables.specs.Bundles.{AreBundles};
 ghost use Rattle.spec_tables.specs.Edits.{has_sound_actions};
@@ -14,8 +14,34 @@ use std::marker::Brand;
 use std::process::Abort;
 use std::sync::Wait;
 use std::test::*;
-use table_publish::publish;
+use table_publish::{MOST_SEERS, publish};
 use table_versions::edits::RunEdits;
+
+#[test]
+fn there_are_places_for_two_readers_for_each_seer_and_one_more(
+    rt: HostRuntime,
+) -> Result<(), Fail> {
+    for (seers, places) in [(1, 3), (2, 5), (17, 35)] {
+        has_places::<Brand, _>(&rt, rt.alloc(), seers, places)?;
+    }
+    Ok(())
+}
+
+// So many seers are published with so many places, in a run without edits.
+fn has_places<C: Case, R: Wait + Abort>(
+    rt: &R,
+    alloc: Global,
+    seers: usize,
+    places: usize,
+) -> Result<(), Fail>
+    requires sound { IsTrue (list_all has_sound_actions C.run.edits) }
+    requires seers { (1 ≤ seers) × (seers ≤ MOST_SEERS) }
+{
+    let (editor, _seers) = publish::<C, ClassifierTables<C>, R>(rt, alloc, seers)?;
+    assert_eq!(rt; editor.places(), places);
+    editor.end(rt);
+    Ok(())
+}
 
 const SEERS: usize = 2;
 

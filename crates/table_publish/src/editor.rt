@@ -29,7 +29,7 @@ pub enum PublishFault {
     OutOfMemory,
 }
 
-/// Publishes the bundles of a run. Contracts see the version that it published last. End it by `end`.
+/// Publishes the bundles of a run. Contracts see the version that it published last, and its places. End it by `end`.
 pub struct Editor<C: Case, T: RunTables<C>>
 where
     Tables<C, T>: Absorb<NextBundle<C>, State = u64>,
@@ -39,6 +39,7 @@ where
     home: Factory<Tables<C, T>, u64, Grows<C>>,
     alloc: Global,
     version: u32,
+    places: usize,
 }
 
 impl<C: Case, T: RunTables<C>> Model for Editor<C, T>
@@ -49,12 +50,16 @@ where
     ghost use Rattle.std.specs.Arc.{arc_value};
     ghost use Rattle.left_right.specs.Sides as sides;
     ghost use Rattle.spec_case.specs.Run.{last_version};
-    ghost use Rattle.table_publish.specs.Seen.{Seen};
+    ghost use Rattle.table_publish.specs.Seen.{Edited};
     ghost use Rattle.table_publish.specs.Views.{IsNextOrNone};
 
-    ghost Value = { Seen };
+    ghost Value = { Edited };
 
-    ghost view = { λ e. record { publication = (arc_value e.home.board).shared.table_id; version = e.version } };
+    ghost view = { λ e. record {
+      publication = (arc_value e.home.board).shared.table_id;
+      version = e.version;
+      places = e.places;
+    } };
 
     // Its view and the shown tables are of its version, and nothing but the next bundle is pending.
     ghost invariant = { λ e. (sides.view e.writer.desk.place ≡ e.version)
@@ -96,6 +101,14 @@ impl<C: Case, T: RunTables<C>> Editor<C, T> {
         self.version
     }
 
+    /// For how many readers at a time its publication asked for places: each seer is one, and so is each news that is
+    /// neither learnt nor dropped.
+    pub fn places(&self) -> usize
+        ensures { result ≡ self.now.places }
+    {
+        self.places
+    }
+
     /// The tables that it published last.
     pub fn tables(&self) -> &Tables<C, T>
         ensures { result.now ≡ self.now.version }
@@ -112,6 +125,7 @@ impl<C: Case, T: RunTables<C>> Editor<C, T> {
         edits: &RunEdits<C>,
     ) -> (Editor<C, T>, Result<u32, PublishFault>)
         ensures publication { result.0.publication ≡ self.publication }
+        ensures places { result.0.places ≡ self.places }
         ensures next { OnOk result.1 (result.0.version ≡ self.version + 1) }
         ensures version { IfOk result.1 (λ v. v ≡ result.0.version) }
         ensures err { OnErr result.1 (result.0.version ≡ self.version) }
@@ -127,6 +141,7 @@ impl<C: Case, T: RunTables<C>> Editor<C, T> {
             home,
             alloc,
             version,
+            places,
         } = self;
         let Ok(()) = prepare(&mut writer, alloc, edits, version) else {
             let editor = Editor {
@@ -134,6 +149,7 @@ impl<C: Case, T: RunTables<C>> Editor<C, T> {
                 home,
                 alloc,
                 version,
+                places,
             };
             return (editor, Err(PublishFault::OutOfMemory));
         };
@@ -144,6 +160,7 @@ impl<C: Case, T: RunTables<C>> Editor<C, T> {
                 home,
                 alloc,
                 version,
+                places,
             };
             return (editor, Err(PublishFault::OutOfMemory));
         };
@@ -153,6 +170,7 @@ impl<C: Case, T: RunTables<C>> Editor<C, T> {
             home,
             alloc,
             version,
+            places,
         };
         (editor, Ok(version))
     }
@@ -161,7 +179,8 @@ impl<C: Case, T: RunTables<C>> Editor<C, T> {
     ///
     /// It takes no memory. It waits while more news than there are seers are neither learnt nor dropped.
     pub fn tell<R: Wait>(&mut self, rt: &R) -> News<C, T>
-        ensures news { result ≡ self.old }
+        ensures publication { result.publication ≡ self.old.publication }
+        ensures version { result.version ≡ self.old.version }
         ensures same { self.new ≡ self.old }
     {
         for _ in rt.forever() {
@@ -175,7 +194,8 @@ impl<C: Case, T: RunTables<C>> Editor<C, T> {
 
     // Tells, if there is a place for the news.
     fn try_tell(&mut self) -> Option<News<C, T>>
-        ensures news { IfSome result (λ n. n ≡ self.old) }
+        ensures publication { IfSome result (λ n. n.publication ≡ self.old.publication) }
+        ensures version { IfSome result (λ n. n.version ≡ self.old.version) }
         ensures same { self.new ≡ self.old }
     {
         let home = self.home.another().ok()?;
@@ -191,6 +211,7 @@ impl<C: Case, T: RunTables<C>> Editor<C, T> {
             home: _home,
             alloc: _,
             version: _,
+            places: _,
         } = self;
         writer.take(rt);
     }
@@ -203,7 +224,8 @@ impl<C: Case, T: RunTables<C>> Editor<C, T> {
     ) -> Result<Editor<C, T>, AllocError>
         requires sound { IsTrue (list_all has_sound_actions C.run.edits) }
         requires places { (0 < places) × (places < 2 ^ 32) }
-        ensures { IfOk result (λ e. e.version ≡ 0) }
+        ensures version { IfOk result (λ e. e.version ≡ 0) }
+        ensures places { IfOk result (λ e. e.places ≡ places) }
     {
         let writer = Writer::new(alloc, Tables::new(alloc), Tables::new(alloc), places)?;
         match writer.factory().another() {
@@ -212,6 +234,7 @@ impl<C: Case, T: RunTables<C>> Editor<C, T> {
                 home,
                 alloc,
                 version: 0,
+                places,
             }),
             Err(e) => {
                 writer.take(rt);

@@ -12,9 +12,10 @@
 //! Contracts see an `Editor`, a `Seer`, a `Guard` and a `News` alike (`specs/Seen`): of which publication they are, and a
 //! version. The version of an editor is the one that it published last, that of a seer the greatest that it saw or learnt,
 //! that of a guard the one that it reads, and that of a news the one that is told. Every call that hands one of them back
-//! hands back one of the same publication.
+//! hands back one of the same publication. Of an editor contracts see too for how many readers it asked for places.
 //!
-//! - `publish` gives an editor and exactly so many seers, all of one publication and at version 0.
+//! - `publish` gives an editor and exactly so many seers, all of one publication and at version 0. It asks for places for
+//!   two readers for each seer, and one more, and the editor tells how many it asked for.
 //! - `publish_next` publishes the next bundle of the run. It answers the version that the bundle makes, one more than the
 //!   one before; `NoneLeft` exactly where all bundles are published, with their version; or out of memory, and then nothing
 //!   changed and the call may be made again.
@@ -44,7 +45,8 @@
 //!
 //! A `News` is a reader of its own, which has taken in the editor's view. To learn is to go on with the one of the two
 //! readers that knows more, and to give the other's place back. So there are places for twice as many readers as seers,
-//! and one more, and an editor that tells waits where no place is free.
+//! and one more, and an editor that tells waits where no place is free. That `left_right` makes as many as it is asked for
+//! is nothing that it says: a test tells news until all places are taken.
 //!
 //! That a reader stays with its tables as it enters and leaves is nothing that `left_right` says. So of which publication
 //! a seer is, is told by a factory of readers that it keeps beside its reader.
