@@ -51,8 +51,8 @@ pub enum Call {
     Rank(u32, Option<(u32, u64)>),
     /// A new board with this flow limit takes the board's place.
     Renew(u32),
-    /// The board is handed to the end of a phase of the block, which says whether it fits. What it leaves takes the board's
-    /// place.
+    /// The board is handed to the end of a phase of the block, which says whether it fits. What it leaves takes the
+    /// board's place.
     Close(u32, bool),
 }
 

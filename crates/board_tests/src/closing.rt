@@ -16,8 +16,8 @@ use step_runner::close_phase;
 use table_versions::Tables;
 use table_versions::edits::RunEdits;
 
-/// Whether the end of a phase says so whether a board fits, and leaves one board, which takes the board's place. A block
-/// after the last stands for the last.
+/// Whether the end of a phase says so whether a board fits, and leaves one board, which takes the board's place. A
+/// block after the last stands for the last.
 pub fn closes<C: Case>(
     alloc: Global,
     run: &RunData<C>,
@@ -44,8 +44,8 @@ pub fn closes<C: Case>(
     Ok(false)
 }
 
-// In each row two frames to 9 come in the first block, whose one rule sends to port 2, and a third one in the second block,
-// whose other rule sends it to port 3.
+// In each row two frames to 9 come in the first block, whose one rule sends to port 2, and a third one in the second
+// block, whose other rule sends it to port 3.
 const ROWS: [Row; 4] = [
     Row {
         shows: "a board that has looked up nothing fits, and its block is decided by what it installs then",

@@ -270,8 +270,8 @@ pub fn ends_with_outlets<R: Threads + Wait + Sync>(
     Ok(told && ended.leaves(&files) && has_opened_its_files(alloc, &ended, given, run)?)
 }
 
-/// Whether a run with so many workers is done and leaves its files of ports and of rules, whatever steps the workers chose;
-/// and whether it opened all that it names, each once.
+/// Whether a run with so many workers is done and leaves its files of ports and of rules, whatever steps the workers
+/// chose; and whether it opened all that it names, each once.
 pub fn sends_by_workers<R: Threads + Wait + Sync>(
     rt: &R,
     alloc: Global,

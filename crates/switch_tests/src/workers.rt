@@ -1,4 +1,4 @@
-//! Runs whose edits stand apart from their frames, so that with workers too they send the same and count the same for rules.
+//! Runs whose edits stand apart from their frames: with workers too they send the same, and count the same for rules.
 
 use switch_runs::cases::{Bytes, Run, TWO_TRACES};
 
