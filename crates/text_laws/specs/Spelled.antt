@@ -27,3 +27,7 @@ has_goto_last (a ∷ b ∷ actions) = not (is_goto a) && has_goto_last (b ∷ ac
 -- whether a list of actions can be spelled
 abbrev pub are_spellable : List OfAction → Bool
 are_spellable actions = nat_le (length actions) most_actions && (has_goto_last actions && list_all is_spellable actions)
+
+-- whether each write of a list can be spelled again, as it was read or otherwise
+abbrev pub are_respellable : List OfAction → Bool
+are_respellable actions = list_all is_respellable actions

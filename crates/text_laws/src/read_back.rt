@@ -1,10 +1,10 @@
-ghost use Rattle.std.specs.Prelude.{◌≡◌, ℕ, Bool, List, [], ◌∷◌, ◌++◌, length, Ok, IsTrue};
+ghost use Rattle.std.specs.Prelude.{◌≡◌, ℕ, Bool, List, ◌++◌, length, Ok, IsTrue};
 ghost use Rattle.spec_actions.specs.declared.action.OfAction.{OfAction};
-ghost use Rattle.spec_flow_text.specs.Items.{Word};
 ghost use Rattle.spec_flow_text.specs.Matches.{uncommented};
-ghost use Rattle.spec_flow_text.specs.Actions.{actions_of_item, read_actions};
-ghost use Rattle.spec_flow_text.specs.Printed.{action_text, actions_printed};
+ghost use Rattle.spec_flow_text.specs.Actions.{read_actions};
+ghost use Rattle.spec_flow_text.specs.Printed.{actions_printed};
 ghost use Rattle.text_laws.specs.Spelled.{is_spellable, is_goto, are_spellable};
+ghost use Rattle.text_laws.specs.ReadBack.{ActionReadsBack};
 
 use crate::values::{
     addresses_have_value_characters, decimal_reads_back, hexadecimal_reads_back,
@@ -14,11 +14,9 @@ use crate::values::{
 
 /// A printed action reads back: as the one item of a list, or among others, where a `goto_table` has to be the last.
 pub fn printed_action_reads_back()
-    ensures { (only last : Bool) (place : ℕ) (action : OfAction)
-        → IsTrue (is_spellable action)
-        → (IsTrue (is_goto action) → IsTrue last)
-        → actions_of_item only last (record { at = place; text = action_text action })
-        ≡ Ok (action ∷ []) }
+    ensures { (only last : Bool) (action : OfAction)
+        → IsTrue (is_spellable action) → (IsTrue (is_goto action) → IsTrue last)
+        → ActionReadsBack only last action }
 {
     numbers_have_value_characters();
     addresses_have_value_characters();

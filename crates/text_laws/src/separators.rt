@@ -6,19 +6,18 @@ ghost use Rattle.spec_flow_text.specs.Items.{is_separator, is_white, words};
 ghost use Rattle.spec_flow_text.specs.Matches.{MatchText, uncommented, read_match};
 ghost use Rattle.spec_flow_text.specs.Actions.{read_actions};
 ghost use Rattle.spec_flow_text.specs.Lines.{edit_in};
-ghost use Rattle.text_laws.specs.Texts.{texts_of};
+ghost use Rattle.text_laws.specs.ReadTexts.{HaveSameWords};
 
 /// A separator at the end of a line changes nothing of what was read of it: its match, or its list of actions. White
 /// space there changes no edit. A comma can: `delete` deletes all flows, and `delete,` is no edit, as white space alone
 /// ends the word of an edit.
 pub fn separators_at_the_end_change_nothing()
-    ensures matching { (word : EditWord) (at : ℕ) (line : List ℕ) (separator : ℕ) (m : MatchText)
-        → IsTrue (is_separator separator)
-        → read_match word at line ≡ Ok m → read_match word at (line ++ separator ∷ []) ≡ Ok m }
-    ensures actions { (at : ℕ) (line : List ℕ) (separator : ℕ) (actions : List OfAction)
-        → IsTrue (is_separator separator)
-        → read_actions at line ≡ Ok actions
-        → read_actions at (line ++ separator ∷ []) ≡ Ok actions }
+    ensures matching { (word : EditWord) (at : ℕ) (line : List ℕ) (end : ℕ) (m : MatchText)
+        → IsTrue (is_separator end)
+        → read_match word at line ≡ Ok m → read_match word at (line ++ end ∷ []) ≡ Ok m }
+    ensures actions { (at : ℕ) (line : List ℕ) (end : ℕ) (actions : List OfAction)
+        → IsTrue (is_separator end)
+        → read_actions at line ≡ Ok actions → read_actions at (line ++ end ∷ []) ≡ Ok actions }
     ensures edit { (line : List ℕ) (white : ℕ) (edit : Edit)
         → IsTrue (is_white white) → edit_in line ≡ Ok edit
         → edit_in (line ++ white ∷ []) ≡ Ok edit }
@@ -35,15 +34,12 @@ pub fn separators_in_front_change_nothing()
         → read_actions at line ≡ read_actions (at + 1) line }
 {}
 
-/// Two separators between words are as good as one, and one at the end is as good as none, whatever separates.
+/// Two separators between words are as good as one, and one at the end is as good as none, whatever splits.
 pub fn words_have_separators_between_them()
-    ensures between { (separates : ℕ → Bool) (fresh : Bool) (at : ℕ)
-        (front back : List ℕ) (one other : ℕ)
-        → IsTrue (separates one) → IsTrue (separates other)
-        → texts_of (words separates fresh at (front ++ one ∷ other ∷ back))
-        ≡ texts_of (words separates fresh at (front ++ one ∷ back)) }
-    ensures at_the_end { (separates : ℕ → Bool) (fresh : Bool) (at : ℕ)
-        (text : List ℕ) (separator : ℕ)
-        → IsTrue (separates separator)
-        → words separates fresh at (text ++ separator ∷ []) ≡ words separates fresh at text }
+    ensures between { (splits : ℕ → Bool) (front back : List ℕ) (one other : ℕ)
+        → IsTrue (splits one) → IsTrue (splits other)
+        → HaveSameWords splits (front ++ one ∷ other ∷ back) (front ++ one ∷ back) }
+    ensures at_the_end { (splits : ℕ → Bool) (fresh : Bool) (at : ℕ) (text : List ℕ) (end : ℕ)
+        → IsTrue (splits end)
+        → words splits fresh at (text ++ end ∷ []) ≡ words splits fresh at text }
 {}

@@ -1,8 +1,7 @@
-ghost use Rattle.std.specs.Prelude.{◌≡◌, ℕ, ◌≤◌, List, ◌∷◌, ◌++◌, length, is_ok, Ok, IsTrue};
+ghost use Rattle.std.specs.Prelude.{◌≡◌, is_ok, Ok};
 ghost use Rattle.spec_tables.specs.declared.edit_word.EditWord.{EditWord};
-ghost use Rattle.spec_flow_text.specs.Items.{is_separator};
 ghost use Rattle.spec_flow_text.specs.Matches.{MatchText, read_match};
-ghost use Rattle.text_laws.specs.PlainItems.{is_item};
+ghost use Rattle.text_laws.specs.ReadTexts.{OfSwappedItems};
 
 use crate::values::{addresses_are_within, masks_are_within, numbers_are_within};
 
@@ -12,18 +11,10 @@ use crate::values::{addresses_are_within, masks_are_within, numbers_are_within};
 /// Where one order is a fault so is the other, and the faults may differ: each is that of its first bad item, at the
 /// column where that stands.
 pub fn order_of_items_changes_nothing()
-    ensures alike { (word : EditWord) (at : ℕ) (front one other back : List ℕ)
-        (first second third : ℕ) (m : MatchText)
-        → IsTrue (is_separator first) → IsTrue (is_separator second) → IsTrue (is_separator third)
-        → IsTrue (is_item one) → IsTrue (is_item other) → at ≤ length front
-        → read_match word at (front ++ first ∷ (one ++ second ∷ (other ++ third ∷ back))) ≡ Ok m
-        → read_match word at (front ++ first ∷ (other ++ second ∷ (one ++ third ∷ back))) ≡ Ok m }
-    ensures faults { (word : EditWord) (at : ℕ) (front one other back : List ℕ)
-        (first second third : ℕ)
-        → IsTrue (is_separator first) → IsTrue (is_separator second) → IsTrue (is_separator third)
-        → IsTrue (is_item one) → IsTrue (is_item other) → at ≤ length front
-        → is_ok (read_match word at (front ++ first ∷ (one ++ second ∷ (other ++ third ∷ back))))
-        ≡ is_ok (read_match word at (front ++ first ∷ (other ++ second ∷ (one ++ third ∷ back)))) }
+    ensures alike { (word : EditWord) → OfSwappedItems (λ at line swapped.
+        (m : MatchText) → read_match word at line ≡ Ok m → read_match word at swapped ≡ Ok m) }
+    ensures faults { (word : EditWord) → OfSwappedItems (λ at line swapped.
+        is_ok (read_match word at line) ≡ is_ok (read_match word at swapped)) }
 {
     numbers_are_within();
     addresses_are_within();

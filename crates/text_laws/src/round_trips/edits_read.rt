@@ -1,13 +1,8 @@
-ghost use Rattle.std.specs.Prelude.{◌≡◌, ℕ, not, List, [], ◌++◌, length, Some, None, Ok, IsTrue, codes};
-ghost use Rattle.std.specs.List.{list_all};
-ghost use Rattle.spec_tables.specs.declared.edit_word.EditWord.{EditWord};
+ghost use Rattle.std.specs.Prelude.{◌≡◌, ℕ, List, Ok, IsTrue};
 ghost use Rattle.spec_tables.specs.Edits.{Edit};
-ghost use Rattle.spec_flow_text.specs.Items.{deletes};
-ghost use Rattle.spec_flow_text.specs.Matches.{uncommented};
-ghost use Rattle.spec_flow_text.specs.Actions.{is_respellable};
-ghost use Rattle.spec_flow_text.specs.Printed.{match_printed, actions_printed};
-ghost use Rattle.spec_flow_text.specs.Lines.{edit, edit_from, edit_in};
-ghost use Rattle.text_laws.specs.SpelledMatches.{match_alone};
+ghost use Rattle.spec_flow_text.specs.Lines.{edit_in};
+ghost use Rattle.text_laws.specs.Spelled.{are_respellable};
+ghost use Rattle.text_laws.specs.ReadBack.{FlowReadsBack, DeletionReadsBack};
 
 use crate::matches::printed_flow_reads_back;
 use crate::round_trips::{read_actions_can_be_spelled, read_match_can_be_spelled};
@@ -16,19 +11,10 @@ use crate::round_trips::{read_actions_can_be_spelled, read_match_can_be_spelled}
 /// than a deleting one; after a deleting word what is printed of the match does. Table, cookie and priority are no part of
 /// the print.
 pub fn read_edit_reads_back()
-    ensures flow { (line front : List ℕ) (e : Edit) (again : EditWord)
-        → edit_in line ≡ Ok e → IsTrue (list_all is_respellable e.actions)
-        → IsTrue (not (deletes again)) → uncommented front ≡ front
-        → edit_from again (length front)
-        (front ++ (match_printed e.matching ++ (codes ",actions=" ++ actions_printed e.actions)))
-        ≡ Ok (edit again
-        (match_alone e.matching
-        (Some (length (front ++ (match_printed e.matching ++ codes ",actions=")))))
-        e.actions) }
-    ensures alone { (line front : List ℕ) (e : Edit) (again : EditWord)
-        → edit_in line ≡ Ok e → IsTrue (deletes again) → uncommented front ≡ front
-        → edit_from again (length front) (front ++ match_printed e.matching)
-        ≡ Ok (edit again (match_alone e.matching None) []) }
+    ensures flow { (line : List ℕ) (e : Edit)
+        → edit_in line ≡ Ok e → IsTrue (are_respellable e.actions)
+        → FlowReadsBack e.matching e.actions }
+    ensures alone { (line : List ℕ) (e : Edit) → edit_in line ≡ Ok e → DeletionReadsBack e.matching }
 {
     read_match_can_be_spelled();
     read_actions_can_be_spelled();

@@ -4,7 +4,7 @@ use Rattle.text_laws.proofs.ActionsBack.{action_back}
 use Rattle.text_laws.proofs.read_back.printed_action_reads_back.Goals as goal
 
 pub returns : goal.returns
-returns c only last place action h g =
+returns c only last action h g place =
     let texts : ValueTexts = record {
       four_digits = c.numbers_have_value_characters.ensures.hexadecimal4;
       macs = c.addresses_have_value_characters.ensures.mac;

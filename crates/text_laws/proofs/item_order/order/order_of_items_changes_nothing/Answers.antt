@@ -3,7 +3,7 @@ use Rattle.text_laws.proofs.item_order.SwappedLines.{line_alike, both_read}
 use Rattle.text_laws.proofs.item_order.order.order_of_items_changes_nothing.Goals as goal
 
 pub returns-clause-alike : goal.returns-clause-alike
-returns-clause-alike c word at front one other back s t u m es et eu i j le h =
+returns-clause-alike c word at front one other back s t u es et eu i j le m h =
     let k : ReadRanges = record {
       numbers = c.numbers_are_within.ensures;
       macs = c.addresses_are_within.ensures.mac;

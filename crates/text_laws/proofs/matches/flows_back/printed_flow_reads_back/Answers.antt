@@ -9,7 +9,7 @@ use Rattle.text_laws.proofs.matches.FlowTexts.{spelled_sound, before_list, list_
 use Rattle.text_laws.proofs.matches.flows_back.printed_flow_reads_back.Goals as goal
 
 pub returns-clause-flow : goal.returns-clause-flow
-returns-clause-flow c word front m actions add clean s h =
+returns-clause-flow c m actions s h word front add clean =
     let texts : ValueTexts = record {
       four_digits = c.numbers_have_value_characters.ensures.hexadecimal4;
       macs = c.addresses_have_value_characters.ensures.mac;
@@ -33,10 +33,10 @@ returns-clause-flow c word front m actions add clean s h =
     } in
     let list = actions_printed actions in
     let plain = c.printed_actions_are_one_line.ensures actions (spelled_sound actions h) in
-    let matching = c.printed_match_reads_back.ensures.before_actions word front m list add clean s plain in
+    let matching = c.printed_match_reads_back.ensures.before_actions m list s plain word front add clean in
     let read = c.printed_actions_read_back.ensures.behind (before_list front m) actions (front_clean r front m clean s) h in
     flow_read word (length front) (front ++ (match_printed m ++ (codes ",actions=" ++ list))) (match_alone m (Some (length (before_list front m)))) (length (before_list front m)) actions matching refl (ap (read_actions (length (before_list front m))) (list_behind front m list) ∙ read)
 
 pub returns-clause-alone : goal.returns-clause-alone
-returns-clause-alone c word front m delete clean s =
-    match_read_alone word (length front) (front ++ match_printed m) (match_alone m None) (c.printed_match_reads_back.ensures.alone word front m delete clean s) refl
+returns-clause-alone c m s word front delete clean =
+    match_read_alone word (length front) (front ++ match_printed m) (match_alone m None) (c.printed_match_reads_back.ensures.alone m s word front delete clean) refl

@@ -10,7 +10,7 @@ use Rattle.text_laws.proofs.matches.LinesBack.{alone_back, listed_back}
 use Rattle.text_laws.proofs.matches.matches_back.printed_match_reads_back.Goals as goal
 
 pub returns-clause-alone : goal.returns-clause-alone
-returns-clause-alone c word front m delete clean s =
+returns-clause-alone c m s word front delete clean =
     let texts : ValueTexts = record {
       four_digits = c.numbers_have_value_characters.ensures.hexadecimal4;
       macs = c.addresses_have_value_characters.ensures.mac;
@@ -35,7 +35,7 @@ returns-clause-alone c word front m delete clean s =
     alone_back r word front m delete clean s
 
 pub returns-clause-before_actions : goal.returns-clause-before_actions
-returns-clause-before_actions c word front m list add clean s plain =
+returns-clause-before_actions c m list s plain word front add clean =
     let texts : ValueTexts = record {
       four_digits = c.numbers_have_value_characters.ensures.hexadecimal4;
       macs = c.addresses_have_value_characters.ensures.mac;

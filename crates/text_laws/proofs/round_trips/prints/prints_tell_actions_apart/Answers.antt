@@ -14,6 +14,6 @@ same_list xs ys r h k = cc
 
 pub returns-clause-apart : goal.returns-clause-apart
 returns-clause-apart c at place line text actions others h k again too e =
-    let first = c.read_actions_read_back.ensures at line [] actions h again refl in
-    let second = c.read_actions_read_back.ensures place text [] others k too refl in
+    let first = c.read_actions_read_back.ensures at line actions h again [] refl in
+    let second = c.read_actions_read_back.ensures place text others k too [] refl in
     same_list actions others (read_actions 0 (actions_printed actions)) first (ap (read_actions 0) e ∙ second)

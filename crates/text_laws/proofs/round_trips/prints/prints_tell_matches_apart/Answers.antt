@@ -16,6 +16,6 @@ same_match m n r h k = let same : match_alone m None ≡ match_alone n None = cc
 
 pub returns-clause-apart : goal.returns-clause-apart
 returns-clause-apart c one other at place line text t u h k e =
-    let first = c.read_match_reads_back.ensures.alone one Delete at line [] t h refl refl in
-    let second = c.read_match_reads_back.ensures.alone other Delete place text [] u k refl refl in
+    let first = c.read_match_reads_back.ensures.alone one at line t h Delete [] refl refl in
+    let second = c.read_match_reads_back.ensures.alone other place text u k Delete [] refl refl in
     same_match t.matching u.matching (read_match Delete 0 (match_printed t.matching)) first (ap (read_match Delete 0) e ∙ second)
