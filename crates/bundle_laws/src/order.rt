@@ -1,6 +1,6 @@
-ghost use Rattle.std.specs.Prelude.{◌≡◌, ℕ, ◌+◌, ◌<◌, ◌≤◌, ◌++◌, List, length, take};
-ghost use Rattle.spec_tables.specs.Edits.{Edit};
+ghost use Rattle.std.specs.Prelude.{◌≡◌, ℕ, ◌+◌, ◌≤◌, ◌++◌, List, length, take};
 ghost use Rattle.spec_tables.specs.Bundles.{bundle, edits_through, AreBundles};
+ghost use Rattle.bundle_laws.specs.Following.{OfBundles};
 
 /// Edits through bundles rise, up to all of them.
 pub fn bundles_have_their_edits()
@@ -14,12 +14,10 @@ pub fn bundles_have_their_edits()
 
 /// The edits through a bundle are those before it, and then its own.
 pub fn edits_of_bundles_follow_each_other()
-    ensures after { (edits : List Edit) (bundles : List ℕ) (v : ℕ) → AreBundles bundles (length edits)
-        → v < length bundles
-        → take (edits_through bundles v) edits ++ bundle edits bundles (v + 1)
-        ≡ take (edits_through bundles (v + 1)) edits }
-    ensures count { (edits : List Edit) (bundles : List ℕ) (v : ℕ) → AreBundles bundles (length edits)
-        → v < length bundles
-        → edits_through bundles v + length (bundle edits bundles (v + 1))
-        ≡ edits_through bundles (v + 1) }
+    ensures after { OfBundles (λ edits bundles v.
+        take (edits_through bundles v) edits ++ bundle edits bundles (v + 1)
+        ≡ take (edits_through bundles (v + 1)) edits) }
+    ensures count { OfBundles (λ edits bundles v.
+        edits_through bundles v + length (bundle edits bundles (v + 1))
+        ≡ edits_through bundles (v + 1)) }
 {}
