@@ -1,5 +1,5 @@
 -- Where the headers of a frame stand, and where they end.
-use Rattle.std.specs.Prelude.{◌≡◌, ℕ, ◌+◌, ◌*◌, ◌-◌, ◌≤◌, Bool, true, false, ◌||◌, List, length}
+use Rattle.std.specs.Prelude.{◌≡◌, ℕ, ◌+◌, ◌*◌, ◌-◌, ◌≤◌, Bool, true, false, ◌||◌, List, length, IsTrue}
 use Rattle.spec_base.specs.Bytes.{big_endian_at}
 use Rattle.spec_frames.specs.declared.headers.Network.{Network}
 use Rattle.spec_frames.specs.declared.headers.Network.TheVariants as network
@@ -22,6 +22,16 @@ is_ipv6 other = false
 
 abbrev pub is_ip : L3 → Bool
 is_ip header = is_ipv4 header || is_ipv6 header
+
+-- The layout of a frame names a header of IPv4, one of IPv6, or one of either.
+abbrev pub HasIpv4 : List ℕ → Type 0
+HasIpv4 frame = IsTrue (is_ipv4 (layout_of frame).l3)
+
+abbrev pub HasIpv6 : List ℕ → Type 0
+HasIpv6 frame = IsTrue (is_ipv6 (layout_of frame).l3)
+
+abbrev pub HasIp : List ℕ → Type 0
+HasIp frame = IsTrue (is_ip (layout_of frame).l3)
 
 -- where a packet with this network header ends, by the size that the header gives
 abbrev pub end_by : List ℕ → L3 → ℕ

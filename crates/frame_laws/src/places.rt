@@ -1,4 +1,4 @@
-ghost use Rattle.std.specs.Prelude.{◌≡◌, ℕ, ◌↔◌, List, IsTrue};
+ghost use Rattle.std.specs.Prelude.{◌≡◌, ℕ, ◌↔◌, List};
 ghost use Rattle.spec_keys.specs.Protocols.{arp_type, ipv4_type, ipv6_type, tcp_protocol, udp_protocol, icmp_protocol, icmp6_protocol};
 ghost use Rattle.spec_frames.specs.declared.layout.L3.TheVariants as l3;
 ghost use Rattle.spec_frames.specs.declared.layout.L4.TheVariants.{Tcp, Udp, Icmp, Icmp6};
@@ -8,23 +8,23 @@ ghost use Rattle.spec_frames.specs.Ipv6 as ipv6;
 ghost use Rattle.spec_frames.specs.Transport.{tcp_size, udp_size, icmp_size, icmp6_size};
 ghost use Rattle.spec_frames.specs.Key.{key_of};
 ghost use Rattle.spec_frames.specs.Layout.{layout_of};
-ghost use Rattle.frame_laws.specs.Headers.{is_ip, is_ipv4, is_ipv6, FollowsType, FollowsIp};
+ghost use Rattle.frame_laws.specs.Headers.{HasIp, HasIpv4, HasIpv6, FollowsType, FollowsIp};
 ghost use Rattle.frame_laws.specs.Numbers.{Carries};
 
 /// In a frame with an IP header the layout names a transport header at an offset exactly where the packet is no later
 /// fragment, its protocol is that one, it begins there, and as many bytes of it are there as this profile asks for: 20
 /// of TCP, 8 of UDP, 8 of ICMP, over IPv4 alone, and 4 of ICMPv6, over IPv6 alone.
 pub fn transport_is_named_where_it_stands()
-    ensures tcp { (port : ℕ) (frame : List ℕ) (at : ℕ) → IsTrue (is_ip (layout_of frame).l3)
+    ensures tcp { (port : ℕ) (frame : List ℕ) (at : ℕ) → HasIp frame
         → (layout_of frame).l4 ≡ Tcp at ↔ Carries frame (key_of port frame) tcp_protocol tcp_size at }
-    ensures udp { (port : ℕ) (frame : List ℕ) (at : ℕ) → IsTrue (is_ip (layout_of frame).l3)
+    ensures udp { (port : ℕ) (frame : List ℕ) (at : ℕ) → HasIp frame
         → (layout_of frame).l4 ≡ Udp at ↔ Carries frame (key_of port frame) udp_protocol udp_size at }
-    ensures icmp { (port : ℕ) (frame : List ℕ) (at : ℕ) → IsTrue (is_ip (layout_of frame).l3)
+    ensures icmp { (port : ℕ) (frame : List ℕ) (at : ℕ) → HasIp frame
         → (layout_of frame).l4 ≡ Icmp at
-        ↔ (IsTrue (is_ipv4 (layout_of frame).l3) × Carries frame (key_of port frame) icmp_protocol icmp_size at) }
-    ensures icmp6 { (port : ℕ) (frame : List ℕ) (at : ℕ) → IsTrue (is_ip (layout_of frame).l3)
+        ↔ (HasIpv4 frame × Carries frame (key_of port frame) icmp_protocol icmp_size at) }
+    ensures icmp6 { (port : ℕ) (frame : List ℕ) (at : ℕ) → HasIp frame
         → (layout_of frame).l4 ≡ Icmp6 at
-        ↔ (IsTrue (is_ipv6 (layout_of frame).l3) × Carries frame (key_of port frame) icmp6_protocol icmp6_size at) }
+        ↔ (HasIpv6 frame × Carries frame (key_of port frame) icmp6_protocol icmp6_size at) }
 {}
 
 /// The headers that the layout names follow each other and lie in the frame. A network header begins after its type
