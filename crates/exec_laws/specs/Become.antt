@@ -14,6 +14,8 @@ use Rattle.spec_xlate.specs.Tags.{tag_fields, tags_of, is_full}
 use Rattle.spec_xlate.specs.Commit.{commit}
 use Rattle.translation_laws.specs.Applied.{is_proper}
 use Rattle.exec_laws.specs.ReadBack.{AreBytes, shows}
+use Rattle.spec_exec.specs.Sent.{sent}
+use Rattle.exec_laws.specs.Sends.{keys_of, after_actions}
 
 -- whether a third tag stands after the first two: no key shows it
 abbrev pub has_third_tag : List ℕ → Bool
@@ -45,6 +47,10 @@ pub record CanTurn (port : ℕ) (frame key : List ℕ) : Type 0 where
   -- Where it has less than two tags, no third tag of the frame comes to stand where the second one was.
   pub uncovers_none : is_full key ≡ false → has_third_tag frame ≡ false
 
+-- the frame after a commit from its own key to this one
+abbrev pub committed : ℕ → List ℕ → List ℕ → List ℕ
+committed port frame key = after_actions (commit (key_of port frame) key) frame
+
 -- ---- the whole key
 
 -- whether a field is metadata or a register, which no frame carries
@@ -73,3 +79,11 @@ pub record KeyedOutput : Type 0 where
 unfoldable pub outputs_of : List ℕ → List KeyedOutput → List DpAction
 outputs_of base [] = []
 outputs_of base (o ∷ outputs) = commit base o.key ++ (Output o.port ∷ outputs_of o.key outputs)
+
+-- Each output has a key that the frame can come to have.
+abbrev pub CanBecomeEach : ℕ → List ℕ → List KeyedOutput → Type 0
+CanBecomeEach port frame outputs = All (λ o. CanBecome port frame o.key) outputs
+
+-- the keys of what outputs send of a frame, after commits that begin at the frame's key
+abbrev pub keys_sent : ℕ → List ℕ → List KeyedOutput → List (List ℕ)
+keys_sent port frame outputs = keys_of port (sent (outputs_of (key_of port frame) outputs) frame)

@@ -32,13 +32,17 @@ can_change key field.TpSrc = is_met needs.TcpOrUdp key
 can_change key field.TpDst = is_met needs.TcpOrUdp key
 can_change key f = true
 
+-- A key has the packet's values in what no action can write.
+abbrev pub KeepsTheRest : List ℕ → List ℕ → Type 0
+KeepsTheRest packet key = (f : FieldId) → can_change packet f ≡ false → value_of key f ≡ value_of packet f
+
 -- A key that flow actions can make of a packet's: a number for each field, within its width; tags that are proper and of types
 -- that tags have; and what no action can write is the packet's.
 pub record IsMadeOf (packet key : List ℕ) : Type 0 where
   pub is_key : IsKey key
   pub has_proper_tags : IsTrue (is_proper key)
   pub has_tag_types : HasTagTypes key
-  pub others_stay : (f : FieldId) → can_change packet f ≡ false → value_of key f ≡ value_of packet f
+  pub others_stay : KeepsTheRest packet key
 
 -- whether an action pushes a tag of a type that tags have, if it pushes one; a sound action does
 abbrev pub pushes_tags : OfAction → Bool

@@ -18,6 +18,7 @@ use Rattle.frame_laws.specs.Headers.{is_ipv4, is_ipv6}
 use Rattle.exec_laws.specs.ReadBack.{AreBytes}
 use Rattle.exec_laws.specs.Become.{has_third_tag, KeyedOutput}
 use Rattle.exec_laws.specs.Outputs.{translation_outputs}
+use Rattle.exec_laws.specs.Made.{PushTags}
 
 -- what the switch sends of a frame that came in at a port
 abbrev pub pieces_of : Switch → ℕ → List ℕ → List Piece
@@ -56,3 +57,10 @@ pub record HasItsHeaders (port : ℕ) (frame : List ℕ) : Type 0 where
   pub ipv4 : IsTrue (is_met needs.Ipv4 (key_of port frame)) → IsTrue (is_ipv4 (layout_of frame).l3)
   pub ipv6 : IsTrue (is_met needs.Ipv6 (key_of port frame)) → IsTrue (is_ipv6 (layout_of frame).l3)
   pub transport : IsTrue (is_met needs.TcpOrUdp (key_of port frame)) → IsTrue (has_ports (layout_of frame).l4)
+
+-- It holds of each frame that comes in at a switch whose rules push tags of the types that tags have, where no third tag
+-- comes in view.
+abbrev pub OfFrames : (Switch → ℕ → List ℕ → Type 0) → Type 0
+OfFrames claim =
+    (sw : Switch) (port : ℕ) (frame : List ℕ)
+    → PushTags sw → IsReceived port frame → UncoverNone frame (frame_outputs sw port frame) → claim sw port frame

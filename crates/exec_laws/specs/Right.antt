@@ -1,5 +1,5 @@
 -- Checksums that are right, by the words that they cover.
-use Rattle.std.specs.Prelude.{◌≡◌, ◌≢◌, ℕ, zero, suc, ◌+◌, ◌-◌, ◌/◌, ◌%◌, ◌<◌, ◌≤◌, List, [], ◌∷◌, ◌++◌, take, All}
+use Rattle.std.specs.Prelude.{◌≡◌, ◌≢◌, ℕ, zero, suc, ◌+◌, ◌-◌, ◌/◌, ◌%◌, ◌<◌, ◌≤◌, List, [], ◌∷◌, ◌++◌, take, All, true}
 use Rattle.spec_base.specs.Bytes.{big_endian_at}
 use Rattle.spec_keys.specs.Protocols.{tcp_protocol, udp_protocol, icmp6_protocol}
 use Rattle.spec_exec.specs.Checksum.{words, ones_sum}
@@ -11,6 +11,8 @@ use Rattle.spec_frames.specs.Ipv4 as ipv4
 use Rattle.spec_frames.specs.Transport.{udp_size}
 use Rattle.spec_frames.specs.Layout.{layout_of}
 use Rattle.frame_laws.specs.Headers.{end_by}
+use Rattle.spec_actions.specs.declared.action.DpAction.{DpAction}
+use Rattle.spec_exec.specs.Sent.{Piece, sent}
 
 -- Words with their checksum among them are right: their sum in ones' complement is all ones (RFC 1071, section 1).
 abbrev pub IsRight : List ℕ → Type 0
@@ -100,3 +102,19 @@ HasSumBy frame other = Unit {0}
 
 abbrev pub HasTransportSum : List ℕ → Type 0
 HasTransportSum frame = HasSumBy frame (layout_of frame).l4
+
+-- ---- checksums that stay right
+
+-- Words that were right in a frame are right in what it became.
+abbrev pub StayRight : (List ℕ → List ℕ) → List ℕ → List ℕ → Type 0
+StayRight words_in frame after = IsRight (words_in frame) → IsRight (words_in after)
+
+-- Words that are right in a frame are right in each piece that actions send of it.
+abbrev pub AreSentRight : (List ℕ → List ℕ) → List DpAction → List ℕ → Type 0
+AreSentRight words_in actions frame =
+    IsRight (words_in frame) → All (λ (piece : Piece). IsRight (words_in piece.bytes)) (sent actions frame)
+
+-- The frame has a packet of IPv6, which begins here and is on its way to a final destination.
+pub record IsOnItsWay (frame : List ℕ) (begin : ℕ) : Type 0 where
+  pub ipv6 : (layout_of frame).l3 ≡ l3.Ipv6 begin
+  pub routed : (layout_of frame).routed ≡ true

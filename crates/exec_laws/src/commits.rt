@@ -1,4 +1,4 @@
-ghost use Rattle.std.specs.Prelude.{◌≡◌, ℕ, ◌≤◌, false, List, [], ◌∷◌, ◌++◌, map, length, All};
+ghost use Rattle.std.specs.Prelude.{◌≡◌, ℕ, ◌≤◌, false, List, [], ◌∷◌, ◌++◌, map, length};
 ghost use Rattle.spec_keys.specs.declared.field_id.FieldId.{FieldId};
 ghost use Rattle.spec_frames.specs.Ethernet.{header_size};
 ghost use Rattle.spec_frames.specs.Key.{key_of};
@@ -6,17 +6,17 @@ ghost use Rattle.spec_actions.specs.declared.action.DpAction.TheVariants.{Output
 ghost use Rattle.spec_xlate.specs.Commit.{commit};
 ghost use Rattle.spec_exec.specs.Sent.{Piece, sent};
 ghost use Rattle.exec_laws.specs.ReadBack.{shows};
-ghost use Rattle.exec_laws.specs.Sends.{after_actions};
-ghost use Rattle.exec_laws.specs.Become.{has_third_tag, turned, CanTurn, without_registers, CanBecome, KeyedOutput, outputs_of};
+ghost use Rattle.exec_laws.specs.Sends.{after_actions, keys_of};
+ghost use Rattle.exec_laws.specs.Become.{has_third_tag, turned, CanTurn, without_registers, CanBecome, KeyedOutput, outputs_of, committed, CanBecomeEach, keys_sent};
 
 /// The actions that commit appends turn a frame of the base key into one of the current key. In its tags, and in each
 /// field whose header is there, the frame's key is then the current one, and in the others it is as it was. Where
 /// those are the same, metadata and registers aside, it is the current key as a whole.
 pub fn commits_turn_the_frame()
     ensures field_by_field { (port : ℕ) (frame key : List ℕ) → CanTurn port frame key
-        → key_of port (after_actions (commit (key_of port frame) key) frame) ≡ turned port frame key }
+        → key_of port (committed port frame key) ≡ turned port frame key }
     ensures as_a_whole { (port : ℕ) (frame key : List ℕ) → CanBecome port frame key
-        → key_of port (after_actions (commit (key_of port frame) key) frame) ≡ without_registers key }
+        → key_of port (committed port frame key) ≡ without_registers key }
 {}
 
 /// What a second commit needs of the frame that a first one leaves: a whole Ethernet header, the fields that the frame
@@ -24,11 +24,11 @@ pub fn commits_turn_the_frame()
 /// to its base, as between two outputs at once, is no action.
 pub fn commits_follow_each_other()
     ensures whole { (port : ℕ) (frame key : List ℕ) → CanTurn port frame key
-        → header_size ≤ length (after_actions (commit (key_of port frame) key) frame) }
+        → header_size ≤ length (committed port frame key) }
     ensures shown { (port : ℕ) (frame key : List ℕ) → CanTurn port frame key → (f : FieldId)
-        → shows port (after_actions (commit (key_of port frame) key) frame) f ≡ shows port frame f }
+        → shows port (committed port frame key) f ≡ shows port frame f }
     ensures two_tags { (port : ℕ) (frame key : List ℕ) → CanTurn port frame key → has_third_tag frame ≡ false
-        → has_third_tag (after_actions (commit (key_of port frame) key) frame) ≡ false }
+        → has_third_tag (committed port frame key) ≡ false }
     ensures base { (key next : List ℕ) → commit (without_registers key) next ≡ commit key next }
     ensures same { (key : List ℕ) → commit key key ≡ [] }
 {}
@@ -39,7 +39,7 @@ pub fn an_output_sends_the_current_key()
         → sent (commit base key ++ Output n ∷ []) frame
         ≡ record { port = n; bytes = after_actions (commit base key) frame } ∷ [] }
     ensures key { (port : ℕ) (frame key : List ℕ) (n : ℕ) → CanBecome port frame key
-        → map (λ piece. key_of port piece.bytes) (sent (commit (key_of port frame) key ++ Output n ∷ []) frame)
+        → keys_of port (sent (commit (key_of port frame) key ++ Output n ∷ []) frame)
         ≡ without_registers key ∷ [] }
 {}
 
@@ -49,7 +49,6 @@ pub fn each_output_sends_its_key()
     ensures ports { (base frame : List ℕ) (outputs : List KeyedOutput)
         → map (λ piece. piece.port) (sent (outputs_of base outputs) frame) ≡ map (λ o. o.port) outputs }
     ensures keys { (port : ℕ) (frame : List ℕ) (outputs : List KeyedOutput)
-        → All (λ o. CanBecome port frame o.key) outputs
-        → map (λ piece. key_of port piece.bytes) (sent (outputs_of (key_of port frame) outputs) frame)
-        ≡ map (λ o. without_registers o.key) outputs }
+        → CanBecomeEach port frame outputs
+        → keys_sent port frame outputs ≡ map (λ o. without_registers o.key) outputs }
 {}

@@ -1,16 +1,15 @@
 ghost use Rattle.std.specs.Prelude.{◌≡◌, ℕ, ◌+◌, ◌<◌, ◌≤◌, List, length, slice_index};
 ghost use Rattle.spec_keys.specs.declared.field_id.FieldId.{FieldId};
 ghost use Rattle.spec_frames.specs.Ethernet.{header_size, type_at, tag_size, tag_count};
-ghost use Rattle.spec_frames.specs.Layout.{layout_of};
-ghost use Rattle.spec_actions.specs.declared.action.DpAction.TheVariants.{PopVlan, PushVlan, Set};
-ghost use Rattle.spec_exec.specs.Places.{place_in, sums_of};
+ghost use Rattle.spec_actions.specs.declared.action.DpAction.TheVariants.{PopVlan, PushVlan};
 ghost use Rattle.spec_exec.specs.Rewriting.{after_action};
-ghost use Rattle.exec_laws.specs.Elsewhere.{IsNoPlace, IsNoSum};
+ghost use Rattle.exec_laws.specs.Elsewhere.{IsElsewhere};
+ghost use Rattle.exec_laws.specs.ReadBack.{written};
 
 /// A write keeps the length of any frame. A tag that is pushed adds four bytes, and one that is popped takes them away.
 pub fn only_tags_change_the_length()
     ensures set { (f : FieldId) (value mask : ℕ) (frame : List ℕ)
-        → length (after_action (Set f value mask) frame) ≡ length frame }
+        → length (written f value mask frame) ≡ length frame }
     ensures push { (tpid tci : ℕ) (frame : List ℕ)
         → header_size ≤ length frame → length (after_action (PushVlan tpid tci) frame) ≡ length frame + tag_size }
     ensures pop { (frame : List ℕ)
@@ -20,8 +19,7 @@ pub fn only_tags_change_the_length()
 /// A write changes no byte but those of its field and of the checksums that cover it.
 pub fn other_bytes_stay()
     ensures { (f : FieldId) (value mask : ℕ) (frame : List ℕ) (i : ℕ)
-        → IsNoPlace i (place_in (layout_of frame) f) → IsNoSum i (sums_of (layout_of frame) f)
-        → slice_index (after_action (Set f value mask) frame) i ≡ slice_index frame i }
+        → IsElsewhere frame f i → slice_index (written f value mask frame) i ≡ slice_index frame i }
 {}
 
 /// The outer tag stands after the addresses, which are the first 12 bytes. The bytes that follow it are those that follow the

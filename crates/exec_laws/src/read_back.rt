@@ -1,24 +1,23 @@
-ghost use Rattle.std.specs.Prelude.{◌≡◌, ℕ, ◌<◌, ◌≤◌, ◌^◌, true, false, List, length, bit_or};
+ghost use Rattle.std.specs.Prelude.{◌≡◌, ℕ, ◌<◌, ◌≤◌, ◌^◌, true, false, List, length};
 ghost use Rattle.spec_keys.specs.declared.field_id.FieldId.{FieldId};
 ghost use Rattle.spec_keys.specs.Fields.{width_of};
-ghost use Rattle.spec_keys.specs.Protocols.{tag_bit, is_tag_type};
+ghost use Rattle.spec_keys.specs.Protocols.{is_tag_type};
 ghost use Rattle.spec_frames.specs.Ethernet.{header_size, tag_count};
 ghost use Rattle.spec_frames.specs.Layout.{layout_of};
 ghost use Rattle.spec_frames.specs.Key.{key_of};
 ghost use Rattle.spec_actions.specs.declared.action.DpAction.{DpAction};
-ghost use Rattle.spec_actions.specs.declared.action.DpAction.TheVariants.{PopVlan, PushVlan, Set};
+ghost use Rattle.spec_actions.specs.declared.action.DpAction.TheVariants.{PopVlan};
 ghost use Rattle.spec_exec.specs.Places.{place_in};
 ghost use Rattle.spec_exec.specs.Rewriting.{after_action};
-ghost use Rattle.spec_xlate.specs.Tags.{VlanTag, outer_tag, inner_tag, with_tags, popped};
+ghost use Rattle.spec_xlate.specs.Tags.{popped};
 ghost use Rattle.exec_laws.specs.Become.{has_third_tag};
-ghost use Rattle.exec_laws.specs.ReadBack.{AreBytes, shows, ReadsBack};
+ghost use Rattle.exec_laws.specs.ReadBack.{IsWholeFrame, written, shows, ReadsBack, PushReadsBack, ReplaceReadsBack};
 
 /// A field whose header is there reads back: the frame's key has the bits that were written, and all other bits as
 /// before. Those are the addresses of Ethernet, the fields of ARP, of IPv4 and of IPv6, and the ports of TCP and UDP
 /// over either IP, unless the packet is a fragment.
 pub fn fields_read_back()
-    ensures { (port : ℕ) (frame : List ℕ) (f : FieldId) (value mask : ℕ)
-        → AreBytes frame → header_size ≤ length frame
+    ensures { (port : ℕ) (frame : List ℕ) (f : FieldId) (value mask : ℕ) → IsWholeFrame frame
         → shows port frame f ≡ true → mask < 2 ^ width_of f → ReadsBack port frame f value mask }
 {}
 
@@ -26,10 +25,10 @@ pub fn fields_read_back()
 /// fragment, leaves the key as it is.
 pub fn other_fields_stay()
     ensures absent { (frame : List ℕ) (f : FieldId) (value mask : ℕ)
-        → place_in (layout_of frame) f ≡ None → after_action (Set f value mask) frame ≡ frame }
+        → place_in (layout_of frame) f ≡ None → written f value mask frame ≡ frame }
     ensures hidden { (port : ℕ) (frame : List ℕ) (f : FieldId) (value mask : ℕ)
-        → AreBytes frame → header_size ≤ length frame
-        → shows port frame f ≡ false → key_of port (after_action (Set f value mask) frame) ≡ key_of port frame }
+        → IsWholeFrame frame → shows port frame f ≡ false
+        → key_of port (written f value mask frame) ≡ key_of port frame }
 {}
 
 /// A frame of fewer than 14 bytes, which has no whole Ethernet header, stays as it is whatever the action, and one without
@@ -48,12 +47,10 @@ pub fn frames_without_the_header_stay()
 pub fn tags_read_back()
     ensures push { (port tpid tci : ℕ) (frame : List ℕ)
         → header_size ≤ length frame → tag_count frame ≤ 1 → is_tag_type tpid ≡ true → tci < 2 ^ 16
-        → key_of port (after_action (PushVlan tpid tci) frame)
-        ≡ with_tags (record { tpid = tpid; tci = bit_or tci tag_bit }) (outer_tag (key_of port frame)) (key_of port frame) }
+        → PushReadsBack port frame tpid tci }
     ensures replace { (port tpid tci : ℕ) (frame : List ℕ)
         → header_size ≤ length frame → 1 ≤ tag_count frame → is_tag_type tpid ≡ true → tci < 2 ^ 16
-        → key_of port (after_action (PushVlan tpid tci) (after_action PopVlan frame))
-        ≡ with_tags (record { tpid = tpid; tci = bit_or tci tag_bit }) (inner_tag (key_of port frame)) (key_of port frame) }
+        → ReplaceReadsBack port frame tpid tci }
     ensures pop { (port : ℕ) (frame : List ℕ)
         → header_size ≤ length frame → 1 ≤ tag_count frame → has_third_tag frame ≡ false
         → key_of port (after_action PopVlan frame) ≡ popped (key_of port frame) }

@@ -1,15 +1,15 @@
-ghost use Rattle.std.specs.Prelude.{ℕ, List, All};
+ghost use Rattle.std.specs.Prelude.{ℕ, List};
 ghost use Rattle.spec_actions.specs.declared.action.DpAction.{DpAction};
-ghost use Rattle.spec_exec.specs.Sent.{Piece, sent};
 ghost use Rattle.exec_laws.specs.ReadBack.{AreBytes};
-ghost use Rattle.exec_laws.specs.Right.{IsRight, header_words, transport_words, HasTransportSum};
+ghost use Rattle.exec_laws.specs.Right.{header_words, transport_words, HasTransportSum, AreSentRight};
 ghost use Rattle.exec_laws.specs.Followed.{AreFollowed};
 
 /// Each piece that actions send of a frame has a right IPv4 header checksum if the frame has one, and likewise a right
 /// checksum of its transport header. The actions are any outputs, writes and tags that checksums follow.
 pub fn what_is_sent_has_right_checksums()
-    ensures header { (actions : List DpAction) (frame : List ℕ) → AreBytes frame → AreFollowed actions frame
-        → IsRight (header_words frame) → All (λ (piece : Piece). IsRight (header_words piece.bytes)) (sent actions frame) }
-    ensures transport { (actions : List DpAction) (frame : List ℕ) → AreBytes frame → HasTransportSum frame → AreFollowed actions frame
-        → IsRight (transport_words frame) → All (λ (piece : Piece). IsRight (transport_words piece.bytes)) (sent actions frame) }
+    ensures header { (actions : List DpAction) (frame : List ℕ) → AreBytes frame
+        → AreFollowed actions frame → AreSentRight header_words actions frame }
+    ensures transport { (actions : List DpAction) (frame : List ℕ) → AreBytes frame
+        → HasTransportSum frame → AreFollowed actions frame
+        → AreSentRight transport_words actions frame }
 {}

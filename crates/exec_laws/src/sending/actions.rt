@@ -1,12 +1,11 @@
-ghost use Rattle.std.specs.Prelude.{◌≡◌, ℕ, false, IsTrue, List, All};
-ghost use Rattle.spec_keys.specs.declared.field_id.FieldId.{FieldId};
-ghost use Rattle.spec_keys.specs.Keys.{value_of, IsKey};
+ghost use Rattle.std.specs.Prelude.{◌≡◌, ℕ, IsTrue, List, All};
+ghost use Rattle.spec_keys.specs.Keys.{IsKey};
 ghost use Rattle.spec_actions.specs.Sound.{AreSound};
 ghost use Rattle.spec_xlate.specs.Translation.{Switch, pipe};
 ghost use Rattle.translation_laws.specs.Applied.{is_proper};
 ghost use Rattle.exec_laws.specs.Become.{HasTagTypes, outputs_of};
 ghost use Rattle.exec_laws.specs.Outputs.{translation_outputs};
-ghost use Rattle.exec_laws.specs.Made.{can_change, IsMadeOf, PushTags, is_way_out};
+ghost use Rattle.exec_laws.specs.Made.{KeepsTheRest, IsMadeOf, PushTags, is_way_out};
 
 /// The datapath actions of a translation are those of its outputs in order, each after a commit of the key that is then
 /// the current one, from the key of the output before it and at first from the packet's. They are none where the
@@ -26,7 +25,7 @@ pub fn outputs_are_made_of_the_packet()
     ensures tags { (sw : Switch) (key : List ℕ) → IsKey key → IsTrue (is_proper key)
         → All (λ o. IsTrue (is_proper o.key)) (translation_outputs sw key) }
     ensures others { (sw : Switch) (key : List ℕ) → IsKey key → IsTrue (is_proper key)
-        → All (λ o. (f : FieldId) → can_change key f ≡ false → value_of o.key f ≡ value_of key f) (translation_outputs sw key) }
+        → All (λ o. KeepsTheRest key o.key) (translation_outputs sw key) }
     ensures ports { (sw : Switch) (key : List ℕ) → IsKey key → IsTrue (is_proper key)
         → All (λ o. IsTrue (is_way_out sw key o.port)) (translation_outputs sw key) }
 {}

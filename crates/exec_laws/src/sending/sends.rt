@@ -3,9 +3,10 @@ ghost use Rattle.spec_frames.specs.Ethernet.{header_size};
 ghost use Rattle.spec_frames.specs.Key.{key_of};
 ghost use Rattle.spec_xlate.specs.Translation.{Switch};
 ghost use Rattle.spec_exec.specs.Sent.{Piece};
+ghost use Rattle.exec_laws.specs.Sends.{keys_of};
 ghost use Rattle.exec_laws.specs.Become.{turned, without_registers};
 ghost use Rattle.exec_laws.specs.Made.{IsMadeOf, PushTags};
-ghost use Rattle.exec_laws.specs.Received.{pieces_of, frame_outputs, IsReceived, UncoverNone, HasItsHeaders};
+ghost use Rattle.exec_laws.specs.Received.{pieces_of, frame_outputs, IsReceived, HasItsHeaders, OfFrames};
 
 /// What a switch sends of a frame is one frame for each output of the translation, at its port and in order. The key of what
 /// is sent has the tags of the current key, which is one made of the frame's key, and the value of that in each field
@@ -18,14 +19,11 @@ pub fn what_is_sent_has_the_current_keys()
         → map (λ piece. piece.port) (pieces_of sw port frame) ≡ map (λ o. o.port) (frame_outputs sw port frame) }
     ensures made { (sw : Switch) (port : ℕ) (frame : List ℕ) → PushTags sw → IsReceived port frame
         → All (λ o. IsMadeOf (key_of port frame) o.key) (frame_outputs sw port frame) }
-    ensures field_by_field { (sw : Switch) (port : ℕ) (frame : List ℕ)
-        → PushTags sw → IsReceived port frame → UncoverNone frame (frame_outputs sw port frame)
-        → map (λ piece. key_of port piece.bytes) (pieces_of sw port frame)
-        ≡ map (λ o. turned port frame o.key) (frame_outputs sw port frame) }
-    ensures as_a_whole { (sw : Switch) (port : ℕ) (frame : List ℕ)
-        → PushTags sw → IsReceived port frame → UncoverNone frame (frame_outputs sw port frame) → HasItsHeaders port frame
-        → map (λ piece. key_of port piece.bytes) (pieces_of sw port frame)
-        ≡ map (λ o. without_registers o.key) (frame_outputs sw port frame) }
+    ensures field_by_field { OfFrames (λ sw port frame. keys_of port (pieces_of sw port frame)
+        ≡ map (λ o. turned port frame o.key) (frame_outputs sw port frame)) }
+    ensures as_a_whole { OfFrames (λ sw port frame. HasItsHeaders port frame
+        → keys_of port (pieces_of sw port frame)
+        ≡ map (λ o. without_registers o.key) (frame_outputs sw port frame)) }
     ensures short { (sw : Switch) (port : ℕ) (frame : List ℕ) → length frame < header_size
         → pieces_of sw port frame ≡ map (λ o. record { port = o.port; bytes = frame }) (frame_outputs sw port frame) }
 {}

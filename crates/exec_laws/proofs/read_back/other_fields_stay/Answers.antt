@@ -5,4 +5,4 @@ pub returns-clause-absent : goal.returns-clause-absent
 returns-clause-absent c frame f value mask none = unplaced-stays f value mask frame none
 
 pub returns-clause-hidden : goal.returns-clause-hidden
-returns-clause-hidden c port frame f value mask bytes whole hidden = unshown-key port frame bytes whole value mask f hidden
+returns-clause-hidden c port frame f value mask is hidden = unshown-key port frame is.bytes is.whole value mask f hidden
