@@ -2,3 +2,4 @@ pub mod Entries
 pub mod Versions
 pub mod Counts
 pub mod Places
+pub mod Boards

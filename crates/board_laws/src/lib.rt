@@ -33,9 +33,11 @@
 //!
 //! # Premises
 //!
-//! Where keys are spoken of, the frames that were looked up have keys within the widths of their fields; frames of bytes
-//! that come in at a port of 16 bits have (`frames_of_bytes_have_keys`). Where versions are, the sync points stand in
-//! order. Without either premise there are legal journals at which the laws fail (`proofs/Premises`).
+//! The words of `specs/Boards` say of which boards and journals a law holds: of all that are legal (`OfBoards`). Where
+//! keys are spoken of, the frames that were looked up have keys within the widths of their fields (`OfKeyedBoards`);
+//! frames of bytes that come in at a port of 16 bits have (`frames_of_bytes_have_keys`). Where versions are, the sync
+//! points stand in order (`OfOrderedBoards`); where decisions and counts are, both hold (`OfJournals`). Without either
+//! premise there are legal journals at which the laws fail (`proofs/Premises`).
 //!
 //! # What is left to others
 //!
