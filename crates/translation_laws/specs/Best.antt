@@ -1,6 +1,7 @@
 -- What the winner of a table is, without a scan.
 use Rattle.std.specs.Prelude.{◌≡◌, ℕ, ◌≤◌, List, IsTrue, All, Any, Contains}
-use Rattle.spec_tables.specs.Rules.{Rule, is_matched}
+use Rattle.spec_tables.specs.Rules.{Rule, is_matched, winner}
+use Rattle.spec_xlate.specs.Lookup.{added, priority_to_beat, rules_from}
 
 -- A rule that matches a key. None that matches has a greater priority, and none of equal priority a lesser number.
 pub record IsBest (rules : List Rule) (key : List ℕ) (w : Rule) : Type 0 where
@@ -13,3 +14,11 @@ pub record IsBest (rules : List Rule) (key : List ℕ) (w : Rule) : Type 0 where
 pub record AreMasksOf (rules : List Rule) (masks : List (List ℕ)) : Type 0 where
   pub every : All (λ r. Contains masks r.matching.mask) rules
   pub only : All (λ m. Any (λ r. r.matching.mask ≡ m) rules) masks
+
+-- the rules that may beat the winner of a lookup or tie with it
+abbrev pub contenders : List Rule → List ℕ → List Rule
+contenders rules key = rules_from (priority_to_beat (winner rules key)) rules
+
+-- Two lists of masks add the same bits, whatever mask they are added to.
+abbrev pub AddTheSame : List (List ℕ) → List (List ℕ) → Type 0
+AddTheSame masks others = (mask : List ℕ) → added mask masks ≡ added mask others

@@ -1,3 +1,4 @@
 pub mod Best
 pub mod Applied
 pub mod Members
+pub mod Switches

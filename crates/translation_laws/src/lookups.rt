@@ -2,8 +2,8 @@ ghost use Rattle.std.specs.Prelude.{◌≡◌, ℕ, false, [], List, All, IfSome
 ghost use Rattle.std.specs.List.{flat_map};
 ghost use Rattle.spec_keys.specs.Keys.{agree, covers};
 ghost use Rattle.spec_tables.specs.Rules.{Rule, is_matched, winner};
-ghost use Rattle.spec_xlate.specs.Lookup.{added, union, probe, priority_to_beat, rules_from, consults};
-ghost use Rattle.translation_laws.specs.Best.{IsBest, AreMasksOf};
+ghost use Rattle.spec_xlate.specs.Lookup.{union, probe, consults};
+ghost use Rattle.translation_laws.specs.Best.{IsBest, AreMasksOf, contenders, AddTheSame};
 
 /// A lookup finds the best of the rules that match, and none exactly where none matches.
 pub fn winner_is_best()
@@ -24,9 +24,8 @@ pub fn lookup_consults_the_winners_mask()
 /// The masks are those of the rules that may beat the winner or tie with it.
 pub fn lookup_goes_by_masks()
     ensures { (rules : List Rule) (key : List ℕ) (masks : List (List ℕ))
-        → AreMasksOf (rules_from (priority_to_beat (winner rules key)) rules) masks
-        → (mask : List ℕ)
-        → added mask (flat_map (probe rules key) masks) ≡ added mask (consults rules key) }
+        → AreMasksOf (contenders rules key) masks
+        → AddTheSame (flat_map (probe rules key) masks) (consults rules key) }
 {}
 
 /// A lookup in a table without rules finds nothing and consults nothing.

@@ -1,26 +1,20 @@
-ghost use Rattle.std.specs.Prelude.{◌≡◌, ℕ, false, List, All, IsTrue};
+ghost use Rattle.std.specs.Prelude.{◌≡◌, ℕ, false, List, IsTrue};
 ghost use Rattle.spec_keys.specs.Keys.{agree, covers, value_of, IsKey, IsClean};
 ghost use Rattle.spec_keys.specs.declared.field_id.FieldId.{FieldId};
 ghost use Rattle.spec_keys.specs.declared.field_id.FieldId.TheVariants as field;
 ghost use Rattle.spec_actions.specs.declared.action.OfAction.{OfAction};
-ghost use Rattle.spec_actions.specs.Sound.{AreSound};
-ghost use Rattle.spec_tables.specs.Rules.{Rule};
-ghost use Rattle.spec_xlate.specs.Commit.{commit};
 ghost use Rattle.spec_xlate.specs.Translation.{Switch, State, act, look, pipe};
 ghost use Rattle.spec_xlate.specs.Consulted.{whole, consulted};
-ghost use Rattle.translation_laws.specs.Applied.{applied, is_frame_field, is_proper, HasProperTags};
+ghost use Rattle.translation_laws.specs.Applied.{is_frame_field, HasProperTags};
+ghost use Rattle.translation_laws.specs.Switches.{OfCommits, OfKeys, HasMasksWithin, HasSoundRules};
 
 /// The actions that commit appends make a frame of the base key into one of the current key: in every field that
 /// datapath actions write the frame's key is then the current one, and in the others it is as it was.
 pub fn commit_turns_base_into_current()
-    ensures written { (base current : List ℕ)
-        → IsKey base → IsTrue (is_proper base) → IsTrue (is_proper current)
-        → (f : FieldId) → IsTrue (is_frame_field f)
-        → value_of (applied (commit base current) base) f ≡ value_of current f }
-    ensures rest { (base current : List ℕ)
-        → IsKey base → IsTrue (is_proper base) → IsTrue (is_proper current)
-        → (f : FieldId) → is_frame_field f ≡ false
-        → value_of (applied (commit base current) base) f ≡ value_of base f }
+    ensures written { OfCommits (λ base current turned. (f : FieldId) → IsTrue (is_frame_field f)
+        → value_of turned f ≡ value_of current f) }
+    ensures rest { OfCommits (λ base current turned. (f : FieldId) → is_frame_field f ≡ false
+        → value_of turned f ≡ value_of base f) }
 {}
 
 /// Every action and every lookup keeps a vlan_tci that is 0 or that of a tag.
@@ -39,29 +33,25 @@ pub fn consulted_is_a_mask()
     ensures dl_type { (sw : Switch) (key : List ℕ)
         → IsTrue (covers (consulted sw key) (whole field.DlType)) }
     ensures no_registers { (sw : Switch) (key : List ℕ) → IsClean (consulted sw key) }
-    ensures within { (sw : Switch)
-        → ((table : ℕ) → All (λ r. IsKey r.matching.mask) (sw.tables table))
-        → ((table : ℕ) → All (λ r. AreSound r.actions) (sw.tables table))
+    ensures within { (sw : Switch) → HasMasksWithin sw → HasSoundRules sw
         → (key : List ℕ) → IsKey (consulted sw key) }
 {}
 
 /// Wildcard soundness: packets whose keys agree on the bits that the translation of the first one consults have the
 /// same translation, and consult the same.
 pub fn consulted_is_sound()
-    ensures same_translation { (sw : Switch) (a b : List ℕ)
-        → IsKey a → IsKey b → IsClean a → IsClean b
-        → IsTrue (agree a b (consulted sw a)) → pipe sw b ≡ pipe sw a }
-    ensures same_bits { (sw : Switch) (a b : List ℕ)
-        → IsKey a → IsKey b → IsClean a → IsClean b
-        → IsTrue (agree a b (consulted sw a)) → consulted sw b ≡ consulted sw a }
+    ensures same_translation { OfKeys (λ sw a b.
+        IsTrue (agree a b (consulted sw a)) → pipe sw b ≡ pipe sw a) }
+    ensures same_bits { OfKeys (λ sw a b.
+        IsTrue (agree a b (consulted sw a)) → consulted sw b ≡ consulted sw a) }
 {}
 
 /// A mask that covers the consulted bits serves as well as they do.
 pub fn covering_mask_is_sound()
-    ensures same_translation { (sw : Switch) (a b mask : List ℕ)
-        → IsKey a → IsKey b → IsClean a → IsClean b → IsTrue (covers mask (consulted sw a))
-        → IsTrue (agree a b mask) → pipe sw b ≡ pipe sw a }
-    ensures same_bits { (sw : Switch) (a b mask : List ℕ)
-        → IsKey a → IsKey b → IsClean a → IsClean b → IsTrue (covers mask (consulted sw a))
-        → IsTrue (agree a b mask) → consulted sw b ≡ consulted sw a }
+    ensures same_translation { OfKeys (λ sw a b. (mask : List ℕ)
+        → IsTrue (covers mask (consulted sw a)) → IsTrue (agree a b mask)
+        → pipe sw b ≡ pipe sw a) }
+    ensures same_bits { OfKeys (λ sw a b. (mask : List ℕ)
+        → IsTrue (covers mask (consulted sw a)) → IsTrue (agree a b mask)
+        → consulted sw b ≡ consulted sw a) }
 {}
