@@ -8,9 +8,9 @@
 //! # What is promised
 //!
 //! Every answer is that of `spec_pcap`. `format_of` tells byte order and unit, or what is wrong with a header, and
-//! `record_fault` what is wrong with a record, if anything; of a record that is whole, `seconds_at`, `fraction_at` and
-//! `captured_at` are its numbers. `header` and `record_header` are the bytes that a file and a record begin with. No call
-//! takes memory.
+//! `record_fault` what is wrong with a record, if anything; of a record that is whole, `seconds_at`, `fraction_at`,
+//! `captured_at` and `wire_length_at` are its numbers. `header` and `record_header` are the bytes that a file and a record
+//! begin with. No call takes memory.
 //!
 //! # How
 //!
@@ -26,6 +26,6 @@ mod writing;
 
 pub use format::{
     HEADER_LENGTH, RECORD_HEADER_LENGTH, SECOND, SNAP_LENGTH, captured_at, format_of, fraction_at,
-    record_fault, seconds_at, unit_of,
+    record_fault, seconds_at, unit_of, wire_length_at,
 };
 pub use writing::{header, record_header};

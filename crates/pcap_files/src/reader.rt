@@ -11,12 +11,18 @@
 //! fault in it, and then the trace is what it holds. A file with a fault, one of more frames than there is room for
 //! among them, is refused by the first one, with memory or without.
 //!
+//! Frames that are written again need not be taken apart: `Trace::records` lends the records of consecutive frames as one
+//! slice, which is exactly what is written of them, as far as their records stand in the file like that.
+//!
 //! # How
 //!
 //! A trace keeps the file's bytes as they are, and lends the frames from them: nothing is copied. Beside the bytes it
 //! keeps where each record begins, 8 bytes a frame. A first walk along the records tests and counts them, without
 //! memory; then exactly as much memory as they need is taken, and a second walk fills it. So a file is refused before
 //! it costs memory, and a record that was tested once is never tested again.
+//!
+//! A record stands as it is written if its numbers are in little-endian order, its fraction is in the unit of the file that
+//! is written, and its frame was captured whole: its two lengths are the same.
 //!
 //! # What is left to others
 //!

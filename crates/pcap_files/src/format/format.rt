@@ -1,6 +1,6 @@
 //! The numbers of the format (pcap-savefile(5)), and the parts of a header and of a record.
 ghost use Rattle.std.specs.Prelude.{◌≡◌, ◌+◌, ◌≤◌, length, OnOk};
-ghost use Rattle.spec_pcap.specs.Pcap.{unit_of, magic, format_by, told_format, format_of, record_fault, seconds_at, fraction_at, captured_at, header_length, record_header_length};
+ghost use Rattle.spec_pcap.specs.Pcap.{unit_of, magic, format_by, told_format, format_of, record_fault, seconds_at, fraction_at, captured_at, header_length, number_at, record_header_length};
 
 use crate::format::number::{number16, number32};
 use net_bytes::{be32, le32};
@@ -139,4 +139,12 @@ pub fn captured_at(bytes: &[u8], format: Format, at: usize) -> u32
     ensures { result ≡ captured_at format bytes.now at }
 {
     number32(format.order, bytes, at + 8)
+}
+
+/// The length that the frame of the record at an offset had on the wire: more than the captured one where it was cut.
+pub fn wire_length_at(bytes: &[u8], format: Format, at: usize) -> u32
+    requires { at + record_header_length ≤ length bytes.now }
+    ensures { result ≡ number_at format.order 4 bytes.now (at + 12) }
+{
+    number32(format.order, bytes, at + 12)
 }

@@ -1,10 +1,12 @@
 //! The walk along the records of a file.
-ghost use Rattle.std.specs.Prelude.{◌≡◌, ◌≤◌, Ok, IsOk, length, IfOk};
-ghost use Rattle.spec_pcap.specs.Pcap.{header_length, frames_from};
+ghost use Rattle.std.specs.Prelude.{◌≡◌, ◌+◌, ◌≤◌, None, Ok, IsOk, IsTrue, length, take, drop, IfOk};
+ghost use Rattle.spec_pcap.specs.Pcap.{captured_at as length_at, header_length, frames_from, record_fault, record_frame, record_header_length, record_of};
 ghost use Rattle.pcap_files.specs.Records.{frames_at, count_of, AreRecords};
 
-use crate::format::{HEADER_LENGTH, RECORD_HEADER_LENGTH, captured_at, record_fault};
-use spec_pcap::{Format, PcapFault};
+use crate::format::{
+    HEADER_LENGTH, RECORD_HEADER_LENGTH, captured_at, record_fault, wire_length_at,
+};
+use spec_pcap::{ByteOrder, Format, PcapFault};
 use std::alloc::{AllocError, Global};
 
 /// How many records stand after the header, if they are whole and at most `room`.
@@ -47,4 +49,20 @@ pub fn starts_of(
         at += RECORD_HEADER_LENGTH + captured_at(bytes, format, at) as usize;
     }
     Ok(starts)
+}
+
+/// Whether the record at an offset has the very bytes that are written of its frame in a file in nano- or microseconds.
+#[tactic(auto, unfolding(spec_pcap::specs::Pcap::record_fault))]
+pub fn is_as_written(bytes: &[u8], format: Format, at: usize, nanos: bool) -> bool
+    requires { record_fault format bytes.now at ≡ None }
+    ensures { IsTrue result → take (record_header_length + length_at format bytes.now at) (drop at bytes.now)
+        ≡ record_of nanos (record_frame format bytes.now at) }
+{
+    match format.order {
+        ByteOrder::LittleEndian => {
+            format.nanos == nanos
+                && captured_at(bytes, format, at) == wire_length_at(bytes, format, at)
+        }
+        ByteOrder::BigEndian => false,
+    }
 }

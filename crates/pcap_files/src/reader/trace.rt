@@ -1,11 +1,12 @@
-ghost use Rattle.std.specs.Prelude.{◌≡◌, ◌+◌, ◌-◌, ◌/◌, ◌^◌, ◌<◌, ◌≤◌, ◌⊎◌, ◌==◌, false, [], Ok, Err, length, All, IfOk, IfErr};
-ghost use Rattle.spec_pcap.specs.Pcap.{Capture, frame_number, second, snap_length, capture_of};
+ghost use Rattle.std.specs.Prelude.{◌≡◌, ◌+◌, ◌-◌, ◌/◌, ◌^◌, ◌<◌, ◌≤◌, ◌⊎◌, ◌==◌, false, [], Ok, Err, length, take, drop, All, IfOk, IfErr};
+ghost use Rattle.std.specs.List.{flat_map};
+ghost use Rattle.spec_pcap.specs.Pcap.{Capture, frame_number, record_of, second, snap_length, capture_of};
 ghost use Rattle.pcap_files.specs.Records.{IsShort};
 
 use crate::format::{
     RECORD_HEADER_LENGTH, SECOND, captured_at, format_of, fraction_at, seconds_at, unit_of,
 };
-use crate::reader::records::{count_records, starts_of};
+use crate::reader::records::{count_records, is_as_written, starts_of};
 use spec_pcap::{ByteOrder, Format, PcapFault};
 use std::alloc::Global;
 use std::marker::Model;
@@ -94,6 +95,31 @@ impl Trace {
         let at = self.starts[place as usize - 1];
         let begin = at + RECORD_HEADER_LENGTH;
         &self.bytes[begin..begin + captured_at(&self.bytes, self.format, at) as usize]
+    }
+
+    /// The records of the frames from a place on, as they are written in a file in nano- or microseconds: of how many of
+    /// these frames, at most so many, the records stand in the bytes like that, one after the other, and their bytes.
+    pub fn records(&self, place: u32, most: u32, nanos: bool) -> (u32, &[u8])
+        requires first { 1 ≤ place }
+        requires some { 1 ≤ most }
+        requires last { place + most ≤ length self.now.frames + 1 }
+        ensures few { result.0 ≤ most }
+        ensures bytes { result.1.now
+            ≡ flat_map (record_of nanos) (take result.0 (drop (place - 1) self.now.frames)) }
+    {
+        let first = place as usize - 1;
+        let begin = self.starts[first];
+        let mut end = begin;
+        let mut count: u32 = 0;
+        'records: while count < most {
+            let at = self.starts[first + count as usize];
+            if at != end || !is_as_written(&self.bytes, self.format, at, nanos) {
+                break;
+            }
+            end = at + RECORD_HEADER_LENGTH + captured_at(&self.bytes, self.format, at) as usize;
+            count += 1;
+        }
+        (count, &self.bytes[begin..end])
     }
 }
 
