@@ -26,7 +26,7 @@
 //! below that call `C.run` is what was read. A name costs nothing when the program runs.
 //!
 //! Where a port's blocks end is found once (`blocks`). A port's trace is found by going through the ports, of which
-//! there are few. Frames aren't copied, but lent from the bytes of their file.
+//! there are few. Frames aren't copied, but lent from the bytes of their file, and so are the records of consecutive ones.
 //!
 //! # What is left to others
 //!

@@ -1,5 +1,6 @@
-ghost use Rattle.std.specs.Prelude.{◌≡◌, ◌+◌, ◌-◌, ◌/◌, ◌^◌, ◌<◌, ◌≤◌, ◌==◌, Some, All, length, map, position, slice_get};
-ghost use Rattle.spec_pcap.specs.Pcap.{second, snap_length};
+ghost use Rattle.std.specs.Prelude.{◌≡◌, ◌+◌, ◌-◌, ◌/◌, ◌^◌, ◌<◌, ◌≤◌, ◌==◌, Some, All, length, map, take, drop, position, slice_get};
+ghost use Rattle.std.specs.List.{flat_map};
+ghost use Rattle.spec_pcap.specs.Pcap.{record_of, second, snap_length};
 ghost use Rattle.spec_tables.specs.Bundles.{AreBundles};
 ghost use Rattle.spec_case.specs.Run.{edit_count, last_version, frame_at, frames_of, is_nanos};
 ghost use Rattle.spec_case.specs.Blocks.{AreInOrder, block_ends, last_block, last_place, lo, hi};
@@ -191,6 +192,20 @@ impl<C: Case> RunData<C> {
         ensures bound { result < 2 ^ 63 }
     {
         self.trace(port).time(place)
+    }
+
+    /// The records of a port's frames from a place on, as they are written in a file in nano- or microseconds: of how many
+    /// of these frames, at most so many, the records stand in its trace like that, one after the other, and their bytes.
+    pub fn records(&self, port: u16, place: u32, most: u32, nanos: bool) -> (u32, &[u8])
+        requires port { HasPort C.run.ports port }
+        requires first { 1 ≤ place }
+        requires some { 1 ≤ most }
+        requires last { place + most ≤ length (frames_of C.run port) + 1 }
+        ensures few { result.0 ≤ most }
+        ensures bytes { result.1.now
+            ≡ flat_map (record_of nanos) (take result.0 (drop (place - 1) (frames_of C.run port))) }
+    {
+        self.trace(port).records(place, most, nanos)
     }
 
     /// The last place of a port's trace that is in a block or before it; 0 where there is none.
