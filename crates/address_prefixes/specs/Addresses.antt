@@ -2,6 +2,8 @@
 use Rattle.std.specs.Prelude.{ℕ, List}
 use Rattle.spec_keys.specs.declared.field_id.FieldId.TheVariants.{NwSrc, NwDst, Ipv6Src, Ipv6Dst}
 use Rattle.spec_tables.specs.Rules.{Rule}
+use Rattle.ovs_fields.specs.Packed.{numbers}
+use Rattle.ovs_fields.specs.declared.key.Key.{Key}
 use Rattle.address_prefixes.specs.declared.address_prefixes.AddressLookups.{AddressLookups}
 use Rattle.address_prefixes.specs.declared.address_prefixes.AddressPrefixes.{AddressPrefixes}
 use Rattle.address_prefixes.specs.declared.address_prefixes.MaskPrefixes.{MaskPrefixes}
@@ -21,3 +23,11 @@ pub record AreOf (a : AddressPrefixes) (rs : List Rule) : Type 0 where
 pub record AreKnown (known : AddressLookups) (key : List ℕ) (rs : List Rule) : Type 0 where
   pub ipv4 : pair.AreKnown known.ipv4 NwSrc NwDst key rs
   pub ipv6 : pair.AreKnown known.ipv6 Ipv6Src Ipv6Dst key rs
+
+-- what was known of the rules is known of them still
+abbrev pub StayKnown : AddressPrefixes → AddressLookups → AddressLookups → Key → Type 0
+StayKnown a old new key = (rs : List Rule) → AreOf a rs → AreKnown old (numbers key) rs → AreKnown new (numbers key) rs
+
+-- it holds of all rules with these prefixes of which this is known, and of each mask with its own
+abbrev pub ForMasks : AddressPrefixes → AddressLookups → MaskPrefixes → Key → (List Rule → List ℕ → Type 0) → Type 0
+ForMasks a known p key Holds = (rs : List Rule) (mask : List ℕ) → AreOf a rs → AreKnown known (numbers key) rs → AreOfMask p mask → Holds rs mask

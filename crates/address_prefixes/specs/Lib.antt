@@ -5,4 +5,5 @@ pub mod RuleLists
 pub mod Looks
 pub mod Prefixes
 pub mod Sound
+pub mod Tests
 pub mod Tries

@@ -5,6 +5,8 @@ use Rattle.spec_keys.specs.Fields.{width_of}
 use Rattle.spec_keys.specs.Keys.{value_of}
 use Rattle.spec_tables.specs.Rules.{Rule}
 use Rattle.spec_xlate.specs.Lookup.{Prefix, prefix_length, prefixes}
+use Rattle.ovs_fields.specs.Packed.{numbers}
+use Rattle.ovs_fields.specs.declared.key.Key.{Key}
 use Rattle.address_prefixes.specs.declared.tracker.found.Found.{Found}
 use Rattle.address_prefixes.specs.Looks.{IsFound}
 use Rattle.address_prefixes.specs.Prefixes.{Prefixes, is_same, prefix_at, times}
@@ -41,3 +43,11 @@ IsThere f n key t = 0 < n → 0 < times (prefix_at (width_of f) (value_of key f)
 -- what was found, if it was, is what the prefixes tell of a key that these rules state of a field
 abbrev pub IsKnown : Option Found → FieldId → List ℕ → List Rule → Type 0
 IsKnown known f key rs = IfSome known (λ found. IsFound (width_of f) (value_of key f) found (prefixes f rs))
+
+-- what was known of the rules of the trie is known of them still
+abbrev pub StaysKnown : Prefixes → Option Found → Option Found → FieldId → Key → Type 0
+StaysKnown t old new f key = (rs : List Rule) → IsTrieOf t f rs → IsKnown old f (numbers key) rs → IsKnown new f (numbers key) rs
+
+-- it holds of all rules of the trie of which this is known, and of each mask with this prefix
+abbrev pub ForMasks : Prefixes → Option Found → FieldPrefix → FieldId → Key → (List Rule → List ℕ → Type 0) → Type 0
+ForMasks t known p f key Holds = (rs : List Rule) (mask : List ℕ) → IsTrieOf t f rs → IsKnown known f (numbers key) rs → IsPrefixOf p f mask → Holds rs mask

@@ -3,6 +3,8 @@ use Rattle.std.specs.Prelude.{◌≡◌, ℕ, ◌+◌, ◌<◌, ◌^◌, List, l
 use Rattle.spec_keys.specs.declared.field_id.FieldId.{FieldId}
 use Rattle.spec_keys.specs.Fields.{width_of}
 use Rattle.spec_tables.specs.Rules.{Rule}
+use Rattle.ovs_fields.specs.Packed.{numbers}
+use Rattle.ovs_fields.specs.declared.key.Key.{Key}
 use Rattle.address_prefixes.specs.Prefixes.{Prefixes, no_prefixes}
 use Rattle.address_prefixes.specs.declared.pair.PairPrefixes.{PairPrefixes}
 use Rattle.address_prefixes.specs.declared.pair.PairLookups.{PairLookups}
@@ -56,3 +58,13 @@ pub record AreThere (p : PairPrefixes) (key : List ℕ) (t : PairTries) : Type 0
 pub record AreKnown (known : PairLookups) (source destination : FieldId) (key : List ℕ) (rs : List Rule) : Type 0 where
   pub src : one.IsKnown known.src source key rs
   pub dst : one.IsKnown known.dst destination key rs
+
+-- what was known of the rules of the tries is known of them still
+abbrev pub StayKnown : PairTries → PairLookups → PairLookups → FieldId → FieldId → Key → Type 0
+StayKnown t old new source destination key =
+    (rs : List Rule) → AreTriesOf t source destination rs → AreKnown old source destination (numbers key) rs → AreKnown new source destination (numbers key) rs
+
+-- it holds of all rules of the tries of which this is known, and of each mask with these prefixes
+abbrev pub ForMasks : PairTries → PairLookups → PairPrefixes → FieldId → FieldId → Key → (List Rule → List ℕ → Type 0) → Type 0
+ForMasks t known p source destination key Holds =
+    (rs : List Rule) (mask : List ℕ) → AreTriesOf t source destination rs → AreKnown known source destination (numbers key) rs → ArePrefixesOf p source destination mask → Holds rs mask

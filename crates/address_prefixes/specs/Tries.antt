@@ -59,3 +59,11 @@ IsTrie width (Fork' p like unlike bits length count) = IsNode width (record { bi
 abbrev pub IsNearlyTrie : ℕ → Trie → Type 0
 IsNearlyTrie width Empty = Unit {0}
 IsNearlyTrie width (Fork' p like unlike bits length count) = IsSplit width (record { bits = bits; length = length; count = count; like = like; unlike = unlike }) × IsTrie width like × IsTrie width unlike
+
+-- it is a trie that has just these prefixes
+abbrev pub HasJust : ℕ → Trie → List Prefix → Type 0
+HasJust width t ps = IsTrie width t × (prefixes_in width t ≡ ps)
+
+-- a node with a trie on the side of its number
+abbrev pub with_like : Trie → Node → Node
+with_like t n = record n { like = t }

@@ -1,10 +1,11 @@
-ghost use Rattle.std.specs.Prelude.{◌≡◌, ◌+◌, ◌<◌, ◌^◌, ℕ, List, [], length, true, false, OnOk, OnErr};
+ghost use Rattle.std.specs.Prelude.{◌≡◌, ◌+◌, ◌<◌, ◌^◌, ℕ, List, [], length, true, OnOk, OnErr};
 ghost use Rattle.spec_tables.specs.Rules.{Rule};
-ghost use Rattle.spec_xlate.specs.Lookup.{added, when, prefix_tests, tracked_fields};
+ghost use Rattle.spec_xlate.specs.Lookup.{prefix_tests, tracked_fields};
 ghost use Rattle.translation_laws.specs.Members.{Among};
 ghost use Rattle.ovs_fields.specs.Packed.{numbers, bits};
 ghost use Rattle.rule_tables.specs.Views.{match_view};
-ghost use Rattle.address_prefixes.specs.RuleLists.{HasOneMore, NoneMatches};
+ghost use Rattle.address_prefixes.specs.RuleLists.{HasOneMore};
+ghost use Rattle.address_prefixes.specs.Tests.{Consults, EndsUnmatched};
 
 use crate::pair::{
     PairLookups, PairPrefixes, PairTries, insert_pair, no_pair, remove_pair, test_pair,
@@ -62,7 +63,7 @@ pub struct AddressPrefixes {
 }
 
 impl AddressPrefixes {
-    ghost use Rattle.address_prefixes.specs.Addresses.{AreOfMask, AreOf, AreKnown};
+    ghost use Rattle.address_prefixes.specs.Addresses.{AreOf, StayKnown, ForMasks};
 
     /// Those of no rules. It takes no memory.
     pub fn new(alloc: Global) -> AddressPrefixes
@@ -116,17 +117,12 @@ impl AddressPrefixes {
         consulted: &mut Mask,
     ) -> bool
         requires { (rs : List Rule) × (AreOf self.now rs) }
-        ensures known { (rs : List Rule) → AreOf self.now rs → AreKnown known.old (numbers key.now) rs
-            → AreKnown known.new (numbers key.now) rs }
-        ensures consulted { (rs : List Rule) (mask : List ℕ) → AreOf self.now rs
-            → AreKnown known.old (numbers key.now) rs → AreOfMask prefixes.now mask
-            → (further : List (List ℕ))
-            → added (bits consulted.old)
-            (prefix_tests rs (numbers key.now) mask tracked_fields further)
-            ≡ added (bits consulted.new) (when result further) }
-        ensures unmatched { (rs : List Rule) (mask : List ℕ) → AreOf self.now rs
-            → AreKnown known.old (numbers key.now) rs → AreOfMask prefixes.now mask
-            → result ≡ false → NoneMatches (numbers key.now) mask rs }
+        ensures known { StayKnown self.now known.old known.new key.now }
+        ensures consulted { ForMasks self.now known.old prefixes.now key.now
+            (λ rs mask. Consults true consulted.old
+            (prefix_tests rs (numbers key.now) mask tracked_fields) result consulted.new) }
+        ensures unmatched { ForMasks self.now known.old prefixes.now key.now
+            (λ rs mask. EndsUnmatched result (numbers key.now) rs mask) }
     {
         let ipv4 = test_pair(
             FieldId::NwSrc,

@@ -1,10 +1,9 @@
 //! The prefixes of a field that rules state, in a trie of numbers as wide as the field.
 
-ghost use Rattle.std.specs.Prelude.{◌≡◌, ◌+◌, ◌<◌, ◌^◌, List, [], Some, length, OnOk, OnErr};
+ghost use Rattle.std.specs.Prelude.{◌≡◌, ◌+◌, ◌<◌, ◌^◌, [], Some, length, OnOk, OnErr};
 ghost use Rattle.spec_keys.specs.Fields.{width_of};
-ghost use Rattle.spec_tables.specs.Rules.{Rule};
 ghost use Rattle.ovs_fields.specs.Packed.{numbers};
-ghost use Rattle.address_prefixes.specs.OfField.{IsTrieOf, HasOnceMore, AreAlike, IsThere, IsKnown};
+ghost use Rattle.address_prefixes.specs.OfField.{IsTrieOf, HasOnceMore, AreAlike, IsThere, StaysKnown};
 
 use crate::field_prefix::FieldPrefix;
 use crate::tracker::{Found, PrefixTrie};
@@ -58,12 +57,8 @@ pub(crate) fn found_in(
     known: &mut Option<Found>,
 ) -> Found
     requires { trie.now.width ≡ width_of field }
-    ensures known { (rs : List Rule) → IsTrieOf trie.now field rs
-        → IsKnown known.old field (numbers key.now) rs
-        → IsKnown known.new field (numbers key.now) rs }
-    ensures result { (rs : List Rule) → IsTrieOf trie.now field rs
-        → IsKnown known.old field (numbers key.now) rs
-        → IsKnown (Some result) field (numbers key.now) rs }
+    ensures known { StaysKnown trie.now known.old known.new field key.now }
+    ensures result { StaysKnown trie.now known.old (Some result) field key.now }
 {
     if let Some(found) = *known {
         return found;

@@ -10,8 +10,8 @@
 //!
 //! # What is promised
 //!
-//! `AreOf` (`specs/Addresses`) says of `AddressPrefixes` which rules they are of: a list of rules, whose order says nothing,
-//! and neither do their numbers, priorities and actions.
+//! `AreOf` (`specs/Addresses`) says of `AddressPrefixes` which rules they are of: a list of rules, whose order says
+//! nothing, and neither do their numbers, priorities and actions.
 //!
 //! - `new` are those of no rules.
 //! - `insert` adds those of a rule with a match. Where it lacks memory they are those of the same rules.
@@ -19,21 +19,21 @@
 //! - `test` adds to a mask just the bits that the definition `prefix_tests` of `spec_xlate` has for one mask and a key, and
 //!   answers whether the lookup goes on with this mask. Where it doesn't, the key matches none of its rules.
 //!
-//! `MaskPrefixes` are those that a mask has. `AddressLookups` keep what was found of a key from one mask to the next, in one
-//! lookup. Only `insert` takes memory.
+//! `MaskPrefixes` are those that a mask has. `AddressLookups` keep what was found of a key from one mask to the next,
+//! in one lookup. Only `insert` takes memory.
 //!
 //! # How
 //!
 //! Each address has a trie (`tracker`) of the prefixes that rules state of it, each as often as they state it. What it
-//! tells of a key doesn't depend on the mask, so it is asked for by the first mask that has a prefix of the address, and kept
-//! for those after it.
+//! tells of a key doesn't depend on the mask, so it is asked for by the first mask that has a prefix of the address,
+//! and kept for those after it.
 //!
 //! The key of a rule has no bits outside its mask, so the prefix that it states are the first bits of its key.
 //!
 //! # What it costs
 //!
-//! A test takes a walk of the trie for each address of which the mask has a prefix and no mask before it had one, and else a
-//! few steps. An insertion and a removal take a walk for each address of which the rule states a prefix.
+//! A test takes a walk of the trie for each address of which the mask has a prefix and no mask before it had one, and
+//! else a few steps. An insertion and a removal take a walk for each address of which the rule states a prefix.
 //!
 //! # What is left to others
 //!

@@ -1,12 +1,12 @@
 //! The source and the destination address of one version of IP.
 
-ghost use Rattle.std.specs.Prelude.{◌≡◌, ℕ, List, [], ◌∷◌, false, OnOk, OnErr};
+ghost use Rattle.std.specs.Prelude.{◌≡◌, ℕ, List, [], ◌∷◌, OnOk, OnErr};
 ghost use Rattle.spec_keys.specs.declared.field_id.FieldId.{FieldId};
 ghost use Rattle.spec_tables.specs.Rules.{Rule};
-ghost use Rattle.spec_xlate.specs.Lookup.{added, when, prefix_tests};
+ghost use Rattle.spec_xlate.specs.Lookup.{prefix_tests};
 ghost use Rattle.ovs_fields.specs.Packed.{numbers, bits};
-ghost use Rattle.address_prefixes.specs.Pairs.{src_of, dst_of, HaveWidths, AreTriesOf, AreFew, HaveOnceMore, AreAlike, AreThere, ArePrefixesOf, AreKnown};
-ghost use Rattle.address_prefixes.specs.RuleLists.{NoneMatches};
+ghost use Rattle.address_prefixes.specs.Pairs.{src_of, dst_of, HaveWidths, AreTriesOf, AreFew, HaveOnceMore, AreAlike, AreThere, ArePrefixesOf, AreKnown, StayKnown, ForMasks};
+ghost use Rattle.address_prefixes.specs.Tests.{Consults, EndsUnmatched};
 
 use crate::field_prefix::FieldPrefix;
 use crate::field_trie::{insert_prefix, no_prefixes, remove_prefix};
@@ -120,20 +120,13 @@ pub(crate) fn test_pair(
     consulted: &mut Mask,
 ) -> bool
     requires { HaveWidths pair.now src dst }
-    ensures known { (rs : List Rule) → AreTriesOf pair.now src dst rs
-        → AreKnown known.old src dst (numbers key.now) rs
-        → AreKnown known.new src dst (numbers key.now) rs }
-    ensures consulted { (rs : List Rule) (mask : List ℕ)
-        → AreTriesOf pair.now src dst rs → AreKnown known.old src dst (numbers key.now) rs
-        → ArePrefixesOf prefixes.now src dst mask → (further : List (List ℕ))
-        → added (bits consulted.old)
-        (when alive (prefix_tests rs (numbers key.now) mask (src ∷ dst ∷ []) further))
-        ≡ added (bits consulted.new) (when result further) }
-    ensures unmatched { (rs : List Rule) (mask : List ℕ)
-        → AreTriesOf pair.now src dst rs → AreKnown known.old src dst (numbers key.now) rs
-        → ArePrefixesOf prefixes.now src dst mask
-        → (alive ≡ false → NoneMatches (numbers key.now) mask rs)
-        → result ≡ false → NoneMatches (numbers key.now) mask rs }
+    ensures known { StayKnown pair.now known.old known.new src dst key.now }
+    ensures consulted { ForMasks pair.now known.old prefixes.now src dst key.now
+        (λ rs mask. Consults alive consulted.old
+        (prefix_tests rs (numbers key.now) mask (src ∷ dst ∷ [])) result consulted.new) }
+    ensures unmatched { ForMasks pair.now known.old prefixes.now src dst key.now
+        (λ rs mask. EndsUnmatched alive (numbers key.now) rs mask
+        → EndsUnmatched result (numbers key.now) rs mask) }
 {
     let first = prefix_test(
         src,

@@ -1,12 +1,10 @@
-ghost use Rattle.std.specs.Prelude.{◌≡◌, ◌==◌, ◌-◌, ◌<◌, ◌≤◌, ℕ, List, false};
+ghost use Rattle.std.specs.Prelude.{◌≡◌, ◌==◌, ◌-◌, ◌<◌, ◌≤◌};
 ghost use Rattle.std.specs.Int.{bit_at};
 ghost use Rattle.spec_keys.specs.Fields.{width_of};
-ghost use Rattle.spec_tables.specs.Rules.{Rule};
 ghost use Rattle.spec_xlate.specs.Lookup as xlate;
-ghost use Rattle.spec_xlate.specs.Lookup.{added, when};
-ghost use Rattle.ovs_fields.specs.Packed.{numbers, bits};
-ghost use Rattle.address_prefixes.specs.OfField.{IsPrefixOf, IsTrieOf, IsKnown};
-ghost use Rattle.address_prefixes.specs.RuleLists.{NoneMatches};
+ghost use Rattle.ovs_fields.specs.Packed.{numbers};
+ghost use Rattle.address_prefixes.specs.OfField.{StaysKnown, ForMasks};
+ghost use Rattle.address_prefixes.specs.Tests.{Consults, EndsUnmatched};
 
 use crate::field_prefix::FieldPrefix;
 use crate::field_trie::found_in;
@@ -31,19 +29,13 @@ pub(crate) fn prefix_test(
     consulted: &mut Mask,
 ) -> bool
     requires { trie.now.width ≡ width_of field }
-    ensures known { (rs : List Rule) → IsTrieOf trie.now field rs
-        → IsKnown known.old field (numbers key.now) rs
-        → IsKnown known.new field (numbers key.now) rs }
-    ensures consulted { (rs : List Rule) (mask : List ℕ) → IsTrieOf trie.now field rs
-        → IsKnown known.old field (numbers key.now) rs → IsPrefixOf prefix.now field mask
-        → (further : List (List ℕ))
-        → added (bits consulted.old)
-        (when alive (xlate.prefix_test rs (numbers key.now) mask field further))
-        ≡ added (bits consulted.new) (when result further) }
-    ensures unmatched { (rs : List Rule) (mask : List ℕ) → IsTrieOf trie.now field rs
-        → IsKnown known.old field (numbers key.now) rs → IsPrefixOf prefix.now field mask
-        → (alive ≡ false → NoneMatches (numbers key.now) mask rs)
-        → result ≡ false → NoneMatches (numbers key.now) mask rs }
+    ensures known { StaysKnown trie.now known.old known.new field key.now }
+    ensures consulted { ForMasks trie.now known.old prefix.now field key.now
+        (λ rs mask. Consults alive consulted.old (xlate.prefix_test rs (numbers key.now) mask field)
+        result consulted.new) }
+    ensures unmatched { ForMasks trie.now known.old prefix.now field key.now
+        (λ rs mask. EndsUnmatched alive (numbers key.now) rs mask
+        → EndsUnmatched result (numbers key.now) rs mask) }
 {
     if !alive {
         return false;

@@ -21,8 +21,8 @@
 //! - `new` has no prefixes of numbers of a width from 1 to 128.
 //! - `insert` adds the prefix of the first bits of a number once. Where it lacks memory, the list stays.
 //! - `remove` takes one out once, which is there.
-//! - `look` answers `Found`: bit n of `lengths` is 1 exactly where the number begins with a prefix of n + 1 bits, and `bits`
-//!   is the length that the definition `deciding` of `spec_xlate` gives.
+//! - `look` answers `Found`: bit n of `lengths` is 1 exactly where the number begins with a prefix of n + 1 bits, and
+//!   `bits` is the length that the definition `deciding` of `spec_xlate` gives.
 //!
 //! `look` and `remove` take no memory, so they can't fail.
 //!

@@ -1,6 +1,6 @@
 ghost use Rattle.std.specs.Prelude.{◌≡◌, ◌≤◌, ◌<◌, ◌+◌, ◌^◌, ℕ, length, OnOk, OnErr, IfOk};
 ghost use Rattle.address_prefixes.specs.Prefixes.{prefix_at, HasOneMore};
-ghost use Rattle.address_prefixes.specs.Tries.{prefixes_in, node_prefixes, IsTrie, IsNode};
+ghost use Rattle.address_prefixes.specs.Tries.{prefixes_in, node_prefixes, IsTrie, IsNode, HasJust, with_like};
 ghost use Rattle.address_prefixes.specs.declared.tracker.trie.Node.{Node};
 ghost use Rattle.address_prefixes.specs.declared.tracker.trie.Trie.TheVariants.{Empty, Fork};
 
@@ -93,9 +93,9 @@ fn branch(
 /// Puts a node above a trie, which comes to stand on the side of the node's number.
 fn put_above(trie: &mut Trie, mut above: Box<Node>)
     ensures { (width : ℕ) (n : Node)
-        → n ≡ record above.value { like = trie.old } → IsNode width n
+        → n ≡ with_like trie.old above.value → IsNode width n
         → IsTrie width trie.old → IsTrie width above.value.unlike
-        → (IsTrie width trie.new × (prefixes_in width trie.new ≡ node_prefixes width n)) }
+        → HasJust width trie.new (node_prefixes width n) }
 {
     above.like = mem::replace(trie, Trie::Empty);
     *trie = Trie::Fork(above);

@@ -1,7 +1,7 @@
 ghost use Rattle.std.specs.Prelude.{◌≡◌, ◌≤◌, ◌<◌, ◌^◌, ℕ, length, IsTrue, IsFalse};
 ghost use Rattle.address_prefixes.specs.declared.tracker.trie.Trie.TheVariants.{Empty};
 ghost use Rattle.address_prefixes.specs.Prefixes.{prefix_at, times, HasOneMore};
-ghost use Rattle.address_prefixes.specs.Tries.{prefixes_in, IsTrie, IsNearlyTrie};
+ghost use Rattle.address_prefixes.specs.Tries.{prefixes_in, IsTrie, IsNearlyTrie, HasJust};
 
 use crate::tracker::common::in_common;
 use crate::tracker::trie::Trie;
@@ -34,9 +34,8 @@ pub(crate) fn remove_in(width: u32, trie: &mut Trie, value: u128, len: u32)
 
 /// Puts the one side of a node in its place, where its own prefix doesn't stand there and the other side is empty.
 fn drop_needless(trie: &mut Trie)
-    ensures { (width : ℕ)
-        → IsNearlyTrie width trie.old
-        → IsTrie width trie.new × (prefixes_in width trie.new ≡ prefixes_in width trie.old) }
+    ensures { (width : ℕ) → IsNearlyTrie width trie.old
+        → HasJust width trie.new (prefixes_in width trie.old) }
 {
     if let Trie::Fork(node) = trie {
         if node.count == 0 {
