@@ -5,15 +5,15 @@ use Rattle.std.specs.Option.{option_map}
 use Rattle.std.proofs.lemmas.List.{length-map}
 use Rattle.std.proofs.lemmas.Option.{get_or_from_slice_get, slice_get-map, same_Some}
 use Rattle.std.proofs.lemmas.Bool.{false≢true}
-use Rattle.spec_keys.specs.Keys.{masked}
 use Rattle.spec_tables.specs.declared.edit_word.EditWord.{EditWord}
 use Rattle.spec_tables.specs.declared.edit_word.EditWord.TheVariants.{Add, Modify, ModifyStrict, Delete, DeleteStrict}
 use Rattle.spec_tables.specs.Rules as tables
 use Rattle.spec_tables.specs.Edits.{Edit, is_named_by, is_reached_by}
 use Rattle.rule_tables.specs.declared.signatures.signature.Signature.{Signature}
-use Rattle.rule_tables.specs.Signatures.{signature_of, includes}
+use Rattle.rule_tables.specs.Signatures.{includes}
 use Rattle.rule_tables.specs.declared.rule.Rule.{Rule}
 use Rattle.rule_tables.specs.declared.stored.StoredRule.{StoredRule}
+use Rattle.rule_tables.specs.Included.{IsNormalised, IsIncludedIn}
 use Rattle.rule_tables.specs.Signed.{signature_in}
 use Rattle.rule_tables.specs.declared.givings.Giving.{Giving}
 use Rattle.rule_tables.specs.declared.givings.GivingLog.{GivingLog}
@@ -21,16 +21,12 @@ use Rattle.rule_tables.specs.Givings.{Becomes, AreGiven, IsLogged}
 use Rattle.rule_tables.specs.Stored.{is_picked_by, picks, acts_on, ended, ended_by, with_end, signatures_in, IsWanted}
 use Rattle.rule_tables.specs.Views.{rule_view}
 
--- the signature of a rule includes that of an edit
-abbrev Includes : Edit → tables.Rule → Type 0
-Includes e r = includes (signature_of r.matching.key r.matching.mask) (signature_of e.matching.key e.matching.mask) ≡ true
-
-pub picked_included : ((e : Edit) (r : tables.Rule) → masked r.matching.key r.matching.mask ≡ r.matching.key → masked e.matching.key e.matching.mask ≡ e.matching.key → is_reached_by e r ≡ true → Includes e r)
-    → ((e : Edit) (r : tables.Rule) → is_named_by e r ≡ true → Includes e r)
-    → (e : Edit) (r : Rule) → masked e.matching.key e.matching.mask ≡ e.matching.key → picks e r ≡ true → Includes e (rule_view r [])
+pub picked_included : ((e : Edit) (r : tables.Rule) → IsNormalised r.matching → IsNormalised e.matching → is_reached_by e r ≡ true → IsIncludedIn e r)
+    → ((e : Edit) (r : tables.Rule) → is_named_by e r ≡ true → IsIncludedIn e r)
+    → (e : Edit) (r : Rule) → IsNormalised e.matching → picks e r ≡ true → IsIncludedIn e (rule_view r [])
 picked_included reached named e r normal picked = at e.word picked
   where
-    at : (w : EditWord) → is_picked_by w e (rule_view r []) ≡ true → Includes e (rule_view r [])
+    at : (w : EditWord) → is_picked_by w e (rule_view r []) ≡ true → IsIncludedIn e (rule_view r [])
     at Add p = named e (rule_view r []) p
     at Modify p = reached e (rule_view r []) r.matching.normalised normal p
     at ModifyStrict p = named e (rule_view r []) p

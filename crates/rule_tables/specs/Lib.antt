@@ -4,6 +4,7 @@ pub mod Edited
 pub mod EditedRules
 pub mod Givings
 pub mod History
+pub mod Included
 pub mod Signed
 pub mod Stored
 pub mod Versions

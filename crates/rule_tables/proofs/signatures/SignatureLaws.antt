@@ -12,6 +12,7 @@ use Rattle.spec_keys.specs.Keys.{masked, joined, covers, agree, same, number_at,
 use Rattle.spec_tables.specs.Rules.{Match, Rule, is_within, is_same_match}
 use Rattle.spec_tables.specs.Edits.{Edit, is_in_table, is_reached_by, is_named_by, table_of}
 use Rattle.ovs_fields.specs.Equality.{equal_from_same}
+use Rattle.rule_tables.specs.Included.{IsNormalised, IsIncludedIn}
 use Rattle.rule_tables.specs.Signatures.{shifted, shift_of, superimposed, halves, ones_of, zeros_of, signature_of, has_bits, includes}
 
 -- the second number has no bit that the first one hasn't
@@ -156,8 +157,7 @@ module _ (m n : Match) (normal : masked m.key m.mask ≡ m.key) (less : masked n
       (has_from (signature_of m.key m.mask).ones (signature_of n.key n.mask).ones one)
       (has_from (signature_of m.key m.mask).zeros (signature_of n.key n.mask).zeros zero)
 
-pub reached_included : (e : Edit) (r : Rule) → masked r.matching.key r.matching.mask ≡ r.matching.key → masked e.matching.key e.matching.mask ≡ e.matching.key → is_reached_by e r ≡ true
-    → includes (signature_of r.matching.key r.matching.mask) (signature_of e.matching.key e.matching.mask) ≡ true
+pub reached_included : (e : Edit) (r : Rule) → IsNormalised r.matching → IsNormalised e.matching → is_reached_by e r ≡ true → IsIncludedIn e r
 reached_included e r normal less reached =
     within_included r.matching e.matching normal less (and_parts (is_in_table e.table r) (is_within r.matching e.matching) reached).1
 
@@ -165,8 +165,7 @@ reached_included e r normal less reached =
 has_own : (a : ℕ) → has_bits a a ≡ true
 has_own a = has_from a a (and_self a)
 
-pub named_included : (e : Edit) (r : Rule) → is_named_by e r ≡ true
-    → includes (signature_of r.matching.key r.matching.mask) (signature_of e.matching.key e.matching.mask) ≡ true
+pub named_included : (e : Edit) (r : Rule) → is_named_by e r ≡ true → IsIncludedIn e r
 named_included e r named =
     let rest = (and_parts (r.table == table_of e) ((r.priority == e.priority) && is_same_match r.matching e.matching) named).1 in
     let alike = (and_parts (r.priority == e.priority) (is_same_match r.matching e.matching) rest).1 in

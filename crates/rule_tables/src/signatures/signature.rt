@@ -1,11 +1,11 @@
 ghost use Rattle.std.specs.Prelude.{◌≡◌, true};
 ghost use Rattle.std.specs.List.{fold};
 ghost use Rattle.spec_keys.specs.Fields.{fields};
-ghost use Rattle.spec_keys.specs.Keys.{masked};
 ghost use Rattle.spec_tables.specs.Rules.{Rule};
 ghost use Rattle.spec_tables.specs.Edits.{Edit, is_named_by, is_reached_by};
 ghost use Rattle.ovs_fields.specs.Packed.{numbers, bits};
 ghost use Rattle.rule_tables.specs.Signatures.{halves, laid_on, superimposed, in_port_to_reg6, reg7_to_reg15, dl_src_to_nw_proto, nw_tos_to_vlan_tpid2, ones_of, zeros_of, signature_of, includes};
+ghost use Rattle.rule_tables.specs.Included.{IsNormalised, IsIncludedIn};
 
 use ovs_fields::{FieldId, Key, Mask};
 
@@ -202,9 +202,7 @@ impl Signature {
 /// The signature of a rule includes that of each edit that reaches or names it, if neither has bits of the key outside the
 /// mask.
 pub fn rules_include_their_edits()
-    ensures reached { (e : Edit) (r : Rule) → masked r.matching.key r.matching.mask ≡ r.matching.key
-        → masked e.matching.key e.matching.mask ≡ e.matching.key → is_reached_by e r ≡ true
-        → includes (signature_of r.matching.key r.matching.mask) (signature_of e.matching.key e.matching.mask) ≡ true }
-    ensures named { (e : Edit) (r : Rule) → is_named_by e r ≡ true
-        → includes (signature_of r.matching.key r.matching.mask) (signature_of e.matching.key e.matching.mask) ≡ true }
+    ensures reached { (e : Edit) (r : Rule) → IsNormalised r.matching → IsNormalised e.matching
+        → is_reached_by e r ≡ true → IsIncludedIn e r }
+    ensures named { (e : Edit) (r : Rule) → is_named_by e r ≡ true → IsIncludedIn e r }
 {}
