@@ -1,5 +1,5 @@
 -- A subtable, and the rules of its mask.
-use Rattle.std.specs.Prelude.{◌≡◌, ℕ, ◌<◌, ◌==◌, ◌&&◌, Bool, true, false, nat_le, if◌then◌else◌, List, length, map, filter, Option, Some, None, nat_eq}
+use Rattle.std.specs.Prelude.{◌≡◌, ℕ, ◌<◌, ◌==◌, ◌&&◌, Bool, true, false, nat_le, if◌then◌else◌, List, [], ◌∷◌, ◌++◌, length, map, filter, Option, Some, None, nat_eq}
 use Rattle.std.specs.Option.{option_map}
 use Rattle.std.specs.declared.hash.FoldHasher.{FoldHasher}
 use Rattle.std.specs.declared.hash.BuildHasherDefault.{BuildHasherDefault}
@@ -10,6 +10,8 @@ use Rattle.spec_keys.specs.Stages.{staged, metadata_stage, ethernet_stage, netwo
 use Rattle.spec_tables.specs.Rules.{Rule, winner}
 use Rattle.translation_laws.specs.Members.{Among}
 use Rattle.ovs_fields.specs.Packed.{numbers, bits}
+use Rattle.rule_tables.specs.declared.matching.Match.{Match}
+use Rattle.rule_tables.specs.Views.{match_view}
 use Rattle.masked_map.specs.Maps.{mask_of}
 use Rattle.staged_lookup.specs.declared.probe.Probe.{Probe}
 use Rattle.staged_lookup.specs.declared.probe.Probe.TheVariants.{Ended, Best}
@@ -62,6 +64,14 @@ HasRule number s = (rs : List Rule) × IsSubtableOf s rs × HasNumber number rs
 -- none of its rules has it
 abbrev pub HasNoRule : ℕ → Subtable → Type 0
 HasNoRule number s = (rs : List Rule) × IsSubtableOf s rs × HasNoNumber number rs
+
+-- the second subtable has whatever rules the first has, and one more of this number and priority with this match
+abbrev pub AddsRule : ℕ → ℕ → Match → Subtable → Subtable → Type 0
+AddsRule number priority m old new = (rs : List Rule) (r : Rule) → IsSubtableOf old rs → r.number ≡ number → r.priority ≡ priority → r.matching ≡ match_view m → IsSubtableOf new (rs ++ r ∷ [])
+
+-- or the same
+abbrev pub KeepsRules : Subtable → Subtable → Type 0
+KeepsRules old new = (rs : List Rule) → IsSubtableOf old rs → IsSubtableOf new rs
 
 -- the part of a mask that a stage reaches, with those before it; the last reaches all
 abbrev pub part_through : ℕ → List ℕ → List ℕ

@@ -1,10 +1,10 @@
 //! The ranks of the rules of one mask, by their keys.
 
 ghost use Rattle.std.specs.Prelude.{◌≡◌, ◌++◌, [], ◌∷◌, List, ℕ, OnOk, OnErr, if◌then◌else◌, filter};
-ghost use Rattle.spec_keys.specs.Keys.{masked, same};
+ghost use Rattle.spec_keys.specs.Keys.{masked};
 ghost use Rattle.ovs_fields.specs.Packed.{numbers};
 ghost use Rattle.masked_map.specs.Maps.{mask_of};
-ghost use Rattle.staged_lookup.specs.Counts.{ranks_at};
+ghost use Rattle.staged_lookup.specs.Counts.{ranks_at, is_key_in};
 ghost use Rattle.staged_lookup.specs.Ranks.{is_other};
 
 use crate::bucket::Bucket;
@@ -25,10 +25,9 @@ pub(crate) fn add_rank(
 ) -> Result<(), AllocError>
     ensures mask { mask_of buckets.new ≡ mask_of buckets.old }
     ensures ok { OnOk result
-        ((q : List ℕ)
-        → ranks_at buckets.new q
+        ((q : List ℕ) → ranks_at buckets.new q
         ≡ ranks_at buckets.old q
-        ++ (if same q (masked (numbers key.now) (mask_of buckets.old)) then rank ∷ [] else [])) }
+        ++ (if is_key_in buckets.old (numbers key.now) q then rank ∷ [] else [])) }
     ensures err { OnErr result ((q : List ℕ) → ranks_at buckets.new q ≡ ranks_at buckets.old q) }
 {
     buckets.reserve()?;
@@ -49,9 +48,8 @@ pub(crate) fn add_rank(
 pub(crate) fn take_rank(buckets: &mut Buckets, key: &Key, number: u32)
     requires { ranks_at buckets.old (masked (numbers key.now) (mask_of buckets.old)) ≡ [] → ⊥ }
     ensures mask { mask_of buckets.new ≡ mask_of buckets.old }
-    ensures ranks { (q : List ℕ)
-        → ranks_at buckets.new q
-        ≡ (if same q (masked (numbers key.now) (mask_of buckets.old)) then filter (is_other number)
+    ensures ranks { (q : List ℕ) → ranks_at buckets.new q
+        ≡ (if is_key_in buckets.old (numbers key.now) q then filter (is_other number)
         (ranks_at buckets.old q) else ranks_at buckets.old q) }
 {
     // Something stands at the key meanwhile, so that what is left needs no memory to stand there again.

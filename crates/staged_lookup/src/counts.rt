@@ -1,10 +1,10 @@
 //! How many rules have each key.
 
 ghost use Rattle.std.specs.Prelude.{◌≡◌, ◌<◌, ◌+◌, ◌^◌, ℕ, List, if◌then◌else◌};
-ghost use Rattle.spec_keys.specs.Keys.{masked, same};
+ghost use Rattle.spec_keys.specs.Keys.{masked};
 ghost use Rattle.ovs_fields.specs.Packed.{numbers};
 ghost use Rattle.masked_map.specs.Maps.{mask_of, room_of};
-ghost use Rattle.staged_lookup.specs.Counts.{count_at};
+ghost use Rattle.staged_lookup.specs.Counts.{count_at, is_key_in};
 
 use masked_map::{MaskedMap, PacketKey};
 use ovs_fields::Key;
@@ -20,7 +20,7 @@ pub(crate) fn add_count(counts: &mut KeyCounts, key: &Key)
     ensures counts { (q : List ℕ)
         → count_at counts.new q
         ≡ count_at counts.old q
-        + (if same q (masked (numbers key.now) (mask_of counts.old)) then 1 else 0) }
+        + (if is_key_in counts.old (numbers key.now) q then 1 else 0) }
 {
     let count = count_of(counts, key);
     counts.insert(key, count + 1);
@@ -32,7 +32,7 @@ pub(crate) fn take_count(counts: &mut KeyCounts, key: &Key)
     ensures mask { mask_of counts.new ≡ mask_of counts.old }
     ensures counts { (q : List ℕ)
         → count_at counts.new q
-        + (if same q (masked (numbers key.now) (mask_of counts.old)) then 1 else 0)
+        + (if is_key_in counts.old (numbers key.now) q then 1 else 0)
         ≡ count_at counts.old q }
 {
     let count = count_of(counts, key);

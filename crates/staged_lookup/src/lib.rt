@@ -30,21 +30,21 @@
 //! rules themselves, which the last stage would ask anyway. Where all rules have the same key under a part, nothing is
 //! hashed.
 //!
-//! Each part has a map of `masked_map`, of counts, and the whole mask one of buckets. So a key is masked, hashed and compared
-//! by 40 bytes instead of 176 where the part has no bits of metadata and registers, of the addresses of IPv6 and ARP, nor of
-//! an inner tag, and as much less of what the maps hold is read. The parts themselves stand in the maps alone, in as few
-//! bytes. Whoever probes several subtables with one key makes a `PacketKey` of it once.
+//! Each part has a map of `masked_map`, of counts, and the whole mask one of buckets. So a key is masked, hashed and
+//! compared by 40 bytes instead of 176 where the part has no bits of metadata and registers, of the addresses of IPv6
+//! and ARP, nor of an inner tag, and as much less of what the maps hold is read. The parts themselves stand in the maps
+//! alone, in as few bytes. Whoever probes several subtables with one key makes a `PacketKey` of it once.
 //!
-//! The rules with a key stand in one bucket, of their *ranks*: the priority and the number, which decide who wins. Rules of
-//! one mask and one key differ in their priorities alone, so most buckets have one rank, which stands in the map itself; more
-//! stand in a list of their own. Another map has the rules' keys by their numbers, for removals.
+//! The rules with a key stand in one bucket, of their *ranks*: the priority and the number, which decide who wins.
+//! Rules of one mask and one key differ in their priorities alone, so most buckets have one rank, which stands in the
+//! map itself; more stand in a list of their own. Another map has the rules' keys by their numbers, for removals.
 //!
 //! # What it costs
 //!
-//! A probe takes a hash and a probe of a map for each stage that it tests, and one more for the rules themselves. Of rules
-//! with one key it compares the ranks one by one; else none of it grows by the rules. An insertion and a removal take two of
-//! each map by keys, and one of that by numbers. An insertion takes memory where a map grows, and for the second rule of a
-//! key; a removal takes none.
+//! A probe takes a hash and a probe of a map for each stage that it tests, and one more for the rules themselves. Of
+//! rules with one key it compares the ranks one by one; else none of it grows by the rules. An insertion and a removal
+//! take two of each map by keys, and one of that by numbers. An insertion takes memory where a map grows, and for the
+//! second rule of a key; a removal takes none.
 //!
 //! # What is left to others
 //!

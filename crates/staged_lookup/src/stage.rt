@@ -1,11 +1,8 @@
-ghost use Rattle.std.specs.Prelude.{◌≡◌, true, false, ◌<◌, ◌^◌, ◌++◌, [], ◌∷◌, ℕ, List, OnOk};
-ghost use Rattle.spec_keys.specs.Keys.{masked, joined};
+ghost use Rattle.std.specs.Prelude.{◌≡◌, true, false, ◌<◌, [], ℕ, List, OnOk};
+ghost use Rattle.spec_keys.specs.Keys.{joined};
 ghost use Rattle.spec_tables.specs.Rules.{Rule};
 ghost use Rattle.ovs_fields.specs.Packed.{numbers, bits};
 ghost use Rattle.masked_map.specs.Unions.{union_of};
-ghost use Rattle.staged_lookup.specs.Counts.{count_at};
-ghost use Rattle.staged_lookup.specs.Numbered.{AreDistinct, without};
-ghost use Rattle.translation_laws.specs.Members.{Among};
 ghost use Rattle.staged_lookup.specs.declared.stage.StageKind.TheVariants as kinds;
 ghost use Rattle.staged_lookup.specs.declared.stage.Step.TheVariants as steps;
 
@@ -59,7 +56,7 @@ pub(crate) struct Stage {
 }
 
 impl Stage {
-    ghost use Rattle.staged_lookup.specs.Stages.{IsStage, IsStep, CountsFewer, HasRoom, IsCounted, some_agrees};
+    ghost use Rattle.staged_lookup.specs.Stages.{IsStage, IsStep, CountsTheSame, CountsOneMore, CountsOneLess, CountsFewer, HasRoom, IsCounted, some_agrees};
 
     /// A stage without rules, that reaches a part of a mask after another part.
     pub(crate) fn new(alloc: Global, before: &Mask, part: &Mask, mask: &Mask) -> Stage
@@ -82,8 +79,7 @@ impl Stage {
 
     /// Makes room for one more rule.
     pub(crate) fn reserve(&mut self) -> Result<(), AllocError>
-        ensures same { (before part mask : List ℕ) (rs : List Rule)
-            → IsStage self.old before part mask rs → IsStage self.new before part mask rs }
+        ensures same { CountsTheSame self.old self.new }
         ensures few { CountsFewer self.old → CountsFewer self.new }
         ensures room { OnOk result (HasRoom self.new) }
     {
@@ -97,9 +93,7 @@ impl Stage {
     pub(crate) fn add(&mut self, key: &Key)
         requires room { HasRoom self.old }
         requires few { CountsFewer self.old }
-        ensures { (before part mask : List ℕ) (rs : List Rule) (r : Rule)
-            → IsStage self.old before part mask rs → r.matching.key ≡ numbers key.now
-            → IsStage self.new before part mask (rs ++ r ∷ []) }
+        ensures { CountsOneMore (numbers key.now) self.old self.new }
     {
         match self.kind {
             StageKind::LikeTheOneBefore | StageKind::WholeMask => {}
@@ -110,10 +104,7 @@ impl Stage {
     /// Counts a rule with this key no longer.
     pub(crate) fn take(&mut self, key: &Key)
         requires { IsCounted self.old (numbers key.now) }
-        ensures { (before part mask : List ℕ) (rs : List Rule) (r : Rule)
-            → IsStage self.old before part mask rs → AreDistinct rs → Among r rs
-            → r.matching.key ≡ numbers key.now
-            → IsStage self.new before part mask (without r.number rs) }
+        ensures { CountsOneLess (numbers key.now) self.old self.new }
     {
         match self.kind {
             StageKind::LikeTheOneBefore | StageKind::WholeMask => {}

@@ -1,4 +1,4 @@
-ghost use Rattle.std.specs.Prelude.{◌≡◌, ◌==◌, ◌<◌, ◌++◌, [], ◌∷◌, ℕ, nat_eq, List, IsTrue, IsNone, OnOk, OnErr, IfSome, Some, None, if◌then◌else◌};
+ghost use Rattle.std.specs.Prelude.{◌≡◌, ◌==◌, ◌<◌, [], ℕ, nat_eq, List, IsTrue, IsNone, OnOk, OnErr, IfSome, Some, None, if◌then◌else◌};
 ghost use Rattle.indexmap.specs.IndexMap.{spare, get};
 ghost use Rattle.staged_lookup.specs.declared.probe.Probe.TheVariants as probes;
 ghost use Rattle.std.specs.List.{find};
@@ -7,7 +7,6 @@ ghost use Rattle.spec_keys.specs.Stages.{network_stage};
 ghost use Rattle.spec_keys.specs.Keys.{joined, same};
 ghost use Rattle.spec_tables.specs.Rules.{Rule, winner};
 ghost use Rattle.ovs_fields.specs.Packed.{numbers, bits};
-ghost use Rattle.rule_tables.specs.Views.{match_view};
 ghost use Rattle.masked_map.specs.Unions.{union_of};
 ghost use Rattle.staged_lookup.specs.Numbered.{without};
 ghost use Rattle.staged_lookup.specs.Ranks.{rank_of};
@@ -37,7 +36,7 @@ pub struct Subtable {
 }
 
 impl Subtable {
-    ghost use Rattle.staged_lookup.specs.Subtables.{IsSubtableOf, HasRule, HasNoRule, IsProbe, IsEarly, PassesTo, part_through, has_priority};
+    ghost use Rattle.staged_lookup.specs.Subtables.{IsSubtableOf, AddsRule, KeepsRules, HasRule, HasNoRule, IsProbe, IsEarly, PassesTo, part_through, has_priority};
 
     /// No rules of a mask. It takes no memory.
     pub fn new(alloc: Global, mask: &Mask) -> Subtable
@@ -64,12 +63,8 @@ impl Subtable {
         requires mask { IsTrue (same (bits matching.now.mask) (bits self.old.mask)) }
         requires new { HasNoRule number self.old }
         ensures mask { self.new.mask ≡ self.old.mask }
-        ensures ok { OnOk result
-            ((rs : List Rule) (r : Rule) → IsSubtableOf self.old rs
-            → r.number ≡ number → r.priority ≡ priority → r.matching ≡ match_view matching.now
-            → IsSubtableOf self.new (rs ++ r ∷ [])) }
-        ensures err { OnErr result
-            ((rs : List Rule) → IsSubtableOf self.old rs → IsSubtableOf self.new rs) }
+        ensures ok { OnOk result (AddsRule number priority matching.now self.old self.new) }
+        ensures err { OnErr result (KeepsRules self.old self.new) }
     {
         let _ = self.keys.len();
         self.metadata.reserve()?;
