@@ -84,6 +84,14 @@ CanHit number length_ c =
     (e : Entry) × (entry_of number c.entries ≡ Some e)
     × (e.packets + 1 < 2 ^ 64) × (e.bytes + length_ < 2 ^ 64) × (e.owed_packets ≤ e.packets) × (e.owed_bytes ≤ e.bytes)
 
+-- The totals have room for what the settle of a frame leads to,
+abbrev pub CanSettle : List ℕ → List ℕ → ℕ → Translation → ℕ → ℕ → Caches → Type 0
+CanSettle key mask v t length_ time c = (s : State) (frame : Frame) → AreCachesOf c s → IsFrameOf length_ time frame → HasFewTotals (settle_state c.limit key mask 1 v t frame s)
+
+-- and for what the put of the entry of a number does.
+abbrev pub CanPut : ℕ → List ℕ → ℕ → Translation → ℕ → Caches → Type 0
+CanPut number mask v t clock c = (s : State) (e : Entry) → AreCachesOf c s → s.clock ≡ clock → entry_of number s.entries ≡ Some e → HasFewTotals (put_state e mask v t s)
+
 -- A frame was decided by a translation: its rules are credited, and its actions are a list that stays.
 pub record IsCredited (t : Translation) (length_ : ℕ) (before : Caches) (list : ℕ) (after : Caches) : Type 0 where
   pub same : IsSameCache before after

@@ -1,7 +1,6 @@
 ghost use Rattle.std.specs.Prelude.{◌≡◌, ◌+◌, ◌<◌, ◌≤◌, ◌^◌, ℕ, Some, None, IsSome, IfOk, OnOk, OnErr, length, map};
 ghost use Rattle.ovs_fields.specs.Packed.{numbers, bits};
 ghost use Rattle.pipe_model.specs.Plains.{translation_in};
-ghost use Rattle.spec_pcap.specs.Pcap.{Frame};
 ghost use Rattle.spec_board.specs.State as states;
 ghost use Rattle.spec_board.specs.State.{State, opening};
 ghost use Rattle.std.specs.Option.{option_map};
@@ -12,7 +11,7 @@ ghost use Rattle.spec_board.specs.Cache.{cached, with_cached};
 ghost use Rattle.exact_cache.specs.SameSlots.{AreSameSlots};
 ghost use Rattle.board_steps.specs.StepViews.{settled_view};
 ghost use Rattle.port_caches.specs.Views.{AreCachesOf, IsHeld, actions_at, entry_view};
-ghost use Rattle.port_caches.specs.Steps.{AreRules, CanHit, HasFewTotals, IsCredited, IsFrameOf, IsHit, IsPut, IsSame, IsSettled, put_state, settle_state};
+ghost use Rattle.port_caches.specs.Steps.{AreRules, CanHit, CanPut, CanSettle, IsCredited, IsHit, IsPut, IsSame, IsSettled};
 
 use crate::entries::{displace, judged, named_by, new_entry, pay};
 use crate::lists::{HeldList, WrittenList, hold, list_for, push_list, reserve_lists};
@@ -218,8 +217,7 @@ impl PortCaches {
     ) -> Result<SettledFrame, AllocError>
         requires rules { AreRules self.old.rules made.visits }
         requires few { self.old.made + 1 < 2 ^ 32 }
-        requires fits { (s : State) (frame : Frame) → AreCachesOf self.old s → IsFrameOf length time frame
-            → HasFewTotals (settle_state self.old.limit (numbers key.now) (bits mask.now) 1 version (translation_in made) frame s) }
+        requires fits { CanSettle (numbers key.now) (bits mask.now) version (translation_in made) length time self.old }
         ensures settled { IfOk result (λ r. IsSettled (numbers key.now) (bits mask.now) version (translation_in made) length time self.old (settled_view r.settled) self.new) }
         ensures list { IfOk result (λ r. IsHeld self.new.lists r.list made.actions) }
         ensures room { OnOk result (keep ≤ self.new.room) }
@@ -260,8 +258,7 @@ impl PortCaches {
         requires live { IsSome (entry_of number self.old.entries) }
         requires room { 1 ≤ self.old.room }
         requires rules { AreRules self.old.rules made.visits }
-        requires fits { (s : State) (e : states.Entry) → AreCachesOf self.old s → s.clock ≡ clock → entry_of number s.entries ≡ Some e
-            → HasFewTotals (put_state e (bits mask.now) version (translation_in made) s) }
+        requires fits { CanPut number (bits mask.now) version (translation_in made) clock self.old }
         ensures { IsPut number (bits mask.now) version (translation_in made) clock self.old result.done self.new }
     {
         let done = self.judge(number, &made, mask, clock);
@@ -340,8 +337,7 @@ impl PortCaches {
         requires room { 1 ≤ self.old.room }
         requires rules { AreRules self.old.rules made.visits }
         requires few { self.old.made + 1 < 2 ^ 32 }
-        requires fits { (s : State) (frame : Frame) → AreCachesOf self.old s → IsFrameOf length time frame
-            → HasFewTotals (settle_state self.old.limit (numbers key.now) (bits mask.now) 1 version (translation_in made) frame s) }
+        requires fits { CanSettle (numbers key.now) (bits mask.now) version (translation_in made) length time self.old }
         ensures settled { IfOk result (λ r. IsSettled (numbers key.now) (bits mask.now) version (translation_in made) length time self.old (settled_view r.settled) self.new) }
         ensures list { IfOk result (λ r. IsHeld self.new.lists r.list made.actions) }
         ensures room { OnOk result (self.old.room ≤ self.new.room + 1) }

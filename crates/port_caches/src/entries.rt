@@ -1,19 +1,16 @@
 //! What is done with entries: over the fields of caches, so that nothing of them is lost to a proof on the way.
 
-ghost use Rattle.std.specs.Prelude.{◌≡◌, ◌++◌, ◌∷◌, ◌+◌, ◌<◌, List, [], ℕ, Some, All, IsSome, length, false, nat_le};
+ghost use Rattle.std.specs.Prelude.{◌≡◌, ◌++◌, ◌∷◌, ◌+◌, ◌<◌, [], ℕ, Some, All, IsSome, length, false, nat_le};
 ghost use Rattle.spec_keys.specs.Keys.{same};
 ghost use Rattle.ovs_fields.specs.Packed.{numbers, bits};
 ghost use Rattle.pipe_model.specs.Plains.{translation_in};
 ghost use Rattle.port_caches.specs.Sums.{IsCountable, total_of};
-ghost use Rattle.spec_board.specs.State.{State};
 ghost use Rattle.spec_board.specs.Results as board;
 ghost use Rattle.megaflow_table.specs.declared.entry.Entry.{Entry};
 ghost use Rattle.megaflow_table.specs.Entries.{ForEntry, changed, entry_of, overlaps, paid};
-ghost use Rattle.port_caches.specs.Lists.{actions_at};
-ghost use Rattle.port_caches.specs.Views.{entry_view};
+ghost use Rattle.port_caches.specs.Entries.{IsJudged, unused_entry};
 ghost use Rattle.port_caches.specs.Drops.{ArePayable, credited_with, entries_after, totals_after};
 ghost use Rattle.port_caches.specs.Steps.{AreRules};
-ghost use Rattle.port_caches.specs.declared.lists.HeldList.{HeldList};
 
 use crate::stats::Totals;
 use dp_actions::Visits;
@@ -36,19 +33,7 @@ pub(crate) fn new_entry(
     visits: Visits,
     used: u64,
 ) -> Entry
-    ensures { result ≡ record {
-      number = number;
-      key = key.now;
-      mask = mask.now;
-      version = version;
-      actions = actions;
-      visits = visits;
-      packets = 0;
-      bytes = 0;
-      owed_packets = 0;
-      owed_bytes = 0;
-      used = used;
-    } }
+    ensures { result ≡ unused_entry number key.now mask.now version actions visits used }
 {
     Entry {
         number,
@@ -183,8 +168,7 @@ pub(crate) fn judged(
     mask: &Mask,
     clock: u64,
 ) -> PutDone
-    ensures { (lists : List HeldList) (s : State) → actions_at lists entry.now.actions ≡ own.now → s.clock ≡ clock
-        → result ≡ board.put_of (entry_view lists entry.now) (translation_in made.now) (bits mask.now) s }
+    ensures { IsJudged entry.now own.now (translation_in made.now) (bits mask.now) clock result }
 {
     if is_idle(entry.used, clock) {
         return PutDone::Idle;
