@@ -5,3 +5,4 @@ pub mod ByNumber
 pub mod Fields
 pub mod Running
 pub mod Taken
+pub mod Attempts

@@ -1,11 +1,12 @@
 -- The boards of a run on which given steps are taken, and what is left of them when the last one was.
-use Rattle.std.specs.Prelude.{◌≡◌, ℕ, ◌==◌, if◌then◌else◌, List, [], map, Option}
+use Rattle.std.specs.Prelude.{◌≡◌, ℕ, Bool, ◌==◌, if◌then◌else◌, List, [], map, Option}
 use Rattle.std.specs.List.{find}
 use Rattle.spec_case.specs.declared.run_step.RunStep.{RunStep}
 use Rattle.spec_case.specs.Run.{Run}
 use Rattle.spec_case.specs.Blocks.{last_block}
 use Rattle.spec_board.specs.Schedules.{Board, Schedule, least_block}
-use Rattle.spec_board.specs.GivenSteps.{given_step}
+use Rattle.spec_board.specs.GivenSteps.{counted, given_step, port_of, with_step_at}
+use Rattle.given_steps.specs.ByNumber.{all_by_number}
 use Rattle.given_steps.specs.ScheduledViews.{ScheduledView, scheduled}
 
 -- There is one for each port, in the order of the words.
@@ -31,3 +32,9 @@ stepped_at run newest step port b = if b.port == port then (given_step run newes
 -- a board whose kept translations are given up
 abbrev pub without_kept : Board → Board
 without_kept b = record b { snaps = []; checks = [] }
+
+-- A given step does to the boards and to how many bundles are published what the definition has it do, in whatever order
+-- translations are kept, and is counted where it isn't met.
+abbrev pub TakesGiven : Run → RunStep → ℕ → List ScheduledView → Bool → ℕ → List ScheduledView → Type 0
+TakesGiven run step newest before met newest_then after =
+    (unmet : ℕ) → all_by_number (schedule_in run newest_then (counted met unmet) after) ≡ all_by_number (with_step_at run step (port_of step) (schedule_in run newest unmet before))

@@ -1,11 +1,11 @@
 //! Given steps of all boards of a run.
 ghost use Rattle.std.specs.Prelude.{◌≡◌, ◌+◌, ◌≤◌, ℕ, All, map, nat_lt, Some, if◌then◌else◌, IfOk, OnOk};
 ghost use Rattle.spec_case.specs.Blocks.{hi, last_block};
-ghost use Rattle.spec_board.specs.GivenSteps.{counted, is_met_at, port_of, with_step_at};
+ghost use Rattle.spec_board.specs.GivenSteps.{is_met_at, port_of};
 ghost use Rattle.run_boards.specs.Scheduled.{under_way};
 ghost use Rattle.given_steps.specs.ScheduledViews.{scheduled};
-ghost use Rattle.given_steps.specs.ByNumber.{by_number, all_by_number};
-ghost use Rattle.given_steps.specs.Running.{AreOfPorts, block_of_all, board_of, schedule_in, stepped_at, without_kept};
+ghost use Rattle.given_steps.specs.ByNumber.{by_number};
+ghost use Rattle.given_steps.specs.Running.{AreOfPorts, TakesGiven, block_of_all, board_of, stepped_at, without_kept};
 
 use crate::scheduled_board::ScheduledBoard;
 use crate::steps::take_step;
@@ -163,10 +163,8 @@ pub(crate) fn take_given<C: Case, T: RunTables<C>>(
     requires version { tables.old ≤ hi C.run (block_of_all C.run boards.old.items) }
     ensures ports { OnOk result (AreOfPorts C.run boards.new.items) }
     ensures version { OnOk result (tables.new ≤ hi C.run (block_of_all C.run boards.new.items)) }
-    ensures taken { IfOk result (λ met. (unmet : ℕ)
-        → all_by_number (schedule_in C.run tables.new (counted met unmet) boards.new.items)
-        ≡ all_by_number (with_step_at C.run step.now (port_of step.now)
-        (schedule_in C.run tables.old unmet boards.old.items))) }
+    ensures taken { IfOk result (λ met. TakesGiven C.run step.now
+        tables.old boards.old.items met tables.new boards.new.items) }
 {
     let _ = run.last_block();
     match port_in(step) {
