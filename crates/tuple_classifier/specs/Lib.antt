@@ -5,6 +5,8 @@ pub mod Indexes
 pub mod Kept
 pub mod Live
 pub mod LiveRules
+pub mod Lookups
+pub mod Named
 pub mod Numbers
 pub mod Order
 pub mod Parts
@@ -13,4 +15,5 @@ pub mod Placed
 pub mod Ranks
 pub mod Subtables
 pub mod Tables
+pub mod Updates
 pub mod Versions

@@ -1,5 +1,5 @@
 -- The order of the subtables of a table: by falling greatest priority.
-use Rattle.std.specs.Prelude.{◌≡◌, ℕ, ◌<◌, Bool, true, false, nat_le, List, slice_get, Option, Some, None}
+use Rattle.std.specs.Prelude.{◌≡◌, ℕ, ◌<◌, ◌≤◌, Bool, true, false, nat_le, List, slice_get, Option, Some, None}
 use Rattle.std.specs.List.{list_any}
 use Rattle.spec_tables.specs.Rules.{Rule}
 use Rattle.tuple_classifier.specs.declared.indexes.Indexes.{Indexes}
@@ -40,3 +40,24 @@ IsFallingBut place ss order = (i j p q : ℕ) (s t : Subtable) → i < j → (p 
 pub record AreRankedOf (ss : List Subtable) (rs : List Rule) : Type 0 where
   pub subtables : AreSubtablesOf ss rs
   pub falling : IsFalling ss
+
+-- The second order is right, if the first is but for the subtable at a place, and with that one too where its greatest
+-- priority is still the one before.
+abbrev pub Settles : ℕ → Option ℕ → List Subtable → List ℕ → List ℕ → Type 0
+Settles place before ss old new = IsFallingBut place ss old → ((s : Subtable) → slice_get ss place ≡ Some s → HasGreatest s.indexes before → IsFallingAlong ss old) → IsFallingAlong ss new
+
+-- the subtable at one place isn't below that at another
+abbrev pub IsNotBelowAt : List Subtable → ℕ → ℕ → Type 0
+IsNotBelowAt ss p q = (s t : Subtable) → slice_get ss p ≡ Some s → slice_get ss q ≡ Some t → IsNotBelow s.indexes t.indexes
+
+-- nor above it
+abbrev pub IsNotAboveAt : List Subtable → ℕ → ℕ → Type 0
+IsNotAboveAt ss p q = (s t : Subtable) → slice_get ss p ≡ Some s → slice_get ss q ≡ Some t → IsNotBelow t.indexes s.indexes
+
+-- none of those before an index of an order is below the subtable at a place
+abbrev pub BelongsBehind : ℕ → List Subtable → List ℕ → ℕ → Type 0
+BelongsBehind index ss order place = (i p : ℕ) (s t : Subtable) → i < index → slice_get order i ≡ Some p → slice_get ss p ≡ Some s → slice_get ss place ≡ Some t → IsNotBelow s.indexes t.indexes
+
+-- and none of those from the index on is above it
+abbrev pub BelongsBefore : ℕ → List Subtable → List ℕ → ℕ → Type 0
+BelongsBefore index ss order place = (i p : ℕ) (s t : Subtable) → index ≤ i → slice_get order i ≡ Some p → slice_get ss p ≡ Some s → slice_get ss place ≡ Some t → IsNotBelow t.indexes s.indexes

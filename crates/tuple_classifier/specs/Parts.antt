@@ -1,5 +1,5 @@
 -- The subtables of a table, and which of the table's rules each has.
-use Rattle.std.specs.Prelude.{◌≡◌, ℕ, Bool, true, nat_le, if◌then◌else◌, List, [], ◌∷◌, filter, slice_get, Some}
+use Rattle.std.specs.Prelude.{◌≡◌, ℕ, Bool, true, false, nat_le, if◌then◌else◌, List, [], ◌∷◌, filter, slice_get, Some}
 use Rattle.std.specs.List.{list_any, flat_map}
 use Rattle.spec_keys.specs.Keys.{same}
 use Rattle.spec_tables.specs.Rules.{Rule}
@@ -24,6 +24,18 @@ of_mask mask rs = filter (λ r. same r.matching.mask mask) rs
 -- one of the subtables has this mask
 abbrev pub HasMask : List Subtable → List ℕ → Type 0
 HasMask ss mask = (i : ℕ) × (s : Subtable) × (slice_get ss i ≡ Some s) × (same mask (bits s.staged.mask) ≡ true)
+
+-- the one at a place has it
+abbrev pub HasMaskAt : ℕ → List Subtable → List ℕ → Type 0
+HasMaskAt place ss mask = (s : Subtable) → slice_get ss place ≡ Some s → same (bits s.staged.mask) mask ≡ true
+
+-- none has it
+abbrev pub LacksMask : List Subtable → List ℕ → Type 0
+LacksMask ss mask = (i : ℕ) (s : Subtable) → slice_get ss i ≡ Some s → same (bits s.staged.mask) mask ≡ false
+
+-- none of the rules is of the mask of the subtable at a place
+abbrev pub IsEmptyAt : ℕ → List Subtable → List Rule → Type 0
+IsEmptyAt place ss rs = (s : Subtable) → slice_get ss place ≡ Some s → of_mask (bits s.staged.mask) rs ≡ []
 
 -- the subtables have these rules: each those of its mask
 pub record AreSubtablesOf (ss : List Subtable) (rs : List Rule) : Type 0 where

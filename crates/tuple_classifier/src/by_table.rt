@@ -1,15 +1,14 @@
 //! The rules of all tables.
 
-ghost use Rattle.std.specs.Prelude.{◌≡◌, ◌==◌, ◌&&◌, ◌+◌, ◌<◌, ◌^◌, ◌++◌, [], ◌∷◌, ℕ, List, length, OnOk, OnErr};
+ghost use Rattle.std.specs.Prelude.{◌≡◌, ◌+◌, ◌<◌, ◌^◌, ℕ, List, length, OnOk, OnErr};
 ghost use Rattle.std.specs.List.{find};
 ghost use Rattle.std.specs.Option.{option_map};
-ghost use Rattle.spec_tables.specs.Rules.{Rule, is_same_match};
+ghost use Rattle.spec_tables.specs.Rules.{Rule};
 ghost use Rattle.spec_tables.specs.Edits.{is_named_by};
 ghost use Rattle.rule_tables.specs.Views.{match_view};
 ghost use Rattle.tuple_classifier.specs.ByTable.{AreClassified, HaveNoRule, HaveRuleOf};
-ghost use Rattle.staged_lookup.specs.Numbered.{AreDistinct, without};
-ghost use Rattle.staged_lookup.specs.Ranks.{rank_of};
-ghost use Rattle.translation_laws.specs.Members.{Among};
+ghost use Rattle.tuple_classifier.specs.Named.{has_match_in};
+ghost use Rattle.tuple_classifier.specs.Updates.{KeepsRules, AddsRuleIn, TakesRuleIn};
 
 use crate::table::Table;
 use rule_tables::{Edit, Match};
@@ -28,13 +27,10 @@ pub(crate) fn insert_in(
     requires new { HaveNoRule rank.number tables.old.items }
     requires few { (rules : List Rule) × (AreClassified tables.old.items rules)
         × (length rules + 1 < 2 ^ 32) }
-    ensures ok { OnOk result
-        ((rules : List Rule) (r : Rule) → AreClassified tables.old.items rules → r.table ≡ table
-        → r.matching ≡ match_view matching.now → rank_of r ≡ rank
-        → AreClassified tables.new.items (rules ++ r ∷ [])) }
+    ensures ok { OnOk result (AddsRuleIn table matching.now rank
+        (AreClassified tables.old.items) (AreClassified tables.new.items)) }
     ensures err { OnErr result
-        ((rules : List Rule) → AreClassified tables.old.items rules
-        → AreClassified tables.new.items rules) }
+        (KeepsRules (AreClassified tables.old.items) (AreClassified tables.new.items)) }
 {
     grow(alloc, tables, table)?;
     tables[table as usize].insert(alloc, matching, rank)
@@ -42,8 +38,7 @@ pub(crate) fn insert_in(
 
 /// Makes the tables up to one, without rules, where they are missing.
 fn grow(alloc: Global, tables: &mut Vec<Table>, table: u8) -> Result<(), AllocError>
-    ensures rules { (rules : List Rule) → AreClassified tables.old.items rules
-        → AreClassified tables.new.items rules }
+    ensures rules { KeepsRules (AreClassified tables.old.items) (AreClassified tables.new.items) }
     ensures numbers { (number : ℕ) → HaveNoRule number tables.old.items
         → HaveNoRule number tables.new.items }
     ensures there { OnOk result (table < length tables.new.items) }
@@ -57,9 +52,8 @@ fn grow(alloc: Global, tables: &mut Vec<Table>, table: u8) -> Result<(), AllocEr
 /// Takes a rule out of a table. It takes no memory.
 pub(crate) fn take_from(tables: &mut Vec<Table>, table: u8, matching: &Match, rank: Rank)
     requires { HaveRuleOf tables.old.items table (match_view matching.now) rank }
-    ensures { (rules : List Rule) (r : Rule) → AreClassified tables.old.items rules
-        → AreDistinct rules → Among r rules → r.table ≡ table → r.matching ≡ match_view matching.now
-        → rank_of r ≡ rank → AreClassified tables.new.items (without r.number rules) }
+    ensures { TakesRuleIn table matching.now rank
+        (AreClassified tables.old.items) (AreClassified tables.new.items) }
 {
     let table = table as usize;
     if table < tables.len() {
@@ -84,8 +78,7 @@ pub(crate) fn find_named(tables: &[Table], edit: &Edit) -> Option<u32>
 fn find_in(tables: &[Table], table: u8, matching: &Match, priority: u16) -> Option<u32>
     ensures { (rules : List Rule) → AreClassified tables.now rules
         → result ≡ option_map (λ r. r.number)
-        (find (λ r. (r.table == table) &&
-        ((r.priority == priority) && is_same_match r.matching (match_view matching.now))) rules) }
+        (find (has_match_in table (match_view matching.now) priority) rules) }
 {
     if (table as usize) < tables.len() {
         tables[table as usize].find(matching, priority)

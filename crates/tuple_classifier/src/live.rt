@@ -8,6 +8,7 @@ ghost use Rattle.spec_tables.specs.Rules as seen;
 ghost use Rattle.spec_tables.specs.Edits.{is_named_by};
 ghost use Rattle.tuple_classifier.specs.ByTable.{AreClassified, HaveNoRule};
 ghost use Rattle.tuple_classifier.specs.Live.{unboxed, plain_rule, plain_rules, given_by, given_to, is_found, is_kept, is_unlike, earlier, IsRising, AreIdentifiedBefore, ArePlaced};
+ghost use Rattle.tuple_classifier.specs.Updates.{KeepsRules};
 ghost use Rattle.tuple_classifier.specs.declared.live.LiveRule.{LiveRule};
 
 use crate::by_table::{find_named, insert_in, take_from};
@@ -284,8 +285,7 @@ pub(crate) fn insert_live(
         ((rules : List seen.Rule) → AreClassified tables.old.items rules
         → AreClassified tables.new.items (rules ++ plain_rule l.now ∷ [])) }
     ensures err { OnErr result
-        ((rules : List seen.Rule) → AreClassified tables.old.items rules
-        → AreClassified tables.new.items rules) }
+        (KeepsRules (AreClassified tables.old.items) (AreClassified tables.new.items)) }
 {
     insert_in(alloc, tables, l.rule.table, &l.rule.matching, l.rank())
 }

@@ -1,25 +1,21 @@
 //! What a lookup in one table answers, and the bits that it consults.
 
-ghost use Rattle.std.specs.Prelude.{◌≡◌, List, [], ◌∷◌, Some, None, IfSome};
+ghost use Rattle.std.specs.Prelude.{◌≡◌, List, Some, None, IfSome};
 ghost use Rattle.std.specs.Option.{option_map};
 ghost use Rattle.spec_keys.specs.Keys.{joined};
-ghost use Rattle.spec_keys.specs.Stages.{network_stage};
 ghost use Rattle.spec_tables.specs.Rules.{Rule, winner};
 ghost use Rattle.spec_xlate.specs.Lookup as xlate;
-ghost use Rattle.spec_xlate.specs.Lookup.{added, consults};
-ghost use Rattle.ovs_fields.specs.Packed.{numbers, bits};
+ghost use Rattle.spec_xlate.specs.Lookup.{consults};
+ghost use Rattle.ovs_fields.specs.Packed.{bits};
 ghost use Rattle.masked_map.specs.Unions.{union_of};
 ghost use Rattle.address_prefixes.specs.Addresses.{AreOf, AreKnown};
-ghost use Rattle.staged_lookup.specs.Numbered.{AreDistinct};
 ghost use Rattle.staged_lookup.specs.Subtables.{tested_part, found_rank};
 ghost use Rattle.staged_lookup.specs.Subtables as by_stages;
 ghost use Rattle.staged_lookup.specs.declared.probe.Probe.TheVariants as probes;
 ghost use Rattle.tuple_classifier.specs.Kept.{ranked};
-ghost use Rattle.tuple_classifier.specs.Order.{AreRankedOf};
-ghost use Rattle.tuple_classifier.specs.Parts.{of_mask};
-ghost use Rattle.tuple_classifier.specs.Passes.{HasPassed, GoesOn};
+ghost use Rattle.tuple_classifier.specs.Lookups.{key_of, own_rules, Consults, late_tests, ForTable, ForSubtable, IfPassed};
+ghost use Rattle.tuple_classifier.specs.Passes.{GoesOn};
 ghost use Rattle.tuple_classifier.specs.Ranks.{rank_of, floor_of, best_of_pair};
-ghost use Rattle.tuple_classifier.specs.Subtables.{IsSubtableOf};
 
 use crate::subtable::Subtable;
 use crate::subtables::Subtables;
@@ -37,11 +33,10 @@ pub(crate) fn look(
     consulted: &mut MaskUnion,
 ) -> Option<u32>
     requires { (rs : List Rule) × (AreOf prefixes.now rs) }
-    ensures winner { (rs : List Rule) → AreRankedOf (ranked subtables.now) rs → AreOf prefixes.now rs
-        → AreDistinct rs → result ≡ option_map (λ r. r.number) (winner rs (numbers key.now.key.now)) }
-    ensures consulted { (rs : List Rule) → AreRankedOf (ranked subtables.now) rs → AreOf prefixes.now rs
-        → AreDistinct rs
-        → union_of consulted.new ≡ added (union_of consulted.old) (consults rs (numbers key.now.key.now)) }
+    ensures winner { ForTable (ranked subtables.now) prefixes.now
+        (λ rs. result ≡ option_map (λ r. r.number) (winner rs (key_of key.now))) }
+    ensures consulted { ForTable (ranked subtables.now) prefixes.now
+        (λ rs. Consults consulted.old consulted.new (consults rs (key_of key.now))) }
 {
     let mut known = AddressLookups::none();
     let mut best = None;
@@ -92,18 +87,12 @@ fn probe(
 ) -> Option<Rank>
     requires { (rs : List Rule) × (AreOf prefixes.now rs) }
     ensures known { (rs : List Rule) → AreOf prefixes.now rs
-        → AreKnown known.old (numbers key.now.key.now) rs → AreKnown known.new (numbers key.now.key.now) rs }
-    ensures best { (rs : List Rule)
-        → IsSubtableOf subtable.now (of_mask (bits subtable.now.staged.mask) rs)
-        → AreOf prefixes.now rs → AreKnown known.old (numbers key.now.key.now) rs
-        → result ≡ option_map rank_of
-        (winner (of_mask (bits subtable.now.staged.mask) rs) (numbers key.now.key.now)) }
-    ensures consulted { (rs : List Rule)
-        → IsSubtableOf subtable.now (of_mask (bits subtable.now.staged.mask) rs)
-        → AreOf prefixes.now rs → AreKnown known.old (numbers key.now.key.now) rs
-        → union_of consulted.new
-        ≡ added (union_of consulted.old)
-        (xlate.probe rs (numbers key.now.key.now) (bits subtable.now.staged.mask)) }
+        → AreKnown known.old (key_of key.now) rs → AreKnown known.new (key_of key.now) rs }
+    ensures best { ForSubtable subtable.now prefixes.now known.old key.now
+        (λ rs. result ≡ option_map rank_of (winner (own_rules subtable.now.staged rs) (key_of key.now))) }
+    ensures consulted { ForSubtable subtable.now prefixes.now known.old key.now
+        (λ rs. Consults consulted.old consulted.new
+        (xlate.probe rs (key_of key.now) (bits subtable.now.staged.mask))) }
 {
     let staged = &subtable.staged;
     let early = staged.probe_early(key);
@@ -142,16 +131,11 @@ fn finish(
     key: &PacketKey<'_>,
     consulted: &mut MaskUnion,
 ) -> Option<Rank>
-    ensures best { (own : List Rule) → by_stages.IsSubtableOf staged.now own
-        → HasPassed early (bits staged.now.mask) (numbers key.now.key.now) own
-        → result ≡ option_map rank_of (winner own (numbers key.now.key.now)) }
-    ensures consulted { (rs : List Rule)
-        → by_stages.IsSubtableOf staged.now (of_mask (bits staged.now.mask) rs)
-        → HasPassed early (bits staged.now.mask) (numbers key.now.key.now) (of_mask (bits staged.now.mask) rs)
-        → union_of consulted.new
-        ≡ added (union_of consulted.old)
-        (xlate.stage_test rs (numbers key.now.key.now) (bits staged.now.mask) network_stage
-        (bits staged.now.mask ∷ [])) }
+    ensures best { (own : List Rule) → IfPassed early staged.now key.now own
+        (result ≡ option_map rank_of (winner own (key_of key.now))) }
+    ensures consulted { (rs : List Rule) → IfPassed early staged.now key.now (own_rules staged.now rs)
+        (Consults consulted.old consulted.new
+        (late_tests rs (key_of key.now) (bits staged.now.mask))) }
 {
     match early {
         Some(probe) => told(staged, probe, consulted),

@@ -4,7 +4,7 @@
 ghost use Rattle.std.specs.Prelude.{◌≡◌, ◌<◌, ◌≤◌, ◌+◌, ℕ, ◌==◌, if◌then◌else◌, List, length, slice_get, swap_remove, Some, IsTrue, IsFalse, vec_len, vec_capacity};
 ghost use Rattle.indexmap.specs.IndexMap.{values, index_map_len};
 ghost use Rattle.tuple_classifier.specs.Numbers.{times};
-ghost use Rattle.tuple_classifier.specs.Order.{IsNotBelow, IsFallingAlong, IsFallingBut, HasGreatest};
+ghost use Rattle.tuple_classifier.specs.Order.{IsFallingAlong, IsFallingBut, Settles, IsNotBelowAt, IsNotAboveAt, BelongsBehind, BelongsBefore};
 ghost use Rattle.tuple_classifier.specs.Placed.{IsOrderOf, AreWithin};
 ghost use Rattle.tuple_classifier.specs.declared.subtable.Subtable.{Subtable};
 
@@ -16,10 +16,7 @@ pub(crate) fn settle(by_mask: &ByMask, order: &mut Vec<u32>, place: usize, befor
     requires order { IsOrderOf (index_map_len by_mask.now) order.old.items }
     requires within { place < index_map_len by_mask.now }
     ensures order { IsOrderOf (index_map_len by_mask.now) order.new.items }
-    ensures falling { IsFallingBut place (values by_mask.now) order.old.items
-        → ((s : Subtable) → slice_get (values by_mask.now) place ≡ Some s → HasGreatest s.indexes before
-        → IsFallingAlong (values by_mask.now) order.old.items)
-        → IsFallingAlong (values by_mask.now) order.new.items }
+    ensures falling { Settles place before (values by_mask.now) order.old.items order.new.items }
 {
     if by_mask[place].indexes.greatest() == before {
         return;
@@ -65,14 +62,10 @@ fn index_for(by_mask: &ByMask, order: &[u32], place: usize) -> usize
     requires places { AreWithin (index_map_len by_mask.now) order.now }
     requires within { place < index_map_len by_mask.now }
     ensures bound { result ≤ length order.now }
-    ensures before { IsFallingAlong (values by_mask.now) order.now → (i p : ℕ) (s t : Subtable)
-        → i < result → slice_get order.now i ≡ Some p
-        → slice_get (values by_mask.now) p ≡ Some s → slice_get (values by_mask.now) place ≡ Some t
-        → IsNotBelow s.indexes t.indexes }
-    ensures behind { IsFallingAlong (values by_mask.now) order.now → (i p : ℕ) (s t : Subtable)
-        → result ≤ i → slice_get order.now i ≡ Some p
-        → slice_get (values by_mask.now) p ≡ Some s → slice_get (values by_mask.now) place ≡ Some t
-        → IsNotBelow t.indexes s.indexes }
+    ensures before { IsFallingAlong (values by_mask.now) order.now
+        → BelongsBehind result (values by_mask.now) order.now place }
+    ensures behind { IsFallingAlong (values by_mask.now) order.now
+        → BelongsBefore result (values by_mask.now) order.now place }
 {
     let mut low = 0;
     let mut high = order.len();
@@ -91,12 +84,8 @@ fn index_for(by_mask: &ByMask, order: &[u32], place: usize) -> usize
 fn is_above(by_mask: &ByMask, place: usize, other: usize) -> bool
     requires within { place < index_map_len by_mask.now }
     requires other_within { other < index_map_len by_mask.now }
-    ensures above { IsTrue result → (s t : Subtable)
-        → slice_get (values by_mask.now) place ≡ Some s → slice_get (values by_mask.now) other ≡ Some t
-        → IsNotBelow s.indexes t.indexes }
-    ensures not_above { IsFalse result → (s t : Subtable)
-        → slice_get (values by_mask.now) place ≡ Some s → slice_get (values by_mask.now) other ≡ Some t
-        → IsNotBelow t.indexes s.indexes }
+    ensures above { IsTrue result → IsNotBelowAt (values by_mask.now) place other }
+    ensures not_above { IsFalse result → IsNotAboveAt (values by_mask.now) place other }
 {
     by_mask[place].indexes.is_above(&by_mask[other].indexes)
 }

@@ -1,7 +1,7 @@
-ghost use Rattle.std.specs.Prelude.{◌≡◌, length, slice_index, ◌<◌, ◌-◌, IfSome, ◌≤◌, ◌+◌, ◌==◌, ℕ, [], All, nat_le, if◌then◌else◌, vec_len, vec_capacity, OnOk, IsNone};
+ghost use Rattle.std.specs.Prelude.{◌≡◌, length, ◌<◌, ◌-◌, IfSome, ◌≤◌, ◌+◌, ◌==◌, ℕ, [], All, nat_le, if◌then◌else◌, vec_len, vec_capacity, OnOk, IsNone};
 ghost use Rattle.std.specs.List.{list_any, insert};
 ghost use Rattle.std.specs.List.Sorted.{IsNonDecreasingBy};
-ghost use Rattle.tuple_classifier.specs.Numbers.{times, numbers_in, entry_numbers, entry_counts};
+ghost use Rattle.tuple_classifier.specs.Numbers.{times, numbers_in, number_at, count_at, times_by};
 
 use std::alloc::{AllocError, Global};
 
@@ -97,9 +97,9 @@ impl SortedNumbers {
 fn first_beyond(items: &[Counted], number: u16) -> usize
     requires { IsNonDecreasingBy (λ c. c.number) items.now }
     ensures within { result ≤ length items.now }
-    ensures up_to { (k : ℕ) → k < result → slice_index (entry_numbers items.now) k ≤ number }
+    ensures up_to { (k : ℕ) → k < result → number_at k items.now ≤ number }
     ensures beyond { (k : ℕ) → result ≤ k → k < length items.now
-        → number < slice_index (entry_numbers items.now) k }
+        → number < number_at k items.now }
 {
     items.partition_point(|item| item.number <= number)
 }
@@ -110,7 +110,7 @@ fn place_of(items: &[Counted], number: u16) -> usize
     requires counted { All (λ c. 0 < c.count) items.now }
     requires there { 0 < times number (numbers_in items.now) }
     ensures within { result < length items.now }
-    ensures number { slice_index (entry_numbers items.now) result ≡ number }
+    ensures number { number_at result items.now ≡ number }
 {
     first_beyond(items, number) - 1
 }
@@ -119,8 +119,8 @@ fn place_of(items: &[Counted], number: u16) -> usize
 fn raised_count(items: &[Counted], beyond: usize, number: u16) -> Option<u32>
     requires { beyond ≤ length items.now }
     ensures { IfSome result
-        (λ count. (0 < beyond) × (slice_index (entry_numbers items.now) (beyond - 1) ≡ number)
-        × (slice_index (entry_counts items.now) (beyond - 1) + 1 ≡ count)) }
+        (λ count. (0 < beyond) × (number_at (beyond - 1) items.now ≡ number)
+        × (count_at (beyond - 1) items.now + 1 ≡ count)) }
 {
     if beyond == 0 {
         return None;
@@ -154,11 +154,8 @@ fn set_count(items: &mut [Counted], place: usize, count: u32)
         → IsNonDecreasingBy (λ c. c.number) items.new }
     ensures counted { All (λ c. 0 < c.count) items.old → All (λ c. 0 < c.count) items.new }
     ensures times { (n : ℕ)
-        → times n (numbers_in items.new) +
-        (if slice_index (entry_numbers items.old) place == n then slice_index
-        (entry_counts items.old) place else 0)
-        ≡ times n (numbers_in items.old) +
-        (if slice_index (entry_numbers items.old) place == n then count else 0) }
+        → times n (numbers_in items.new) + times_by n (number_at place items.old) (count_at place items.old)
+        ≡ times n (numbers_in items.old) + times_by n (number_at place items.old) count }
 {
     items[place].count = count;
 }

@@ -1,14 +1,14 @@
-ghost use Rattle.std.specs.Prelude.{◌≡◌, ◌==◌, ◌&&◌, ◌++◌, [], ◌∷◌, List, IsTrue, OnOk, OnErr};
+ghost use Rattle.std.specs.Prelude.{◌≡◌, [], List, IsTrue, OnOk, OnErr};
 ghost use Rattle.std.specs.List.{find};
 ghost use Rattle.std.specs.Option.{option_map};
 ghost use Rattle.spec_keys.specs.Keys.{same};
 ghost use Rattle.spec_tables.specs.Rules.{Rule};
 ghost use Rattle.ovs_fields.specs.Packed.{numbers, bits};
-ghost use Rattle.rule_tables.specs.Views.{match_view};
 ghost use Rattle.staged_lookup.specs.Numbered.{without};
 ghost use Rattle.staged_lookup.specs.Ranks.{rank_of};
-ghost use Rattle.staged_lookup.specs.Subtables.{HasNoRule};
+ghost use Rattle.staged_lookup.specs.Subtables.{HasNoRule, has_priority};
 ghost use Rattle.translation_laws.specs.Members.{Among};
+ghost use Rattle.tuple_classifier.specs.Updates.{KeepsRules, AddsRule};
 
 use crate::indexes::Indexes;
 use indexmap::IndexMap;
@@ -48,11 +48,8 @@ impl Subtable {
         requires new { HasNoRule rank.number self.old.staged }
         ensures mask { self.new.staged.mask ≡ self.old.staged.mask }
         ensures ok { OnOk result
-            ((rs : List Rule) (r : Rule) → IsSubtableOf self.old rs
-            → r.matching ≡ match_view matching.now → rank_of r ≡ rank
-            → IsSubtableOf self.new (rs ++ r ∷ [])) }
-        ensures err { OnErr result
-            ((rs : List Rule) → IsSubtableOf self.old rs → IsSubtableOf self.new rs) }
+            (AddsRule matching.now rank (IsSubtableOf self.old) (IsSubtableOf self.new)) }
+        ensures err { OnErr result (KeepsRules (IsSubtableOf self.old) (IsSubtableOf self.new)) }
     {
         self.indexes.reserve()?;
         self.staged.insert(rank.number, rank.priority, matching)?;
@@ -82,7 +79,7 @@ impl Subtable {
     pub(crate) fn find(&self, key: &Key, priority: u16) -> Option<u32>
         ensures { (rs : List Rule) → IsSubtableOf self.now rs
             → result ≡ option_map (λ r. r.number)
-            (find (λ r. same (numbers key.now) r.matching.key && (r.priority == priority)) rs) }
+            (find (has_priority (numbers key.now) priority) rs) }
     {
         self.staged.find(key, priority)
     }

@@ -1,20 +1,19 @@
-ghost use Rattle.std.specs.Prelude.{◌≡◌, ◌<◌, ◌==◌, ◌&&◌, ◌++◌, [], ◌∷◌, ℕ, List, true, false, length, slice_get, Some, None, IfSome, IsNone, IfOk, OnOk, OnErr};
+ghost use Rattle.std.specs.Prelude.{◌≡◌, ◌<◌, [], ℕ, List, true, length, slice_get, Some, None, IfSome, IsNone, IfOk, OnOk, OnErr};
 ghost use Rattle.std.specs.List.{find};
 ghost use Rattle.std.specs.Option.{option_map};
 ghost use Rattle.indexmap.specs.IndexMap.{values, index_map_len, get_by};
 ghost use Rattle.spec_keys.specs.Keys.{same};
-ghost use Rattle.spec_tables.specs.Rules.{Rule, is_same_match};
+ghost use Rattle.spec_tables.specs.Rules.{Rule};
 ghost use Rattle.ovs_fields.specs.Packed.{bits};
 ghost use Rattle.rule_tables.specs.Views.{match_view};
-ghost use Rattle.staged_lookup.specs.Numbered.{AreDistinct, without};
-ghost use Rattle.staged_lookup.specs.Ranks.{rank_of};
 ghost use Rattle.staged_lookup.specs.Subtables.{HasNoRule};
+ghost use Rattle.tuple_classifier.specs.Named.{has_match};
 ghost use Rattle.tuple_classifier.specs.Order.{IsFallingBut};
-ghost use Rattle.tuple_classifier.specs.Parts.{AreSubtablesOf, IsSubtableOfOne, of_mask};
+ghost use Rattle.tuple_classifier.specs.Parts.{AreSubtablesOf, IsSubtableOfOne, HasMaskAt, LacksMask, IsEmptyAt};
 ghost use Rattle.tuple_classifier.specs.Placed.{AreKeyed, IsOrderOf};
 ghost use Rattle.tuple_classifier.specs.Subtables.{Holds};
+ghost use Rattle.tuple_classifier.specs.Updates.{KeepsRules, AddsRule, TakesRule};
 ghost use Rattle.tuple_classifier.specs.declared.subtable.Subtable.{Subtable};
-ghost use Rattle.translation_laws.specs.Members.{Among};
 
 use crate::order::{enter, leave, settle};
 use crate::subtable::{ByMask, Subtable};
@@ -35,7 +34,7 @@ pub(crate) struct Subtables {
 }
 
 impl Subtables {
-    ghost use Rattle.tuple_classifier.specs.Kept.{AreKeptOf, by_place, ranked};
+    ghost use Rattle.tuple_classifier.specs.Kept.{AreKeptOf, TakesRuleAt, by_place, ranked};
 
     /// None. It takes no memory.
     pub(crate) fn new(alloc: Global) -> Subtables
@@ -72,11 +71,8 @@ impl Subtables {
         requires { (i : ℕ) (s : Subtable) → slice_get (by_place self.old) i ≡ Some s
             → HasNoRule rank.number s.staged }
         ensures ok { OnOk result
-            ((rs : List Rule) (r : Rule) → AreKeptOf self.old rs
-            → r.matching ≡ match_view matching.now → rank_of r ≡ rank
-            → AreKeptOf self.new (rs ++ r ∷ [])) }
-        ensures err { OnErr result
-            ((rs : List Rule) → AreKeptOf self.old rs → AreKeptOf self.new rs) }
+            (AddsRule matching.now rank (AreKeptOf self.old) (AreKeptOf self.new)) }
+        ensures err { OnErr result (KeepsRules (AreKeptOf self.old) (AreKeptOf self.new)) }
     {
         match place_of_mask(&self.by_mask, &matching.mask) {
             Some(place) => self.insert_at(place, matching, rank),
@@ -87,16 +83,12 @@ impl Subtables {
     /// Adds a rule to the subtable of its mask, which is at a place.
     fn insert_at(&mut self, place: usize, matching: &Match, rank: Rank) -> Result<(), AllocError>
         requires within { place < index_map_len self.old.by_mask }
-        requires mask { (s : Subtable) → slice_get (by_place self.old) place ≡ Some s
-            → same (bits s.staged.mask) (bits matching.now.mask) ≡ true }
+        requires mask { HasMaskAt place (by_place self.old) (bits matching.now.mask) }
         requires new { (s : Subtable) → slice_get (by_place self.old) place ≡ Some s
             → HasNoRule rank.number s.staged }
         ensures ok { OnOk result
-            ((rs : List Rule) (r : Rule) → AreKeptOf self.old rs
-            → r.matching ≡ match_view matching.now → rank_of r ≡ rank
-            → AreKeptOf self.new (rs ++ r ∷ [])) }
-        ensures err { OnErr result
-            ((rs : List Rule) → AreKeptOf self.old rs → AreKeptOf self.new rs) }
+            (AddsRule matching.now rank (AreKeptOf self.old) (AreKeptOf self.new)) }
+        ensures err { OnErr result (KeepsRules (AreKeptOf self.old) (AreKeptOf self.new)) }
     {
         let before = self.by_mask[place].indexes.greatest();
         self.by_mask[place].insert(matching, rank)?;
@@ -107,14 +99,10 @@ impl Subtables {
     /// Adds a rule whose mask none of them has.
     fn insert_new(&mut self, alloc: Global, matching: &Match, rank: Rank) -> Result<(), AllocError>
         requires absent { get_by (λ m. same (bits matching.now.mask) (bits m)) self.old.by_mask ≡ None }
-        requires none { (i : ℕ) (s : Subtable) → slice_get (by_place self.old) i ≡ Some s
-            → same (bits s.staged.mask) (bits matching.now.mask) ≡ false }
+        requires none { LacksMask (by_place self.old) (bits matching.now.mask) }
         ensures ok { OnOk result
-            ((rs : List Rule) (r : Rule) → AreKeptOf self.old rs
-            → r.matching ≡ match_view matching.now → rank_of r ≡ rank
-            → AreKeptOf self.new (rs ++ r ∷ [])) }
-        ensures err { OnErr result
-            ((rs : List Rule) → AreKeptOf self.old rs → AreKeptOf self.new rs) }
+            (AddsRule matching.now rank (AreKeptOf self.old) (AreKeptOf self.new)) }
+        ensures err { OnErr result (KeepsRules (AreKeptOf self.old) (AreKeptOf self.new)) }
     {
         let Ok(place) = u32::try_from(self.by_mask.len()) else {
             return Err(AllocError);
@@ -130,9 +118,7 @@ impl Subtables {
     pub(crate) fn take(&mut self, matching: &Match, rank: Rank)
         requires { (i : ℕ) (s : Subtable) → slice_get (by_place self.old) i ≡ Some s
             → same (bits s.staged.mask) (bits matching.now.mask) ≡ true → Holds s rank }
-        ensures { (rs : List Rule) (r : Rule) → AreKeptOf self.old rs → AreDistinct rs
-            → Among r rs → r.matching ≡ match_view matching.now → rank_of r ≡ rank
-            → AreKeptOf self.new (without r.number rs) }
+        ensures { TakesRule matching.now rank (AreKeptOf self.old) (AreKeptOf self.new) }
     {
         if let Some(place) = place_of_mask(&self.by_mask, &matching.mask) {
             self.take_at(place, rank);
@@ -143,10 +129,7 @@ impl Subtables {
     fn take_at(&mut self, place: usize, rank: Rank)
         requires within { place < index_map_len self.old.by_mask }
         requires holds { (s : Subtable) → slice_get (by_place self.old) place ≡ Some s → Holds s rank }
-        ensures { (rs : List Rule) (r : Rule) (s : Subtable) → AreKeptOf self.old rs → AreDistinct rs
-            → Among r rs → rank_of r ≡ rank → slice_get (by_place self.old) place ≡ Some s
-            → same (bits s.staged.mask) r.matching.mask ≡ true
-            → AreKeptOf self.new (without r.number rs) }
+        ensures { TakesRuleAt place rank self.old self.new }
     {
         let before = self.by_mask[place].indexes.greatest();
         self.by_mask[place].take(rank);
@@ -162,8 +145,7 @@ impl Subtables {
         requires { place < index_map_len self.old.by_mask }
         ensures { (rs : List Rule) → AreSubtablesOf (by_place self.old) rs
             → IsFallingBut place (by_place self.old) self.old.order.items
-            → ((s : Subtable) → slice_get (by_place self.old) place ≡ Some s
-            → of_mask (bits s.staged.mask) rs ≡ [])
+            → IsEmptyAt place (by_place self.old) rs
             → AreKeptOf self.new rs }
     {
         leave(&mut self.order, place, self.by_mask.len() - 1);
@@ -174,8 +156,7 @@ impl Subtables {
     pub(crate) fn find(&self, matching: &Match, priority: u16) -> Option<u32>
         ensures { (rs : List Rule) → AreSubtablesOf (by_place self.now) rs
             → result ≡ option_map (λ r. r.number)
-            (find (λ r. (r.priority == priority) && is_same_match r.matching
-            (match_view matching.now)) rs) }
+            (find (has_match (match_view matching.now) priority) rs) }
     {
         match place_of_mask(&self.by_mask, &matching.mask) {
             Some(place) => self.by_mask[place].find(&matching.key, priority),
@@ -197,11 +178,8 @@ fn one_rule(alloc: Global, matching: &Match, rank: Rank) -> Result<Subtable, All
 fn place_of_mask(by_mask: &ByMask, mask: &Mask) -> Option<usize>
     requires { AreKeyed by_mask.now.entries }
     ensures some { IfSome result
-        (λ i. (i < index_map_len by_mask.now)
-        × ((s : Subtable) → slice_get (values by_mask.now) i ≡ Some s
-        → same (bits s.staged.mask) (bits mask.now) ≡ true)) }
-    ensures none { IsNone result → (i : ℕ) (s : Subtable) → slice_get (values by_mask.now) i ≡ Some s
-        → same (bits s.staged.mask) (bits mask.now) ≡ false }
+        (λ i. (i < index_map_len by_mask.now) × HasMaskAt i (values by_mask.now) (bits mask.now)) }
+    ensures none { IsNone result → LacksMask (values by_mask.now) (bits mask.now) }
     ensures absent { IsNone result → get_by (λ m. same (bits mask.now) (bits m)) by_mask.now ≡ None }
 {
     by_mask.get_index_of(mask)

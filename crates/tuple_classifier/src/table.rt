@@ -1,15 +1,15 @@
-ghost use Rattle.std.specs.Prelude.{◌≡◌, ◌==◌, ◌&&◌, ◌+◌, ◌<◌, ◌^◌, ◌++◌, [], ◌∷◌, ℕ, List, length, slice_get, Some, OnOk, OnErr};
+ghost use Rattle.std.specs.Prelude.{◌≡◌, ◌+◌, ◌<◌, ◌^◌, [], ℕ, List, length, slice_get, Some, OnOk, OnErr};
 ghost use Rattle.std.specs.List.{find};
 ghost use Rattle.std.specs.Option.{option_map};
-ghost use Rattle.spec_tables.specs.Rules.{Rule, winner, is_same_match};
+ghost use Rattle.spec_tables.specs.Rules.{Rule, winner};
 ghost use Rattle.spec_xlate.specs.Lookup.{added, consults};
-ghost use Rattle.translation_laws.specs.Members.{Among};
 ghost use Rattle.ovs_fields.specs.Packed.{numbers, bits};
 ghost use Rattle.rule_tables.specs.Views.{match_view};
 ghost use Rattle.address_prefixes.specs.Addresses.{AreOf};
-ghost use Rattle.staged_lookup.specs.Numbered.{AreDistinct, without};
-ghost use Rattle.staged_lookup.specs.Ranks.{rank_of};
+ghost use Rattle.staged_lookup.specs.Numbered.{AreDistinct};
 ghost use Rattle.staged_lookup.specs.Subtables.{HasNoRule};
+ghost use Rattle.tuple_classifier.specs.Named.{has_match};
+ghost use Rattle.tuple_classifier.specs.Updates.{KeepsRules, AddsRule, TakesRule};
 ghost use Rattle.tuple_classifier.specs.declared.subtable.Subtable.{Subtable};
 
 use crate::lookup::look;
@@ -55,11 +55,8 @@ impl Table {
             → HasNoRule rank.number s.staged }
         requires few { (rs : List Rule) × (AreOf self.old.prefixes rs) × (length rs + 1 < 2 ^ 32) }
         ensures ok { OnOk result
-            ((rs : List Rule) (r : Rule) → IsTableOf self.old rs
-            → r.matching ≡ match_view matching.now → rank_of r ≡ rank
-            → IsTableOf self.new (rs ++ r ∷ [])) }
-        ensures err { OnErr result
-            ((rs : List Rule) → IsTableOf self.old rs → IsTableOf self.new rs) }
+            (AddsRule matching.now rank (IsTableOf self.old) (IsTableOf self.new)) }
+        ensures err { OnErr result (KeepsRules (IsTableOf self.old) (IsTableOf self.new)) }
     {
         self.prefixes.insert(matching)?;
         match self.subtables.insert(alloc, matching, rank) {
@@ -74,9 +71,7 @@ impl Table {
     /// Takes a rule out. It takes no memory.
     pub(crate) fn take(&mut self, matching: &Match, rank: Rank)
         requires { HasRuleOf self.old (match_view matching.now) rank }
-        ensures { (rs : List Rule) (r : Rule) → IsTableOf self.old rs → AreDistinct rs
-            → Among r rs → r.matching ≡ match_view matching.now → rank_of r ≡ rank
-            → IsTableOf self.new (without r.number rs) }
+        ensures { TakesRule matching.now rank (IsTableOf self.old) (IsTableOf self.new) }
     {
         self.subtables.take(matching, rank);
         self.prefixes.remove(matching);
@@ -86,8 +81,7 @@ impl Table {
     pub(crate) fn find(&self, matching: &Match, priority: u16) -> Option<u32>
         ensures { (rs : List Rule) → IsTableOf self.now rs
             → result ≡ option_map (λ r. r.number)
-            (find (λ r. (r.priority == priority) && is_same_match r.matching
-            (match_view matching.now)) rs) }
+            (find (has_match (match_view matching.now) priority) rs) }
     {
         self.subtables.find(matching, priority)
     }
