@@ -57,6 +57,10 @@ unfoldable pub look_events : Switch → ℕ → ℕ → State → List Event
 look_events sw zero table s = []
 look_events sw (suc depths) table s = enter_events sw (look sw depths) (look_events sw depths) (deepest - depths) table s.lookups_left s
 
+-- what happens in a list of actions below which so many depths are left
+abbrev pub events_at : Switch → ℕ → List OfAction → State → List Event
+events_at sw depths actions s = run_events sw (look sw depths) (look_events sw depths) actions s
+
 -- what happens in the translation of a packet of this key
 unfoldable pub events_of : Switch → List ℕ → List Event
 events_of sw key = look_events sw (deepest + 1) 0 (start key)

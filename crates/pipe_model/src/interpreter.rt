@@ -3,7 +3,7 @@ ghost use Rattle.std.specs.Prelude.{◌≡◌, ◌-◌, fold, IfOk, OnOk, IsTrue
 ghost use Rattle.spec_actions.specs.Sound.{is_sound, AreSound};
 ghost use Rattle.spec_xlate.specs.Translation.{deepest, act, run, look, last_state, pipe};
 ghost use Rattle.ovs_fields.specs.Packed.{numbers};
-ghost use Rattle.pipe_model.specs.Events.{act_events, run_events, look_events, events_of};
+ghost use Rattle.pipe_model.specs.Events.{act_events, events_at, look_events, events_of};
 ghost use Rattle.pipe_model.specs.Plains.{translation_in};
 ghost use Rattle.pipe_model.specs.States.{state_of};
 
@@ -50,7 +50,7 @@ fn run<L: Lookups>(
     requires can_run { L.can_run sw.now }
     requires sound { AreSound actions.now }
     ensures state { OnOk result (state_of state.new ≡ run (L.switch sw.now) (look (L.switch sw.now) depths) actions.now (state_of state.old)) }
-    ensures noted { OnOk result (L.noted notes.new ≡ fold L.after (L.noted notes.old) (run_events (L.switch sw.now) (look (L.switch sw.now) depths) (look_events (L.switch sw.now) depths) actions.now (state_of state.old))) }
+    ensures noted { OnOk result (L.noted notes.new ≡ fold L.after (L.noted notes.old) (events_at (L.switch sw.now) depths actions.now (state_of state.old))) }
 {
     'actions: for action in actions {
         act(state, notes, sw, *action, depths)?;

@@ -51,8 +51,9 @@ pub trait Lookups {
         notes: &mut Self::Notes,
     ) -> Option<Found<'a>>
         requires { can_run self.now }
-        ensures winner { MatchOption result (winner ((switch self.now).tables table) (numbers key.now) ≡ None)
-            (λ found. IsWinner ((switch self.now).tables table) (numbers key.now) found.number found.actions.now) }
+        ensures winner { let rules = (switch self.now).tables table in
+            MatchOption result (winner rules (numbers key.now) ≡ None)
+            (λ found. IsWinner rules (numbers key.now) found.number found.actions.now) }
         ensures noted { noted notes.new ≡ after (noted notes.old) (Looked depth table ((switch self.now).tables table) (numbers key.now)) };
 
     /// Notes an action on a packet of a key, before it is done.

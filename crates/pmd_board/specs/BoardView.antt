@@ -1,6 +1,7 @@
 -- What a board is seen as, and one more step of it.
-use Rattle.std.specs.Prelude.{◌≡◌, ℕ, ◌+◌, ◌-◌, ◌≤◌, List, [], ◌∷◌, ◌++◌, length, map, slice_get, All, AllPairs, Option, Some, None, IsSome, IsTrue}
-use Rattle.std.specs.Option.{option_and_then}
+use Rattle.std.specs.Prelude.{◌≡◌, ℕ, ◌+◌, ◌-◌, ◌≤◌, nat_lt, List, [], ◌∷◌, ◌++◌, length, map, slice_get, All, AllPairs, Option, Some, None, IsSome, IsTrue}
+use Rattle.std.specs.List.{find}
+use Rattle.std.specs.Option.{option_and_then, option_map}
 use Rattle.spec_actions.specs.declared.action.DpAction.{DpAction}
 use Rattle.spec_case.specs.Run.{Run, frames_of}
 use Rattle.spec_board.specs.Steps.{Step, Open, Look, Settle, Begin, Put, End, Settled}
@@ -42,6 +43,10 @@ with_step step b = record b { journal = b.journal ++ step ∷ [] }
 pub record Appends (run : Run) (before : BoardView) (step : Step) (after : BoardView) : Type 0 where
   pub legal : journals.Legal run before.port before.flow_limit (state_of run before) step
   pub appended : after ≡ with_step step before
+
+-- This is the least entry above a number that the sweep has yet to put, and its key.
+abbrev pub IsNextCheck : State → ℕ → ℕ → List ℕ → Type 0
+IsNextCheck s above number key = (find (λ n. nat_lt above n) s.listed ≡ Some number) × (option_map (λ e. e.key) (entry_of number s.entries) ≡ Some key)
 
 -- What the laws of boards say of every board: the versions stand in order, and those of the entries; the places as
 -- they were looked up; no key is covered by two entries, and each entry has what a plain scan under its version gives,

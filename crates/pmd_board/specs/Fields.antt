@@ -70,6 +70,10 @@ pub record AreBounds (run : Run) (port : ℕ) (blocks : List BlockBounds) : Type
 abbrev pub steps_left : ℕ → ℕ → ℕ → ℕ → Bool → ℕ → ℕ
 steps_left frames next last block is_sweeping listed = (frames + 1 - next) + (last - block) + (if is_sweeping then listed + 1 else 0)
 
+-- for how many steps there is room in a state, which are those that are left
+abbrev pub steps_left_in : Run → ℕ → states.State → ℕ
+steps_left_in run port s = steps_left (length (frames_of run port)) s.next (last_block run) s.block s.is_sweeping (length s.listed)
+
 -- Places, blocks and entries have numbers of 32 bits, frames are short, and there is room for these steps in the journal,
 -- and for a list of actions of each put.
 pub record HasRoom {X : Type 0} (run : Run) (b : Inside X) : Type 0 where

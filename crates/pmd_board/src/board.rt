@@ -2,16 +2,16 @@ ghost use Rattle.std.specs.Prelude.{ℕ, ◌≡◌, ◌<◌, ◌≤◌, ◌+◌,
 ghost use Rattle.std.specs.List.{find};
 ghost use Rattle.std.specs.Option.{option_map};
 ghost use Rattle.ovs_fields.specs.Packed.{numbers};
-ghost use Rattle.spec_case.specs.Run.{edit_count, frames_of, last_version};
-ghost use Rattle.spec_case.specs.Blocks.{AreInOrder, hi, last_block, last_place};
+ghost use Rattle.spec_case.specs.Run.{edit_count, last_version};
+ghost use Rattle.spec_case.specs.Blocks.{AreInOrder, hi, last_place};
 ghost use Rattle.spec_board.specs.State as states;
 ghost use Rattle.spec_board.specs.Results.{entry_of};
 ghost use Rattle.spec_board.specs.Journals.{IsLegal};
 ghost use Rattle.run_case.specs.Places.{HasPort};
 ghost use Rattle.board_laws.specs.Entries.{HasKeys};
-ghost use Rattle.pmd_board.specs.BoardView.{AreEntries, IsDecision, IsLawful, last_settled, state_of};
+ghost use Rattle.pmd_board.specs.BoardView.{AreEntries, IsDecision, IsLawful, IsNextCheck, last_settled, state_of};
 ghost use Rattle.port_caches.specs.Sums.{total_of};
-ghost use Rattle.pmd_board.specs.Fields.{AreBounds, steps_left as left};
+ghost use Rattle.pmd_board.specs.Fields.{AreBounds, steps_left as left, steps_left_in};
 ghost use Rattle.board_steps.specs.StepViews.{settled_view, steps_view};
 
 use crate::place::{BlockBounds, Place};
@@ -290,9 +290,8 @@ impl<C: Case> Board<C> {
 
     /// The least entry above a number that the sweep has yet to put, and its key; `None` exactly where there is none.
     pub fn next_check(&self, after: u32) -> Option<(u32, Key)>
-        ensures some { IfSome result (λ r. (find (λ n. nat_lt after n) (state_of C.run self.now).listed ≡ Some r.0)
-            × (option_map (λ e. e.key) (entry_of r.0 (state_of C.run self.now).entries)
-            ≡ Some (numbers r.1))) }
+        ensures some { IfSome result
+            (λ r. IsNextCheck (state_of C.run self.now) after r.0 (numbers r.1)) }
         ensures none { IfNone result
             (find (λ n. nat_lt after n) (state_of C.run self.now).listed ≡ None) }
     {
@@ -312,9 +311,7 @@ impl<C: Case> Board<C> {
 
     // For how many steps there has to be room.
     pub(crate) fn room_needed(&self) -> usize
-        ensures left { result ≡ left (length (frames_of C.run self.now.port)) (state_of C.run self.now).next (last_block C.run)
-            (state_of C.run self.now).block (state_of C.run self.now).is_sweeping
-            (length (state_of C.run self.now).listed) }
+        ensures left { result ≡ steps_left_in C.run self.now.port (state_of C.run self.now) }
         ensures few { result < 2 ^ 35 }
     {
         steps_left(

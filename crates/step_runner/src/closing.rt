@@ -1,5 +1,5 @@
 //! The end of a phase of workers.
-ghost use Rattle.std.specs.Prelude.{◌≡◌, ◌≤◌, IsTrue, IfOk, OnOk, MatchBool, true};
+ghost use Rattle.std.specs.Prelude.{◌≡◌, ◌≤◌, IsTrue, IfOk, MatchBool, true};
 ghost use Rattle.std.specs.List.{list_all};
 ghost use Rattle.spec_case.specs.Blocks.{hi, last_block};
 ghost use Rattle.spec_board.specs.Schedules as schedules;
@@ -7,6 +7,7 @@ ghost use Rattle.spec_tables.specs.Edits.{has_sound_actions};
 ghost use Rattle.run_boards.specs.Scheduled.{schedule_of};
 ghost use Rattle.run_boards.specs.Boards.{AreOfPhase};
 ghost use Rattle.run_boards.specs.Finished.{AreFinished};
+ghost use Rattle.step_runner.specs.Closing.{ClosesBy};
 
 use crate::finishing::{finish_block, finish_blocks};
 use pmd_board::Board;
@@ -62,11 +63,7 @@ pub fn close_phase<C: Case, T: RunTables<C>>(
         MatchBool r.1 fits (fits → ⊥)) }
 
     // Then these very boards finish their block; else all blocks are finished from new boards and new tables.
-    ensures closed { IfOk result (λ r. MatchBool r.1
-        (schedule_of C.run tables.new r.0
-        ≡ schedules.finish_block C.run (schedule_of C.run tables.old boards.items))
-        (schedule_of C.run tables.new r.0
-        ≡ schedules.finish C.run (schedules.new_schedule C.run))) }
+    ensures closed { IfOk result (λ r. ClosesBy C.run tables.old boards.items r.1 tables.new r.0) }
     ensures version { IfOk result (λ r. r.1 ≡ true → tables.new ≡ hi C.run block) }
     ensures finished { IfOk result (λ r. MatchBool r.1
         (block ≡ last_block C.run → AreFinished C.run r.0) (AreFinished C.run r.0)) }

@@ -1,10 +1,13 @@
 -- What stands where a run was refused, before the refusal is told.
 use Rattle.std.specs.Prelude.{◌≡◌, ℕ, ◌⊎◌, Bool, true, false, List, Option, Some, None, Err, IsTrue, string_bytes}
+use Rattle.spec_base.specs.Files.{File}
 use Rattle.spec_case.specs.Run.{Run}
 use Rattle.spec_board.specs.Texts.{Journal}
 use Rattle.spec_dumps.specs.declared.ran.Ran.{Ran}
+use Rattle.spec_dumps.specs.Summary.{summary}
 use Rattle.spec_run.specs.Verdict.{Usage, command_in, files_opened, verdict}
 use Rattle.spec_run.specs.Journals.{AreJournals}
+use Rattle.spec_run.specs.Outputs.{outlets_of, output_of, has_steps, ran_of}
 use Rattle.spec_run.specs.CutShort.{IsCutRun, IsPartOfRun, IsCutSummary}
 use Rattle.edge_io.specs.declared.outside.Failed.{Failed}
 use Rattle.edge_io.specs.declared.outside.InUse.TheVariants.{Nothing}
@@ -14,13 +17,17 @@ use Rattle.edge_io.specs.Counts.{HasCause, with_fault}
 use Rattle.edge_io.specs.Opened.{HasOpened}
 use Rattle.edge_io.specs.ReadAll.{OnlyRead}
 use Rattle.edge_io.specs.Written.{written}
+use Rattle.command_words.specs.CommandViews.{input_view}
+use Rattle.switch_input.specs.declared.inputs.Inputs.{Inputs}
 use Rattle.switch_input.specs.Known.{IsKnown}
 use Rattle.switch_input.specs.declared.refusals.refusal.InputRefusal.{InputRefusal}
 use Rattle.switch_input.specs.Reading.{Ending, ReadsWhere}
 use Rattle.switch_input.specs.Refused.{TellsUsage, Explains, stop_of}
 use Rattle.switch_output.specs.declared.refusal.WriteRefusal.{WriteRefusal}
 use Rattle.switch_output.specs.declared.refusal.WriteRefusal.TheVariants.{WriteFault, OutOfMemory}
+use Rattle.switch_output.specs.declared.refusal.OutputRefusal.{OutputRefusal}
 use Rattle.switch_output.specs.declared.refusal.OutputRefusal.TheVariants.{Files, Summary}
+use Rattle.switch_output.specs.Put.{PutsWhole, CutsOut}
 use Rattle.switch_output.specs.Refused.{IfWriteFault, HasWriteCause}
 use Rattle.switch_app.specs.declared.refusal.Refusal.{Refusal}
 use Rattle.switch_app.specs.declared.refusal.Refusal.TheVariants.{Reading, Output}
@@ -42,6 +49,25 @@ module _ {S K : Type 0} (g : shelf.Ghosts S) (h : sink.Ghosts K) (old new : S) (
     pub told : IsTrue g.tells → g.told new ≡ g.told old
     pub counts : g.counts new ≡ g.counts old
     pub unsaid : saying ≡ said
+
+-- the files that are written of a run that was read, by its journals
+abbrev pub output_of_read : Inputs → Run → List Journal → List File
+output_of_read i run journals = output_of (outlets_of (input_view i.command.input) i.mirrors.items) run journals
+
+-- the summary that is printed of it
+abbrev pub summary_of_read : Inputs → Run → List Journal → List ℕ
+summary_of_read i run journals = summary run journals (ran_of (has_steps (input_view i.command.input)) run)
+
+module _ {S K : Type 0} (g : shelf.Ghosts S) (h : sink.Ghosts K) (i : Inputs) (run : Run) (old new : S) (said saying : K) where
+  -- The run is decided, its files are written and its summary is printed;
+  abbrev pub PutsRun : Type 0
+  PutsRun = ByJournals i.command.workers run (λ journals. PutsWhole g h old new said saying (output_of_read i run journals) (summary_of_read i run journals))
+
+  -- or these are cut short, or memory ran out before.
+  abbrev pub CutsRun : OutputRefusal → Type 0
+  CutsRun r =
+      (r ≡ Files OutOfMemory) × IsUntouched g h old new said saying
+      ⊎ ByJournals i.command.workers run (λ journals. CutsOut g h old new said saying (output_of_read i run journals) (summary_of_read i run journals) r)
 
 module _ {S K : Type 0} (g : shelf.Ghosts S) (h : sink.Ghosts K) (words : List (List ℕ)) (old new : S) (said saying : K) where
   -- The files of the words were read.

@@ -1,23 +1,19 @@
 ghost use Rattle.std.specs.Prelude.{◌≡◌, ◌≢◌, ◌≤◌, ◌⊎◌, length, None, IsTrue, IsOk, OnOk, IfOk, IfErr};
 ghost use Rattle.std.specs.List.{list_all};
-ghost use Rattle.spec_base.specs.Counts.{Rose};
 ghost use Rattle.spec_tables.specs.Edits.{has_sound_actions};
 ghost use Rattle.spec_script.specs.Steps.{most_steps};
-ghost use Rattle.spec_dumps.specs.Summary.{summary};
 ghost use Rattle.spec_run.specs.Verdict.{command_in, verdict};
 ghost use Rattle.spec_run.specs.Journals.{AreJournals};
-ghost use Rattle.spec_run.specs.Outputs.{outlets_of, output_of, has_steps, ran_of};
-ghost use Rattle.spec_run.specs.Statuses.{done_status, usage_status, read_fault_status, out_of_memory_status, status_of as refusal_status};
+ghost use Rattle.spec_run.specs.Outputs.{outlets_of, has_steps, ran_of};
+ghost use Rattle.spec_run.specs.Statuses.{usage_status, out_of_memory_status};
 ghost use Rattle.edge_io.specs.declared.outside.InUse.TheVariants.{Nothing};
 ghost use Rattle.command_words.specs.CommandViews.{texts, input_view, HasWorkers};
 ghost use Rattle.switch_input.specs.Known.{IsKnown, NeedNoFile};
 ghost use Rattle.switch_input.specs.InputViews.{run_view, IsWithinLimits};
-ghost use Rattle.switch_output.specs.declared.refusal.OutputRefusal.TheVariants.{Files};
-ghost use Rattle.switch_output.specs.declared.refusal.WriteRefusal.TheVariants.{OutOfMemory};
 ghost use Rattle.switch_output.specs.OutletViews.{outlets_in};
-ghost use Rattle.switch_output.specs.Put.{NamesNoFile, PutsWhole, CutsOut};
-ghost use Rattle.switch_app.specs.Ends.{Ends, IsAllDone};
-ghost use Rattle.switch_app.specs.RunViews.{told_if, ByJournals, IsUntouched, Leaves};
+ghost use Rattle.switch_output.specs.Put.{NamesNoFile};
+ghost use Rattle.switch_app.specs.Ends.{Ends, IsAllDone, IsStatusOfRefused, IsStatusOfAccepted, IfNoneFailed};
+ghost use Rattle.switch_app.specs.RunViews.{told_if, PutsRun, CutsRun, Leaves};
 
 use crate::decider::{decide_by_workers, run_schedule};
 use crate::refusal::Refusal;
@@ -127,18 +123,10 @@ fn decide_and_tell<
     requires in_use { S.in_use shelf.old ≡ Nothing }
     requires run { C.run ≡ run_view inputs }
     requires within { IsWithinLimits inputs }
-    ensures ok { let input = input_view inputs.entry.command.input in
-        OnOk result (ByJournals inputs.entry.command.workers C.run (λ journals.
-        PutsWhole S.Shelf K.Sink shelf.old shelf.new say.old say.new
-        (output_of (outlets_of input inputs.entry.mirrors.items) C.run journals)
-        (summary C.run journals (ran_of (has_steps input) C.run)))) }
-    ensures err { let input = input_view inputs.entry.command.input in
-        IfErr result (λ r. (r ≡ Files OutOfMemory)
-        × IsUntouched S.Shelf K.Sink shelf.old shelf.new say.old say.new
-        ⊎ ByJournals inputs.entry.command.workers C.run (λ journals.
-        CutsOut S.Shelf K.Sink shelf.old shelf.new say.old say.new
-        (output_of (outlets_of input inputs.entry.mirrors.items) C.run journals)
-        (summary C.run journals (ran_of (has_steps input) C.run)) r)) }
+    ensures ok { OnOk result
+        (PutsRun S.Shelf K.Sink inputs.entry C.run shelf.old shelf.new say.old say.new) }
+    ensures err { IfErr result
+        (CutsRun S.Shelf K.Sink inputs.entry C.run shelf.old shelf.new say.old say.new) }
     ensures opened { IsTrue S.tells → (S.told shelf.new).opened ≡ (S.told shelf.old).opened }
 
     // Where nothing is written, the shelf isn't touched.
@@ -268,13 +256,11 @@ pub fn run_switch<R: Threads + Wait + Sync, S: Shelf, K: Sink, G: Gate + Sync>(
     // What is refused ends with the status of its refusal, and what is accepted is done, unless a count rises or memory runs
     // out.
     ensures refusal { IsKnown S.tells (texts words.now) → IfErr (verdict (texts words.now) (S.told shelf.old).holds)
-        (λ r. (result ≡ refusal_status r)
-        ⊎ ((result ≡ read_fault_status) ⊎ (result ≡ out_of_memory_status))) }
-    ensures accepted { IsKnown S.tells (texts words.now) → IsOk (verdict (texts words.now) (S.told shelf.old).holds)
-        → ¬ Rose (S.counts shelf.old).reading (S.counts shelf.new).reading
-        → ¬ Rose (S.counts shelf.old).writing (S.counts shelf.new).writing
-        → ¬ Rose (K.faults say.old) (K.faults say.new)
-        → (result ≡ done_status) ⊎ (result ≡ out_of_memory_status) }
+        (λ r. IsStatusOfRefused r result) }
+    ensures accepted { let words = texts words.now in
+        IsKnown S.tells words → IsOk (verdict words (S.told shelf.old).holds)
+        → IfNoneFailed S.Shelf K.Sink shelf.old shelf.new say.old say.new
+        (IsStatusOfAccepted result) }
 
     // Where no file is needed, as the words are refused or have a number, none is opened or written.
     ensures untouched { NeedNoFile (texts words.now) → shelf.new ≡ shelf.old }

@@ -111,16 +111,14 @@ fn read_run<'a, S: Shelf>(
     requires workers { HasWorkers command }
     ensures in_use { S.in_use shelf.new ≡ Nothing }
     ensures reads { let input = input_view command.entry.input in
-        let names = opened_for (S.told shelf.old).holds input in
-        ReadsWhere (IsKnownInput S.tells input) S.Shelf shelf.old shelf.new names (ending_of result) }
+        ReadsWhere (IsKnownInput S.tells input) S.Shelf shelf.old shelf.new
+        (opened_for (S.told shelf.old).holds input) (ending_of result) }
     ensures command { IfOk result (λ inputs. inputs.command ≡ command.entry) }
-    ensures ok { let files = files_for (S.told shelf.old).holds (input_view command.entry.input) in
-        IsKnownInput S.tells (input_view command.entry.input)
-        → IfOk result (Gives (run_for files command.entry)) }
+    ensures ok { let input = input_view command.entry.input in IsKnownInput S.tells input
+        → IfOk result (Gives (run_for (files_for (S.told shelf.old).holds input) command.entry)) }
     ensures within { IfOk result IsWithinLimits }
-    ensures err { let files = files_for (S.told shelf.old).holds (input_view command.entry.input) in
-        IsKnownInput S.tells (input_view command.entry.input)
-        → IfErr result (Explains (run_for files command.entry)) }
+    ensures err { let input = input_view command.entry.input in IsKnownInput S.tells input
+        → IfErr result (Explains (run_for (files_for (S.told shelf.old).holds input) command.entry)) }
     ensures taken { IfErr result TakesWords }
     ensures no_fault { IsKnownInput false (input_view command.entry.input) → IfErr result TellsNoFault }
     ensures untouched { IsKnownInput false (input_view command.entry.input) → shelf.new ≡ shelf.old }
@@ -143,9 +141,9 @@ pub fn read_inputs<'a, S: Shelf>(
 
     // Nothing but reading is done, and each file is opened only where none before it is refused.
     ensures in_use { S.in_use shelf.new ≡ Nothing }
-    ensures reads { let names = files_opened (texts words.now) (S.told shelf.old).holds in
-        let knows = IsKnown S.tells (texts words.now) in
-        ReadsWhere knows S.Shelf shelf.old shelf.new names (ending_of result) }
+    ensures reads { let words = texts words.now in
+        ReadsWhere (IsKnown S.tells words) S.Shelf shelf.old shelf.new
+        (files_opened words (S.told shelf.old).holds) (ending_of result) }
 
     // What is read is what the verdict accepts.
     ensures command { IfOk result (λ inputs. command_in (texts words.now) ≡ Ok (command_view inputs.command)) }

@@ -37,8 +37,8 @@ pub fn put_out<C: Case, S: Shelf, K: Sink>(
     requires edits { rules.now ≡ history_of C.run.edits C.run.bundles }
     requires sound { IsTrue (list_all has_sound_actions C.run.edits) }
     ensures told { let files = output_of (outlets_in outlets.entry) C.run finished.now in
-        let text = summary C.run finished.now ran in
-        PutsOut S.Shelf K.Sink shelf.old shelf.new say.old say.new files text result }
+        PutsOut S.Shelf K.Sink shelf.old shelf.new say.old say.new files
+        (summary C.run finished.now ran) result }
 
     // Where it has none, the shelf isn't touched.
     ensures untouched { outlets_in outlets.entry ≡ None → (shelf.new ≡ shelf.old) × IfErr result NamesNoFile }

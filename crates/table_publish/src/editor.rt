@@ -78,9 +78,9 @@ fn prepare<C: Case, T: RunTables<C>>(
     requires next { IsNextOrNone version (drop writer.old.behind writer.old.log.items) }
     requires left { version < last_version C.run }
     ensures desk { writer.new.desk ≡ writer.old.desk }
-    ensures pending { let before = drop writer.old.behind writer.old.log.items in
-        let after = drop writer.new.behind writer.new.log.items in
-        MatchResult result (λ _. after ≡ (version + 1) ∷ []) (λ _. after ≡ before) }
+    ensures pending { let after = drop writer.new.behind writer.new.log.items in
+        MatchResult result (λ _. after ≡ (version + 1) ∷ [])
+        (λ _. after ≡ drop writer.old.behind writer.old.log.items) }
 {
     if writer.has_pending_operations() {
         return Ok(());

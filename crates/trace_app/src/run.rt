@@ -1,15 +1,13 @@
 ghost use Rattle.std.specs.Prelude.{◌≡◌, ◌≢◌, ◌++◌, ◌⊎◌, ℕ, take, string_bytes, IsTrue, IsOk, OnOk, OnErr, IfOk, IfErr};
-ghost use Rattle.spec_base.specs.Counts.{Rose};
-ghost use Rattle.spec_run.specs.Statuses.{done_status, usage_status, read_fault_status, out_of_memory_status};
+ghost use Rattle.spec_run.specs.Statuses.{usage_status, out_of_memory_status};
 ghost use Rattle.edge_io.specs.declared.outside.InUse.TheVariants.{Nothing};
 ghost use Rattle.edge_io.specs.Counts.{HasCause, with_fault};
 ghost use Rattle.command_words.specs.CommandViews.{texts};
 ghost use Rattle.spec_trace.specs.Verdict.{command_in, verdict};
-ghost use Rattle.spec_trace.specs.Statuses.{status_of as refusal_status};
 ghost use Rattle.spec_trace.specs.Outputs.{text_for};
 ghost use Rattle.trace_app.specs.Known.{IsKnown};
 ghost use Rattle.trace_app.specs.InputViews.{accepted_view, IsTraceable};
-ghost use Rattle.trace_app.specs.Ends.{Ends, IsTraced};
+ghost use Rattle.trace_app.specs.Ends.{Ends, IsTraced, IsStatusOfRefused, IsStatusOfAccepted, IfNoneFailed};
 ghost use Rattle.trace_app.specs.Leaving.{Leaves};
 
 use crate::inputs::{Inputs, read_inputs};
@@ -109,12 +107,11 @@ pub fn run_trace<S: Shelf, K: Sink>(
     // What is refused ends with the status of its refusal, and what is accepted is traced, unless a count rises or memory
     // runs out.
     ensures refusal { IsKnown S.tells (texts words.now) → IfErr (verdict (texts words.now) (S.told shelf.old).holds)
-        (λ r. (result ≡ refusal_status r)
-        ⊎ ((result ≡ read_fault_status) ⊎ (result ≡ out_of_memory_status))) }
-    ensures accepted { IsKnown S.tells (texts words.now) → IsOk (verdict (texts words.now) (S.told shelf.old).holds)
-        → ¬ Rose (S.counts shelf.old).reading (S.counts shelf.new).reading
-        → ¬ Rose (K.faults say.old) (K.faults say.new)
-        → (result ≡ done_status) ⊎ (result ≡ out_of_memory_status) }
+        (λ r. IsStatusOfRefused r result) }
+    ensures accepted { let words = texts words.now in
+        IsKnown S.tells words → IsOk (verdict words (S.told shelf.old).holds)
+        → IfNoneFailed S.Shelf K.Sink shelf.old shelf.new say.old say.new
+        (IsStatusOfAccepted result) }
 {
     end(alloc, words, shelf, say)
 }

@@ -153,9 +153,9 @@ fn set_count(items: &mut [Counted], place: usize, count: u32)
     ensures rising { IsNonDecreasingBy (λ c. c.number) items.old
         → IsNonDecreasingBy (λ c. c.number) items.new }
     ensures counted { All (λ c. 0 < c.count) items.old → All (λ c. 0 < c.count) items.new }
-    ensures times { (n : ℕ)
-        → times n (numbers_in items.new) + times_by n (number_at place items.old) (count_at place items.old)
-        ≡ times n (numbers_in items.old) + times_by n (number_at place items.old) count }
+    ensures times { let own = number_at place items.old in (n : ℕ)
+        → times n (numbers_in items.new) + times_by n own (count_at place items.old)
+        ≡ times n (numbers_in items.old) + times_by n own count }
 {
     items[place].count = count;
 }

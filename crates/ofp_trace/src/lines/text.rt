@@ -70,9 +70,9 @@ pub fn print_trace(
     requires of_edits { IsOfEdits rules.now }
     requires live { All (HasLiveWinner (live_in rules.now)) traced.now.path.items }
     requires within { AreWithinFields traced.now.translated.translation.actions }
-    ensures { Adds out.old out.new
-        (told_text (live_in rules.now) (numbers key.now) traced.now.path.items (numbers traced.now.last)
-        traced.now.translated.mask traced.now.translated.translation.actions) result }
+    ensures { let t = traced.now in Adds out.old out.new
+        (told_text (live_in rules.now) (numbers key.now) t.path.items (numbers t.last)
+        t.translated.mask t.translated.translation.actions) result }
 {
     print_key_line(out, "flow: ", key)?;
     print_lookups(out, rules, &traced.path)?;
