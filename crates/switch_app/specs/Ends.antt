@@ -1,10 +1,9 @@
 -- How a call of the switch ends: with which status, what is written and printed then, and which calls of the outside failed.
 use Rattle.std.specs.Prelude.{◌≡◌, ℕ, ◌⊎◌, List, IsTrue, Err}
-use Rattle.spec_base.specs.Counts.{Rose}
-use Rattle.spec_run.specs.Verdict.{Files, Refusal, Usage, command_in, files_opened}
+use Rattle.spec_run.specs.Verdict.{Files, Usage, command_in, files_opened}
 use Rattle.spec_run.specs.Outputs.{IsDone}
 use Rattle.spec_run.specs.CutShort.{IsCutRun, IsPartOfRun, IsCutSummary}
-use Rattle.spec_run.specs.Statuses.{done_status, usage_status, read_fault_status, write_fault_status, out_of_memory_status, read_fault_text, write_fault_text, out_of_memory_text, is_refusal, status_of, IsRefused, Prints, PrintsRefusal}
+use Rattle.spec_run.specs.Statuses.{done_status, usage_status, read_fault_status, write_fault_status, out_of_memory_status, read_fault_text, write_fault_text, out_of_memory_text, is_refusal, IsRefused, Prints, PrintsRefusal}
 use Rattle.edge_io.specs.declared.outside.InUse.TheVariants.{Nothing}
 use Rattle.edge_io.specs.declared.outside.Shelf as shelf
 use Rattle.edge_io.specs.declared.outside.Sink as sink
@@ -14,20 +13,6 @@ use Rattle.edge_io.specs.ReadAll.{OnlyRead}
 use Rattle.edge_io.specs.Written.{written}
 use Rattle.switch_input.specs.Pieces.{FailsAtMostOnce}
 use Rattle.switch_input.specs.Known.{IsKnown}
-
--- What is refused ends with the status of its refusal, unless reading fails or memory runs out before.
-abbrev pub IsStatusOfRefused : Refusal → ℕ → Type 0
-IsStatusOfRefused r status = (status ≡ status_of r) ⊎ ((status ≡ read_fault_status) ⊎ (status ≡ out_of_memory_status))
-
--- What is accepted is done, unless memory runs out.
-abbrev pub IsStatusOfAccepted : ℕ → Type 0
-IsStatusOfAccepted status = (status ≡ done_status) ⊎ (status ≡ out_of_memory_status)
-
--- It holds where no call of the outside failed: no count rose.
-abbrev pub IfNoneFailed : {S K : Type 0} → shelf.Ghosts S → sink.Ghosts K → S → S → K → K → Type 0 → Type 0
-IfNoneFailed g h old new said saying claim =
-    ¬ Rose (g.counts old).reading (g.counts new).reading → ¬ Rose (g.counts old).writing (g.counts new).writing
-    → ¬ Rose (h.faults said) (h.faults saying) → claim
 
 -- The call is made with these words, and with a shelf and a sink that are as here before it, and as here after it.
 module _ {S K : Type 0} (g : shelf.Ghosts S) (h : sink.Ghosts K) (words : List (List ℕ)) (old new : S) (said saying : K) where

@@ -1,3 +1,4 @@
 pub mod Refused
+pub mod Statuses
 pub mod Ends
 pub mod RunViews

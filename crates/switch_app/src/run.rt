@@ -12,7 +12,8 @@ ghost use Rattle.switch_input.specs.Known.{IsKnown, NeedNoFile};
 ghost use Rattle.switch_input.specs.InputViews.{run_view, IsWithinLimits};
 ghost use Rattle.switch_output.specs.OutletViews.{outlets_in};
 ghost use Rattle.switch_output.specs.Put.{NamesNoFile};
-ghost use Rattle.switch_app.specs.Ends.{Ends, IsAllDone, IsStatusOfRefused, IsStatusOfAccepted, IfNoneFailed};
+ghost use Rattle.switch_app.specs.Ends.{Ends, IsAllDone};
+ghost use Rattle.switch_app.specs.Statuses.{IsStatusOfRefused, IsStatusOfAccepted, IfNoneFailed};
 ghost use Rattle.switch_app.specs.RunViews.{told_if, PutsRun, CutsRun, Leaves};
 
 use crate::decider::{decide_by_workers, run_schedule};

@@ -1,7 +1,6 @@
 -- How a call of the tracer ends: with which status, what is printed then, and which calls of the outside failed. Nothing is
 -- written to the shelf.
-use Rattle.std.specs.Prelude.{◌≡◌, ℕ, ◌⊎◌, List, IsTrue, Err}
-use Rattle.spec_base.specs.Counts.{Rose}
+use Rattle.std.specs.Prelude.{◌≡◌, ℕ, List, IsTrue, Err}
 use Rattle.spec_run.specs.Verdict.{Files}
 use Rattle.spec_run.specs.Statuses.{done_status, usage_status, read_fault_status, write_fault_status, out_of_memory_status, read_fault_text, out_of_memory_text, Prints}
 use Rattle.edge_io.specs.declared.outside.InUse.TheVariants.{Nothing}
@@ -10,23 +9,10 @@ use Rattle.edge_io.specs.declared.outside.Sink as sink
 use Rattle.edge_io.specs.Counts.{ReadFailed, with_fault}
 use Rattle.edge_io.specs.Opened.{HasOpened, HasOpenedPrefix, HasOpenedUpTo}
 use Rattle.edge_io.specs.ReadAll.{OnlyRead}
-use Rattle.spec_trace.specs.Verdict.{Refusal, Usage, command_in, files_opened}
+use Rattle.spec_trace.specs.Verdict.{Usage, command_in, files_opened}
 use Rattle.spec_trace.specs.Outputs.{IsPrinted, IsCut}
-use Rattle.spec_trace.specs.Statuses.{is_refusal, status_of, IsRefused, PrintsRefusal}
+use Rattle.spec_trace.specs.Statuses.{is_refusal, IsRefused, PrintsRefusal}
 use Rattle.trace_app.specs.Known.{IsKnown}
-
--- What is refused ends with the status of its refusal, unless reading fails or memory runs out before.
-abbrev pub IsStatusOfRefused : Refusal → ℕ → Type 0
-IsStatusOfRefused r status = (status ≡ status_of r) ⊎ ((status ≡ read_fault_status) ⊎ (status ≡ out_of_memory_status))
-
--- What is accepted is traced, unless memory runs out.
-abbrev pub IsStatusOfAccepted : ℕ → Type 0
-IsStatusOfAccepted status = (status ≡ done_status) ⊎ (status ≡ out_of_memory_status)
-
--- It holds where no read failed, and no print: no count rose.
-abbrev pub IfNoneFailed : {S K : Type 0} → shelf.Ghosts S → sink.Ghosts K → S → S → K → K → Type 0 → Type 0
-IfNoneFailed g h old new said saying claim =
-    ¬ Rose (g.counts old).reading (g.counts new).reading → ¬ Rose (h.faults said) (h.faults saying) → claim
 
 -- The call is made with these words, and with a shelf and a sink that are as here before it, and as here after it.
 module _ {S K : Type 0} (g : shelf.Ghosts S) (h : sink.Ghosts K) (words : List (List ℕ)) (old new : S) (said saying : K) where

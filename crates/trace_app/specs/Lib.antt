@@ -2,5 +2,6 @@ pub mod Commands
 pub mod InputViews
 pub mod Refused
 pub mod Known
+pub mod Statuses
 pub mod Ends
 pub mod Leaving

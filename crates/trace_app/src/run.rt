@@ -7,7 +7,8 @@ ghost use Rattle.spec_trace.specs.Verdict.{command_in, verdict};
 ghost use Rattle.spec_trace.specs.Outputs.{text_for};
 ghost use Rattle.trace_app.specs.Known.{IsKnown};
 ghost use Rattle.trace_app.specs.InputViews.{accepted_view, IsTraceable};
-ghost use Rattle.trace_app.specs.Ends.{Ends, IsTraced, IsStatusOfRefused, IsStatusOfAccepted, IfNoneFailed};
+ghost use Rattle.trace_app.specs.Ends.{Ends, IsTraced};
+ghost use Rattle.trace_app.specs.Statuses.{IsStatusOfRefused, IsStatusOfAccepted, IfNoneFailed};
 ghost use Rattle.trace_app.specs.Leaving.{Leaves};
 
 use crate::inputs::{Inputs, read_inputs};

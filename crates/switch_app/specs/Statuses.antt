@@ -1,0 +1,21 @@
+-- With which status a call ends, by the verdict alone.
+use Rattle.std.specs.Prelude.{◌≡◌, ℕ, ◌⊎◌}
+use Rattle.spec_base.specs.Counts.{Rose}
+use Rattle.spec_run.specs.Verdict.{Refusal}
+use Rattle.spec_run.specs.Statuses.{done_status, read_fault_status, out_of_memory_status, status_of}
+use Rattle.edge_io.specs.declared.outside.Shelf as shelf
+use Rattle.edge_io.specs.declared.outside.Sink as sink
+
+-- What is refused ends with the status of its refusal, unless reading fails or memory runs out before.
+abbrev pub IsStatusOfRefused : Refusal → ℕ → Type 0
+IsStatusOfRefused r status = (status ≡ status_of r) ⊎ ((status ≡ read_fault_status) ⊎ (status ≡ out_of_memory_status))
+
+-- What is accepted is done, unless memory runs out.
+abbrev pub IsStatusOfAccepted : ℕ → Type 0
+IsStatusOfAccepted status = (status ≡ done_status) ⊎ (status ≡ out_of_memory_status)
+
+-- It holds where no call of the outside failed: no count rose.
+abbrev pub IfNoneFailed : {S K : Type 0} → shelf.Ghosts S → sink.Ghosts K → S → S → K → K → Type 0 → Type 0
+IfNoneFailed g h old new said saying claim =
+    ¬ Rose (g.counts old).reading (g.counts new).reading → ¬ Rose (g.counts old).writing (g.counts new).writing
+    → ¬ Rose (h.faults said) (h.faults saying) → claim
