@@ -4,3 +4,4 @@ mod Written
 mod First
 mod Filters
 pub mod Unsent
+mod Batches

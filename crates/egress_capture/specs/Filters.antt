@@ -1,7 +1,8 @@
 -- Filters of ports: what they say of actions, and of the arrivals of a run.
-use Rattle.std.specs.Prelude.{◌≡◌, ℕ, ◌%◌, ◌<◌, false, List, length, get_or, All}
+use Rattle.std.specs.Prelude.{◌≡◌, ℕ, ◌%◌, ◌<◌, false, IsTrue, List, [], ◌∷◌, length, get_or, All}
 use Rattle.std.specs.Int.{bit_at}
 use Rattle.spec_actions.specs.declared.action.DpAction.{DpAction}
+use Rattle.spec_actions.specs.declared.action.DpAction.TheVariants.{Output}
 use Rattle.spec_case.specs.declared.arrival.Arrival.{Arrival}
 use Rattle.spec_case.specs.Run.{Run}
 use Rattle.spec_board.specs.Texts.{Journal}
@@ -22,6 +23,15 @@ abbrev pub PassesAll : List DpAction → PortFilter → Type 0
 PassesAll actions filter =
     (port : ℕ) → bit_at filter.bits (bit_of port) ≡ 0 → All (λ (a : DpAction). sends_to port a ≡ false) actions
 
+-- Where a filter is single, one output to its port is all that the actions are.
+abbrev pub IsSingle : List DpAction → PortFilter → Type 0
+IsSingle actions filter = IsTrue filter.single → actions ≡ Output filter.port ∷ []
+
+-- It is, and that is the port.
+pub record SendsOnlyTo (port : ℕ) (filter : PortFilter) : Type 0 where
+  pub single : IsTrue filter.single
+  pub port_is : filter.port ≡ port
+
 -- the actions that journals decided for an arrival
 abbrev pub actions_at : Run → List Journal → Arrival → List DpAction
 actions_at run journals a = actions_for run journals a.port a.place
@@ -31,3 +41,5 @@ pub record AreFilters (run : Run) (journals : List Journal) (arrivals : List Arr
   pub count : length filters ≡ length arrivals
   pub each : (k : ℕ) (a : Arrival) (f : PortFilter) → k < length arrivals
       → PassesAll (actions_at run journals (get_or arrivals k a)) (get_or filters k f)
+  pub single : (k : ℕ) (a : Arrival) (f : PortFilter) → k < length arrivals
+      → IsSingle (actions_at run journals (get_or arrivals k a)) (get_or filters k f)

@@ -10,6 +10,7 @@ ghost use Rattle.edge_io.specs.Written.{WritesAll, WritesFile};
 ghost use Rattle.run_boards.specs.Arrivals.{IsArrival};
 ghost use Rattle.egress_capture.specs.Filters.{PassesAll, AreFilters};
 
+use crate::batch::{batch_at, send_batch};
 use crate::port_filter::PortFilter;
 use crate::sending::send;
 use action_exec::FrameBuffer;
@@ -70,8 +71,26 @@ fn write_frames<C: Case, S: Shelf>(
 {
     let came = finished.arrivals();
     let mut buffer = FrameBuffer::new(alloc);
-    let mut writer = PcapWriter::begin(shelf, run.nanos())?;
-    'arrivals: for at in 0..came.len() {
+    let nanos = run.nanos();
+    let mut writer = PcapWriter::begin(shelf, nanos)?;
+    let mut at = 0;
+    'arrivals: while at < came.len() {
+        let count = batch_at(came, filters, at, port);
+        if count > 0 {
+            send_batch(
+                shelf,
+                &mut writer,
+                run,
+                finished,
+                filters,
+                at,
+                count,
+                port,
+                nanos,
+            )?;
+            at += count as usize;
+            continue;
+        }
         send_decided(
             shelf,
             &mut writer,
@@ -82,6 +101,7 @@ fn write_frames<C: Case, S: Shelf>(
             port,
             &mut buffer,
         )?;
+        at += 1;
     }
     Ok(())
 }

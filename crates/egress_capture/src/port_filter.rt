@@ -1,9 +1,10 @@
-//! Which ports actions may send to, told in a number, so that a port passes over the frames of others quickly.
-ghost use Rattle.std.specs.Prelude.{◌≡◌, ◌%◌, ℕ, false, All, IfOk};
+//! Which ports actions may send to, told in a number, so that a port passes over the frames of others quickly, and
+//! whether all that they do is to send once.
+ghost use Rattle.std.specs.Prelude.{◌≡◌, ◌%◌, ℕ, false, All, IfOk, IsTrue};
 ghost use Rattle.std.specs.Int.{bit_at};
 ghost use Rattle.spec_case.specs.Arrivals.{in_order, arrivals as came_in};
 ghost use Rattle.egress_capture.specs.Sending.{sends_to};
-ghost use Rattle.egress_capture.specs.Filters.{bit_of, PassesAll, AreFilters};
+ghost use Rattle.egress_capture.specs.Filters.{bit_of, PassesAll, IsSingle, SendsOnlyTo, AreFilters};
 
 use run_boards::Finished;
 use run_case::{Case, RunData};
@@ -16,20 +17,46 @@ const BITS: u16 = 32;
 /// A bit for each port that a list of actions sends to: that of the port's number modulo `BITS`.
 ///
 /// Ports share bits, so that a port whose bit is there may still get nothing. One whose bit isn't there gets nothing.
+///
+/// Where the filter is `single`, one output to `port` is all that the actions are.
 #[derive(Clone, Copy)]
 pub struct PortFilter {
     bits: u32,
+    port: u16,
+    single: bool,
 }
 
 impl PortFilter {
+    // A filter that has no bit yet, and tells whether the actions are a single output.
+    fn without_bits(actions: &[DpAction]) -> PortFilter
+        ensures { IsSingle actions.now result }
+    {
+        match actions {
+            [DpAction::Output(port)] => PortFilter {
+                bits: 0,
+                port: *port,
+                single: true,
+            },
+            _ => PortFilter {
+                bits: 0,
+                port: 0,
+                single: false,
+            },
+        }
+    }
+
     // The filter with the port of one more action, if it is an output.
     fn with(self, action: &DpAction) -> PortFilter
-        ensures { (port : ℕ) → bit_at result.bits (bit_of port) ≡ 0
+        ensures port { result.port ≡ self.port }
+        ensures single { result.single ≡ self.single }
+        ensures bits { (port : ℕ) → bit_at result.bits (bit_of port) ≡ 0
             → (bit_at self.bits (bit_of port) ≡ 0) × (sends_to port action.now ≡ false) }
     {
         match action {
             DpAction::Output(port) => PortFilter {
                 bits: self.bits | 1 << (port % BITS),
+                port: self.port,
+                single: self.single,
             },
             _ => self,
         }
@@ -37,9 +64,10 @@ impl PortFilter {
 
     // The filter of actions.
     fn of(actions: &[DpAction]) -> PortFilter
-        ensures { PassesAll actions.now result }
+        ensures passes { PassesAll actions.now result }
+        ensures single { IsSingle actions.now result }
     {
-        let mut filter = PortFilter { bits: 0 };
+        let mut filter = PortFilter::without_bits(actions);
         'actions: for action in actions {
             filter = filter.with(action);
         }
@@ -51,6 +79,13 @@ impl PortFilter {
         ensures { result ≡ false → bit_at self.bits (bit_of port) ≡ 0 }
     {
         self.bits >> (port % BITS) & 1 == 1
+    }
+
+    /// Whether one output to the port is all that the actions are.
+    pub fn only_sends_to(self, port: u16) -> bool
+        ensures { IsTrue result → SendsOnlyTo port self }
+    {
+        self.single && self.port == port
     }
 
     /// Whether the bit of one of these ports is there.
@@ -69,7 +104,7 @@ impl PortFilter {
 /// The filters of what was decided of each arrival, in the order of the arrivals. They are made once, for the files of
 /// all ports.
 ///
-/// It takes 4 bytes for each arrival; there may be no memory for them.
+/// It takes 8 bytes for each arrival; there may be no memory for them.
 pub fn filters_of<C: Case>(
     alloc: Global,
     run: &RunData<C>,

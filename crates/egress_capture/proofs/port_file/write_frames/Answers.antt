@@ -6,19 +6,21 @@ use Rattle.spec_case.specs.Run.{is_nanos}
 use Rattle.spec_run.specs.Outputs.{sent_to}
 use Rattle.edge_io.proofs.InTurn.{has_written, first_cut, cut_within, more}
 use Rattle.egress_capture.proofs.Prefixes.{around_pieces, pieces_more}
+use Rattle.egress_capture.proofs.Batches.{around_batch, batch_more}
 use Rattle.egress_capture.proofs.port_file.write_frames.Goals as goal
 
 pub returns-in_err-writer : goal.returns-in_err-writer
 returns-in_err-writer g c =
     let p = err_from_is_err_and c.from_residual.result c.from_residual.ensures.1 in
-    let begun = rw c.nanos.ensures at c.in_err-writer.ensures.writes in
+    let begun = rw c.nanos-nanos.ensures at c.in_err-writer.ensures.writes in
     first_cut g.S.Shelf _ _ c.from_residual.result _ _ _ (p.1 ∙ ap Err p.2) begun
 
 pub arrivals-init : goal.arrivals-init
 arrivals-init g c = record {
-  nanos = c.in_ok-writer.ensures.nanos ∙ c.nanos.ensures;
+  within = omega arith;
+  nanos = c.in_ok-writer.ensures.nanos ∙ c.nanos-nanos.ensures;
   wrote =
-      let begun = rw c.nanos.ensures at c.in_ok-writer.ensures.writes in
+      let begun = rw c.nanos-nanos.ensures at c.in_ok-writer.ensures.writes in
       rw (append-nil (header (is_nanos g.C.Case.run))) (has_written g.S.Shelf _ _ _ _ begun);
 }
 
@@ -32,11 +34,37 @@ returns-in_err-send_decided g c =
 
 pub arrivals-preserved : goal.arrivals-preserved
 arrivals-preserved g c = record {
+  within = omega (arith, c.arrivals-test.true);
   nanos = c.send_decided.ensures.nanos ∙ c.arrivals.invariant.nanos;
   wrote =
       let run = g.C.Case.run in
       let w = rw c.arrivals.invariant.nanos at c.in_ok-send_decided.ensures.writes in
       let all = pieces_more (sent_to run c.args.finished.now c.args.port) (record_of (is_nanos run)) (header (is_nanos run)) c.arrivals-came.result.now c.arrivals.at _ c.arrivals-test.true in
+      more g.S.Shelf _ _ _ _ _ _ all c.arrivals.invariant.wrote _ w;
+}
+
+pub send_batch-requires-clause-within : goal.send_batch-requires-clause-within
+send_batch-requires-clause-within g c = rw (← c.arrivals-came.ensures.list) c.batch_at-count.ensures.within
+
+pub send_batch-requires-clause-batch : goal.send_batch-requires-clause-batch
+send_batch-requires-clause-batch g c = rw (← c.arrivals-came.ensures.list) c.batch_at-count.ensures.batch
+
+pub returns-in_err-send_batch : goal.returns-in_err-send_batch
+returns-in_err-send_batch g c =
+    let run = g.C.Case.run in
+    let p = err_from_is_err_and c.from_residual-in_err-send_batch.result c.from_residual-in_err-send_batch.ensures.1 in
+    let w = rw (← c.arrivals-came.ensures.list, c.nanos-nanos.ensures) at c.in_err-send_batch.ensures.writes in
+    let all = around_batch (sent_to run c.args.finished.now c.args.port) (record_of (is_nanos run)) (header (is_nanos run)) c.arrivals-came.result.now c.arrivals.at c.batch_at-count.result in
+    rw (← c.arrivals-came.ensures.list) (cut_within g.S.Shelf _ _ _ _ _ _ _ all c.arrivals.invariant.wrote _ _ (p.1 ∙ ap Err p.2) w)
+
+pub arrivals-preserved-then-count-gt0 : goal.arrivals-preserved-then-count-gt0
+arrivals-preserved-then-count-gt0 g c = record {
+  within = c.batch_at-count.ensures.within;
+  nanos = c.send_batch.ensures.nanos ∙ c.arrivals.invariant.nanos;
+  wrote =
+      let run = g.C.Case.run in
+      let w = rw (← c.arrivals-came.ensures.list, c.nanos-nanos.ensures) at c.in_ok-send_batch.ensures.writes in
+      let all = batch_more (sent_to run c.args.finished.now c.args.port) (record_of (is_nanos run)) (header (is_nanos run)) c.arrivals-came.result.now c.arrivals.at c.batch_at-count.result in
       more g.S.Shelf _ _ _ _ _ _ all c.arrivals.invariant.wrote _ w;
 }
 
