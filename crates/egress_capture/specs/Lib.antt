@@ -1,3 +1,4 @@
 pub mod Sending
 pub mod Filters
+pub mod Copies
 pub mod Batches

@@ -9,7 +9,8 @@ ghost use Rattle.edge_io.specs.declared.outside.InUse.TheVariants.{Nothing, Crea
 ghost use Rattle.edge_io.specs.Written.{WritesAll, WritesFile};
 ghost use Rattle.run_boards.specs.Arrivals.{IsArrival};
 ghost use Rattle.egress_capture.specs.Filters.{PassesAll, AreFilters};
-ghost use Rattle.egress_capture.specs.Sending.{first_frame_to, record_if};
+ghost use Rattle.egress_capture.specs.Sending.{record_if};
+ghost use Rattle.egress_capture.specs.Copies.{first_copy};
 
 use crate::{PortFilter, send_first};
 use action_exec::FrameBuffer;
@@ -62,10 +63,8 @@ fn copy_sent<C: Case, S: Shelf>(
     requires there { IsArrival C.run arrival }
     requires filter { PassesAll (actions_for C.run finished.now arrival.port arrival.place) filter }
     ensures nanos { writer.new ≡ writer.old }
-    ensures writes { let frame = frame_at C.run arrival.port arrival.place in
-        let actions = actions_for C.run finished.now arrival.port arrival.place in
-        let sent = first_frame_to ports.now frame.time actions frame.bytes in
-        WritesAll S.Shelf shelf.old shelf.new (record_if writer.old sent) result }
+    ensures writes { let copy = first_copy C.run finished.now ports.now arrival in
+        WritesAll S.Shelf shelf.old shelf.new (record_if writer.old copy) result }
 {
     if !filter.may_send_to_one(ports) {
         return Ok(());
