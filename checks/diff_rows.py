@@ -140,13 +140,27 @@ def packets(pick, ports, frames, classes):
         yield key ^ 1 << pick.randrange(ALL.bit_length()) & ALL
 
 
+def is_flow(actions):
+    """Whether actions are those of flows: such a list sends, and tells so by its own words."""
+    return any(item.startswith("output:") or item in ("in_port", "all", "flood") for item in actions.split(","))
+
+
+def done_as(actions, ports, key):
+    """The datapath actions that what is said does to a packet."""
+    if not is_flow(actions):
+        return actions
+    return print_datapath_actions(translate(tables_of(f"actions={actions}\n".encode()), ports, key).actions)
+
+
 def is_told(classes, ports, tables, key):
     """Whether a packet is told as the simulation treats it. Of other ports nothing is told."""
     if key >> BEGIN["in_port"] & full(16) not in ports:
         return True
     old, new = (print_datapath_actions(translate(each, ports, key).actions) for each in tables)
     its = [it for it in classes if key & it.mask == it.key]
-    return old == new if not its else [(it.old, it.new) for it in its] == [(old, new)]
+    if not its:
+        return old == new
+    return old != new and [(done_as(it.old, ports, key), done_as(it.new, ports, key)) for it in its] == [(old, new)]
 
 
 def read_file(name):

@@ -2,9 +2,8 @@
 use Rattle.std.specs.Prelude.{ℕ, Bool, if◌then◌else◌, List, [], ◌∷◌, ◌++◌, length, codes}
 use Rattle.std.specs.List.{list_any, flat_map, count_by}
 use Rattle.std.specs.Fmt.{decimal}
-use Rattle.spec_flow_text.specs.DpTextPrinted.{dp_actions_printed}
 use Rattle.spec_diff.specs.Classes.{Class}
-use Rattle.spec_diff.specs.Texts.{is_same_kind, kinds_of, kind_line, class_text}
+use Rattle.spec_diff.specs.Texts.{deed_text, is_same_kind, kinds_of, kind_line, class_text}
 
 -- the line of a kind, if no class of those that follow has it
 abbrev pub kind_part : List Class → Class → List Class → List ℕ
@@ -12,7 +11,7 @@ kind_part classes c later = if list_any (is_same_kind c) later then [] else kind
 
 -- what both versions do, with an arrow between
 abbrev pub done_text : Class → List ℕ
-done_text c = dp_actions_printed c.old ++ (codes " -> " ++ dp_actions_printed c.new)
+done_text c = deed_text c.old ++ (codes " -> " ++ deed_text c.new)
 
 -- the line of a kind, but for its line feed
 abbrev pub kind_text : ℕ → Class → List ℕ

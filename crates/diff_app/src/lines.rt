@@ -18,7 +18,8 @@
 //!
 //! # What is left to others
 //!
-//! The classes (`table_diff`), matches (`dump_lines::megaflows`), and actions (`dp_text`).
+//! The classes (`table_diff`), matches (`dump_lines::megaflows`), datapath actions (`dp_text`) and flow actions
+//! (`action_text`).
 
 mod kinds;
 mod text;

@@ -18,7 +18,7 @@ use Rattle.spec_netflow.specs.Datagrams.{netflow_file}
 use Rattle.spec_run.specs.Journals.{actions_for}
 use Rattle.spec_run.specs.Mirrored.{copy_of, mirror_file_name, mirror_file}
 use Rattle.spec_run.specs.Outputs.{frames_by, frames_out, port_file_name, port_file}
-use Rattle.spec_diff.specs.Classes.{Class, IsRight, IsFrameKey, done, holding, matches_of}
+use Rattle.spec_diff.specs.Classes.{Class, IsOf, IsRight, IsFrameKey, done, done_as, holding, matches_of}
 use Rattle.board_laws.specs.Entries.{AreOfBytes}
 use Rattle.diff_laws.specs.Runs.{last_switch, AreByAllEdits, AreCompared, HasNone, IsAsSaid, IsTreated}
 use Rattle.diff_laws.proofs.Keys.{is_frame_key, is_held_once}
@@ -82,13 +82,16 @@ module _ (o n : Run) (classes : List Class) (a b : List Journal) (compared : Are
     alike_outside (inr none) zero = old_done ∙ none.1 ∙ sym new_done
 
     as_said : (c : Class) → IsRight (last_switch o) (last_switch n) c → IsTrue (is_matched key c.matching)
-        → IsAsSaid (actions_for o a port place) (actions_for n b port place) c
-    as_said c right matched = record {
-      old_is = old_done ∙ right.old key frame_key matched;
-      new_is = new_done ∙ right.new key frame_key matched;
-    }
+        → IsAsSaid o.ports key (actions_for o a port place) (actions_for n b port place) c
+    as_said c right matched =
+        let is_of : IsOf c.matching key = record { frame = frame_key; matched = matched } in
+        record {
+          old_is = old_done ∙ right.old key is_of;
+          new_is = new_done ∙ right.new key is_of ∙ ap (λ (ps : List ℕ). done_as ps c.new key) (sym compared.ports);
+          differ = λ same. right.differ key is_of (sym old_done ∙ same ∙ new_done);
+        }
 
-    pub treated : IsTreated classes key (actions_for o a port place) (actions_for n b port place)
+    pub treated : IsTreated o.ports classes key (actions_for o a port place) (actions_for n b port place)
     treated = record {
       once = at_most_once told;
       outside = alike_outside told;

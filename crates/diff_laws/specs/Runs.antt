@@ -1,5 +1,5 @@
 -- Two runs that differ in their tables, and a list of classes that tells how these differ.
-use Rattle.std.specs.Prelude.{◌≡◌, ℕ, ◌≤◌, nat_eq, List, length, IsTrue, All}
+use Rattle.std.specs.Prelude.{◌≡◌, ◌≢◌, ℕ, ◌≤◌, nat_eq, List, length, IsTrue, All}
 use Rattle.std.specs.List.{IsDistinct}
 use Rattle.spec_actions.specs.declared.action.DpAction.{DpAction}
 use Rattle.spec_tables.specs.Rules.{is_matched}
@@ -10,7 +10,7 @@ use Rattle.spec_board.specs.Results.{key_at, switch_at}
 use Rattle.spec_board.specs.Texts.{Journal}
 use Rattle.spec_run.specs.Journals.{AreWhole, IsByLastVersion}
 use Rattle.board_laws.specs.Entries.{AreOfBytes}
-use Rattle.spec_diff.specs.Classes.{Class, IsDifference, holding, matches_of}
+use Rattle.spec_diff.specs.Classes.{Class, IsDifference, done_as, holding, matches_of}
 
 -- ---- runs
 
@@ -50,14 +50,15 @@ pub record AreCompared (o n : Run) (classes : List Class) : Type 0 where
 abbrev pub HasNone : Run → List Class → Type 0
 HasNone run classes = OfFrames run (λ port place. holding (key_at run port place) (matches_of classes) ≡ 0)
 
--- What was decided is what a class says of both.
-pub record IsAsSaid (old new : List DpAction) (c : Class) : Type 0 where
-  pub old_is : old ≡ c.old
-  pub new_is : new ≡ c.new
+-- What was decided of a packet of this key at these ports is what a class says of both, and that isn't the same.
+pub record IsAsSaid (ports key : List ℕ) (old new : List DpAction) (c : Class) : Type 0 where
+  pub old_is : old ≡ done_as ports c.old key
+  pub new_is : new ≡ done_as ports c.new key
+  pub differ : old ≢ new
 
 -- A packet of this key is in one class at most. Where it is in one, the class says what was decided of both; where it
 -- is in none, that is the same.
-pub record IsTreated (classes : List Class) (key : List ℕ) (old new : List DpAction) : Type 0 where
+pub record IsTreated (ports : List ℕ) (classes : List Class) (key : List ℕ) (old new : List DpAction) : Type 0 where
   pub once : holding key (matches_of classes) ≤ 1
   pub outside : holding key (matches_of classes) ≡ 0 → old ≡ new
-  pub inside : All (λ (c : Class). IsTrue (is_matched key c.matching) → IsAsSaid old new c) classes
+  pub inside : All (λ (c : Class). IsTrue (is_matched key c.matching) → IsAsSaid ports key old new c) classes

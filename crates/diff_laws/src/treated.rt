@@ -9,6 +9,6 @@ ghost use Rattle.diff_laws.specs.Compared.{OfCompared};
 /// None is in two classes.
 pub fn frames_are_treated_as_classes_say()
     ensures { (classes : List Class) → OfCompared classes (λ o n a b.
-        OfFrames o (λ port place. IsTreated classes (key_at o port place)
-        (actions_for o a port place) (actions_for n b port place))) }
+        OfFrames o (λ port at. IsTreated o.ports classes (key_at o port at)
+        (actions_for o a port at) (actions_for n b port at))) }
 {}

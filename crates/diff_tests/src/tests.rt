@@ -149,3 +149,55 @@ fn nothing_is_printed_after_a_fault_in_printing(rt: HostRuntime) -> Result<(), F
     assert!(rt; ends_as_shown(rt.alloc(), &comparison, NONE, 1)?);
     Ok(())
 }
+
+#[test]
+fn a_changed_route_that_rewrites_is_one_class_of_flow_actions(rt: HostRuntime) -> Result<(), Fail> {
+    let comparison = Comparison {
+        old: "in_port=1,actions=mod_dl_dst:02:00:00:00:00:02,output:2\n",
+        new: "in_port=1,actions=mod_dl_dst:02:00:00:00:00:03,in_port\n",
+        words: &WORDS,
+        status: 1,
+        text: "in_port=1\n- set_field:02:00:00:00:00:02->dl_dst,output:2\n+ set_field:02:00:00:00:00:03->dl_dst,in_port\n1 classes, 1 kinds\n",
+    };
+    assert!(rt; ends_as_shown(rt.alloc(), &comparison, NONE, NONE)?);
+    Ok(())
+}
+
+#[test]
+fn actions_of_a_further_table_stand_in_place_of_the_lookup(rt: HostRuntime) -> Result<(), Fail> {
+    let comparison = Comparison {
+        old: "in_port=1,actions=load:7->NXM_NX_REG0[],resubmit(,1)\ntable=1,reg0=7,actions=mod_dl_dst:02:00:00:00:00:02,output:2\n",
+        new: "in_port=1,actions=drop\n",
+        words: &WORDS,
+        status: 1,
+        text: "in_port=1\n- set_field:0x7->reg0,set_field:02:00:00:00:00:02->dl_dst,output:2\n+ drop\n1 classes, 1 kinds\n",
+    };
+    assert!(rt; ends_as_shown(rt.alloc(), &comparison, NONE, NONE)?);
+    Ok(())
+}
+
+#[test]
+fn a_route_that_is_followed_by_another_table_is_no_difference(rt: HostRuntime) -> Result<(), Fail> {
+    let comparison = Comparison {
+        old: "in_port=1,actions=mod_dl_dst:02:00:00:00:00:02,output:2\n",
+        new: "in_port=1,actions=resubmit(,1)\ntable=1,actions=mod_dl_dst:02:00:00:00:00:02,output:2\n",
+        words: &WORDS,
+        status: 0,
+        text: "",
+    };
+    assert!(rt; ends_as_shown(rt.alloc(), &comparison, NONE, NONE)?);
+    Ok(())
+}
+
+#[test]
+fn a_ttl_that_has_run_out_is_in_no_class(rt: HostRuntime) -> Result<(), Fail> {
+    let comparison = Comparison {
+        old: "in_port=1,ip,nw_ttl=1,actions=dec_ttl,output:2\nin_port=1,ip,nw_ttl=9,actions=dec_ttl,output:2\n",
+        new: "in_port=1,ip,nw_ttl=1,actions=dec_ttl,in_port\nin_port=1,ip,nw_ttl=9,actions=dec_ttl,in_port\n",
+        words: &WORDS,
+        status: 1,
+        text: "in_port=1,dl_type=0x0800,nw_ttl=9\n- set(nw_ttl=0x0/0x1),2\n+ set(nw_ttl=0x0/0x1),1\n1 classes, 1 kinds\n",
+    };
+    assert!(rt; ends_as_shown(rt.alloc(), &comparison, NONE, NONE)?);
+    Ok(())
+}

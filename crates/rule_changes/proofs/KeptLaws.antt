@@ -12,7 +12,7 @@ get_or-same zero q d = refl
 get_or-same (suc n) zero d = refl
 get_or-same (suc n) (suc q) d = get_or-same n q d
 
-number_at-none : (q : ℕ) → number_at none q ≡ 0
+pub number_at-none : (q : ℕ) → number_at none q ≡ 0
 unfolding none
 number_at-none q = get_or-same field_count q 0
 

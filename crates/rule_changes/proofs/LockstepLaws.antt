@@ -21,85 +21,83 @@ use Rattle.spec_xlate.specs.Tags.{VlanTag, tag_fields, is_tag, is_tag_field, wit
 use Rattle.spec_xlate.specs.Translation.{Switch, State, Mode, deepest, action_limit, kept as kept_actions, stopped, with_current, emit, emit_all, rebased, committed, in_port_of, is_other_port, other_ports, output, output_all, slice_bits, slice_of, with_value, written, write, vid_bits, pcp_bits, pcp_unit, lower_ttl, act, in_mode, run, resumed, visited, follow, with_lookups_left, enter, look, start, last_state, pipe}
 use Rattle.spec_xlate.specs.Translation.Mode.{Going, ListEnded, Stopped}
 use Rattle.translation_laws.proofs.KeyLaws.{and_zero, masked_from-places}
-use Rattle.spec_diff.specs.Classes.{done}
+use Rattle.spec_diff.specs.Classes.{done, leads}
 use Rattle.rule_changes.specs.Lockstep.{written_with, keeps, FoundAlike}
 
--- ---- a state with other visits
+-- ---- a state with other visits, and as many lookups left
 
-abbrev with_visits : List ℕ → State → State
-with_visits v s = record s { visits = v }
+abbrev pub beside : List ℕ → ℕ → State → State
+beside v left s = record s { visits = v; lookups_left = left }
 
--- whether an action leads to a lookup
-abbrev leads : OfAction → Bool
-leads (Resubmit table) = true
-leads (Goto table) = true
-leads x = false
+module _ (v : List ℕ) (left : ℕ) where
+  if-beside : (t : Bool) (p q : State) → (if t then beside v left p else beside v left q) ≡ beside v left (if t then p else q)
+  if-beside true p q = refl
+  if-beside false p q = refl
 
-module _ (v : List ℕ) where
-  if-visits : (t : Bool) (p q : State) → (if t then with_visits v p else with_visits v q) ≡ with_visits v (if t then p else q)
-  if-visits true p q = refl
-  if-visits false p q = refl
-
-  emit-visits : (a : DpAction) (s : State) → emit a (with_visits v s) ≡ with_visits v (emit a s)
+  emit-beside : (a : DpAction) (s : State) → emit a (beside v left s) ≡ beside v left (emit a s)
   unfolding emit
-  emit-visits a s = if-visits (length s.actions == action_limit) (stopped s) (record s { actions = s.actions ++ a ∷ [] })
+  emit-beside a s = if-beside (length s.actions == action_limit) (stopped s) (record s { actions = s.actions ++ a ∷ [] })
 
-  emit_all-visits : (as_ : List DpAction) (s : State) → emit_all as_ (with_visits v s) ≡ with_visits v (emit_all as_ s)
+  emit_all-beside : (as_ : List DpAction) (s : State) → emit_all as_ (beside v left s) ≡ beside v left (emit_all as_ s)
   unfolding emit_all
-  emit_all-visits [] s = refl
-  emit_all-visits (a ∷ as_) s = ap (emit_all as_) (emit-visits a s) ∙ emit_all-visits as_ (emit a s)
+  emit_all-beside [] s = refl
+  emit_all-beside (a ∷ as_) s = ap (emit_all as_) (emit-beside a s) ∙ emit_all-beside as_ (emit a s)
 
-  committed-visits : (s : State) → committed (with_visits v s) ≡ with_visits v (committed s)
+  committed-beside : (s : State) → committed (beside v left s) ≡ beside v left (committed s)
   unfolding committed
-  committed-visits s = ap rebased (emit_all-visits (commit s.base s.current) s)
+  committed-beside s = ap rebased (emit_all-beside (commit s.base s.current) s)
 
-  output-visits : (sw : Switch) (n : ℕ) (s : State) → output sw n (with_visits v s) ≡ with_visits v (output sw n s)
+  output-beside : (sw : Switch) (n : ℕ) (s : State) → output sw n (beside v left s) ≡ beside v left (output sw n s)
   unfolding output
-  output-visits sw n s =
-      ap (λ (z : State). if is_other_port sw s.current n then z else with_visits v s) (ap (emit (datapath.Output n)) (committed-visits s) ∙ emit-visits (datapath.Output n) (committed s))
-      ∙ if-visits (is_other_port sw s.current n) (emit (datapath.Output n) (committed s)) s
+  output-beside sw n s =
+      ap (λ (z : State). if is_other_port sw s.current n then z else beside v left s) (ap (emit (datapath.Output n)) (committed-beside s) ∙ emit-beside (datapath.Output n) (committed s))
+      ∙ if-beside (is_other_port sw s.current n) (emit (datapath.Output n) (committed s)) s
 
-  output_all-visits : (ps : List ℕ) (s : State) → output_all ps (with_visits v s) ≡ with_visits v (output_all ps s)
+  output_all-beside : (ps : List ℕ) (s : State) → output_all ps (beside v left s) ≡ beside v left (output_all ps s)
   unfolding output_all
-  output_all-visits [] s = refl
-  output_all-visits (p ∷ ps) s = ap (emit_all (map datapath.Output (p ∷ ps))) (committed-visits s) ∙ emit_all-visits (map datapath.Output (p ∷ ps)) (committed s)
+  output_all-beside [] s = refl
+  output_all-beside (p ∷ ps) s = ap (emit_all (map datapath.Output (p ∷ ps))) (committed-beside s) ∙ emit_all-beside (map datapath.Output (p ∷ ps)) (committed s)
 
-  write-visits : (name : NamedField) (value bits : ℕ) (s : State) → write name value bits (with_visits v s) ≡ with_visits v (write name value bits s)
+  write-beside : (name : NamedField) (value bits : ℕ) (s : State) → write name value bits (beside v left s) ≡ beside v left (write name value bits s)
   unfolding write
-  write-visits name value bits s = if-visits (is_met (named name).write_needs s.current) _ s
+  write-beside name value bits s = if-beside (is_met (named name).write_needs s.current) _ s
 
-  ttl-visits : (s : State) → lower_ttl (with_visits v s) ≡ with_visits v (lower_ttl s)
-  ttl-visits s = if-visits (nat_le (value_of s.current field.NwTtl) 1) _ _
+  ttl-beside : (s : State) → lower_ttl (beside v left s) ≡ beside v left (lower_ttl s)
+  ttl-beside s = if-beside (nat_le (value_of s.current field.NwTtl) 1) _ _
 
-  -- ---- an action that leads to no lookup does the same whatever was visited, whatever the rules
+  -- ---- an action that leads to no lookup does the same whatever was visited, however many lookups are left, and whatever the rules
 
-  act-visits : (o n : Switch) (sub sub' : ℕ → State → State) → n.ports ≡ o.ports → (x : OfAction) → leads x ≡ false → (s : State)
-      → act n sub' x (with_visits v s) ≡ with_visits v (act o sub x s)
+  pub act-beside : (o n : Switch) (sub sub' : ℕ → State → State) → n.ports ≡ o.ports → (x : OfAction) → leads x ≡ false → (s : State)
+      → act n sub' x (beside v left s) ≡ beside v left (act o sub x s)
   unfolding act output
-  act-visits o n sub sub' ports (Output p) plain s =
-      ap (λ (ps : List ℕ). output (record { tables = n.tables; ports = ps }) p (with_visits v s)) ports ∙ output-visits (record { tables = n.tables; ports = o.ports }) p s ∙ same_switch
+  act-beside o n sub sub' ports (Output p) plain s =
+      ap (λ (ps : List ℕ). output (record { tables = n.tables; ports = ps }) p (beside v left s)) ports ∙ output-beside (record { tables = n.tables; ports = o.ports }) p s ∙ same_switch
     where
-      same_switch : with_visits v (output (record { tables = n.tables; ports = o.ports }) p s) ≡ with_visits v (output o p s)
+      same_switch : beside v left (output (record { tables = n.tables; ports = o.ports }) p s) ≡ beside v left (output o p s)
       same_switch = refl
-  act-visits o n sub sub' ports (OutputField slice) plain s =
-      ap (λ (ps : List ℕ). output (record { tables = n.tables; ports = ps }) (slice_of s.current slice) (with_visits v s)) ports ∙ output-visits (record { tables = n.tables; ports = o.ports }) (slice_of s.current slice) s ∙ same_switch
+  act-beside o n sub sub' ports (OutputField slice) plain s =
+      ap (λ (ps : List ℕ). output (record { tables = n.tables; ports = ps }) (slice_of s.current slice) (beside v left s)) ports ∙ output-beside (record { tables = n.tables; ports = o.ports }) (slice_of s.current slice) s ∙ same_switch
     where
-      same_switch : with_visits v (output (record { tables = n.tables; ports = o.ports }) (slice_of s.current slice) s) ≡ with_visits v (output o (slice_of s.current slice) s)
+      same_switch : beside v left (output (record { tables = n.tables; ports = o.ports }) (slice_of s.current slice) s) ≡ beside v left (output o (slice_of s.current slice) s)
       same_switch = refl
-  act-visits o n sub sub' ports InPort plain s = ap (emit (datapath.Output (in_port_of s.current))) (committed-visits s) ∙ emit-visits (datapath.Output (in_port_of s.current)) (committed s)
-  act-visits o n sub sub' ports All plain s =
-      ap (λ (ps : List ℕ). output_all (other_ports (record { tables = n.tables; ports = ps }) s.current) (with_visits v s)) ports ∙ output_all-visits (other_ports o s.current) s
-  act-visits o n sub sub' ports Flood plain s =
-      ap (λ (ps : List ℕ). output_all (other_ports (record { tables = n.tables; ports = ps }) s.current) (with_visits v s)) ports ∙ output_all-visits (other_ports o s.current) s
-  act-visits o n sub sub' ports (Resubmit table) plain s = absurd (cc plain)
-  act-visits o n sub sub' ports (Goto table) plain s = absurd (cc plain)
-  act-visits o n sub sub' ports (Set name value mask) plain s = write-visits name value mask s
-  act-visits o n sub sub' ports (Move source target) plain s = write-visits target.name (slice_of s.current source * 2 ^ target.low) (slice_bits target) s
-  act-visits o n sub sub' ports DecTtl plain s = ap (λ (z : State). if is_met needs.Ip s.current then z else with_visits v s) (ttl-visits s) ∙ if-visits (is_met needs.Ip s.current) (lower_ttl s) s
-  act-visits o n sub sub' ports (PushVlan tpid) plain s = if-visits (is_full s.current) (stopped s) (with_current (pushed tpid s.current) s)
-  act-visits o n sub sub' ports PopVlan plain s = refl
-  act-visits o n sub sub' ports (SetVid vid) plain s = refl
-  act-visits o n sub sub' ports (SetPcp pcp) plain s = refl
+  act-beside o n sub sub' ports InPort plain s = ap (emit (datapath.Output (in_port_of s.current))) (committed-beside s) ∙ emit-beside (datapath.Output (in_port_of s.current)) (committed s)
+  act-beside o n sub sub' ports All plain s =
+      ap (λ (ps : List ℕ). output_all (other_ports (record { tables = n.tables; ports = ps }) s.current) (beside v left s)) ports ∙ output_all-beside (other_ports o s.current) s
+  act-beside o n sub sub' ports Flood plain s =
+      ap (λ (ps : List ℕ). output_all (other_ports (record { tables = n.tables; ports = ps }) s.current) (beside v left s)) ports ∙ output_all-beside (other_ports o s.current) s
+  act-beside o n sub sub' ports (Resubmit table) plain s = absurd (cc plain)
+  act-beside o n sub sub' ports (Goto table) plain s = absurd (cc plain)
+  act-beside o n sub sub' ports (Set name value mask) plain s = write-beside name value mask s
+  act-beside o n sub sub' ports (Move source target) plain s = write-beside target.name (slice_of s.current source * 2 ^ target.low) (slice_bits target) s
+  act-beside o n sub sub' ports DecTtl plain s = ap (λ (z : State). if is_met needs.Ip s.current then z else beside v left s) (ttl-beside s) ∙ if-beside (is_met needs.Ip s.current) (lower_ttl s) s
+  act-beside o n sub sub' ports (PushVlan tpid) plain s = if-beside (is_full s.current) (stopped s) (with_current (pushed tpid s.current) s)
+  act-beside o n sub sub' ports PopVlan plain s = refl
+  act-beside o n sub sub' ports (SetVid vid) plain s = refl
+  act-beside o n sub sub' ports (SetPcp pcp) plain s = refl
+
+-- it makes no lookup
+pub act-left : (sw : Switch) (sub : ℕ → State → State) (x : OfAction) → leads x ≡ false → (s : State) → (act sw sub x s).lookups_left ≡ s.lookups_left
+act-left sw sub x plain s = ap (λ (z : State). z.lookups_left) (act-beside s.visits s.lookups_left sw sw sub sub refl x plain s)
 
 -- ---- what is kept
 
@@ -188,7 +186,7 @@ module _ (kept : List ℕ) where
   ttl-kept : (s : State) → number_at kept (place_of field.NwTtl) ≡ 0 → Kept s.current (lower_ttl s).current
   ttl-kept s none = if-current (nat_le (value_of s.current field.NwTtl) 1) _ _ s refl (set-kept s.current (place_of field.NwTtl) _ none)
 
-  act-kept : (sw : Switch) (sub : ℕ → State → State) (x : OfAction) → leads x ≡ false → keeps kept x ≡ true → (s : State) → Kept s.current (act sw sub x s).current
+  pub act-kept : (sw : Switch) (sub : ℕ → State → State) (x : OfAction) → leads x ≡ false → keeps kept x ≡ true → (s : State) → Kept s.current (act sw sub x s).current
   unfolding act
   act-kept sw sub (Output n) plain k s = output-kept sw n s
   act-kept sw sub (OutputField slice) plain k s = output-kept sw (slice_of s.current slice) s
@@ -213,7 +211,7 @@ module _ (o n : Switch) (ports : n.ports ≡ o.ports) (kept b : List ℕ)
   -- The one is the other, but for visits, and its packet has what it had of the fields that are kept.
   pub record Along (s t : State) : Type 0 where
     pub visits : List ℕ
-    pub same : t ≡ with_visits visits s
+    pub same : t ≡ beside visits s.lookups_left s
     pub keeps : masked s.current kept ≡ masked b kept
 
   abbrev SubAlong : (ℕ → State → State) → (ℕ → State → State) → Type 0
@@ -223,7 +221,8 @@ module _ (o n : Switch) (ports : n.ports ≡ o.ports) (kept b : List ℕ)
     plain-along : (x : OfAction) → leads x ≡ false → keeps kept x ≡ true → (s t : State) → Along s t → Along (act o sub x s) (act n sub' x t)
     plain-along x plain k s t h = record {
       visits = h.visits;
-      same = ap (act n sub' x) h.same ∙ act-visits h.visits o n sub sub' ports x plain s;
+      same = ap (act n sub' x) h.same ∙ act-beside h.visits s.lookups_left o n sub sub' ports x plain s
+          ∙ ap (λ (left : ℕ). beside h.visits left (act o sub x s)) (sym (act-left o sub x plain s));
       keeps = act-kept kept o sub x plain k s ∙ h.keeps;
     }
 

@@ -48,3 +48,4 @@ mod twins;
 pub use changes::Changes;
 pub use comparing::changes_of;
 pub use laws::same_rules_do_the_same;
+pub use twins::are_same_actions;

@@ -49,7 +49,7 @@ fn is_same_action(a: OfAction, b: OfAction) -> bool
 }
 
 /// Whether two lists of actions are the same.
-pub(crate) fn are_same_actions(a: &[OfAction], b: &[OfAction]) -> bool
+pub fn are_same_actions(a: &[OfAction], b: &[OfAction]) -> bool
     ensures { result ≡ true → a.now ≡ b.now }
 {
     if a.len() != b.len() {

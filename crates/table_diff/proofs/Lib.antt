@@ -7,5 +7,9 @@ pub mod TellLaws
 pub mod OpenLaws
 pub mod ApartLaws
 pub mod WholeLaws
+pub mod EmitLaws
+pub mod KnownLaws
+pub mod FollowLaws
+pub mod WayLaws
 pub mod JudgeLaws
 pub mod OrderLaws

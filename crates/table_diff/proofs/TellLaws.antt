@@ -64,7 +64,7 @@ all-Among p [] x h m = absurd m
 all-Among p (y ∷ ys) x h (inl e) = ap p e ∙ (and_parts (p y) (list_all p ys) h).0
 all-Among p (y ∷ ys) x h (inr m) = all-Among p ys x (and_parts (p y) (list_all p ys) h).1 m
 
-told-winner : (mask : List ℕ) (rules : List Rule) (k x : List ℕ) → tells_winner mask rules k ≡ true → masked k mask ≡ masked x mask → winner rules x ≡ winner rules k
+pub told-winner : (mask : List ℕ) (rules : List Rule) (k x : List ℕ) → tells_winner mask rules k ≡ true → masked k mask ≡ masked x mask → winner rules x ≡ winner rules k
 told-winner mask rules k x h e = winner-same rules k x (λ r m p. told-matched k x mask r.matching
     (all-Among (λ s. is_told mask k s.matching) (rules_from (priority_to_beat (winner rules k)) rules) r h
     (Among_in-filter (λ s. nat_le (priority_to_beat (winner rules k)) s.priority) r rules m p)) e)

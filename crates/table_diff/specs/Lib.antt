@@ -1,6 +1,13 @@
 pub mod Cubes
+pub mod Deeds
 pub mod Judging
 pub mod Deciding
 pub mod Open
 pub mod Checking
+pub mod Following
+pub mod Followings
+pub mod Paths
+pub mod Leading
+pub mod Sending
+pub mod Ways
 pub mod Proposing

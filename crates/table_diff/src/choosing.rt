@@ -1,6 +1,8 @@
 //! Which bits tell a packet apart from another. Whether bits decide is checked, so nothing is proved of the choice.
 
-use ovs_fields::{FieldId, Key, Mask, or};
+use crate::telling::is_told;
+use ovs_fields::{FieldId, Key, Mask, agree, or};
+use rule_tables::Match;
 
 /// The fields, those first by which rules differ most.
 static ORDER: [FieldId; 20] = [
@@ -27,7 +29,7 @@ static ORDER: [FieldId; 20] = [
 ];
 
 /// A number with all bits below its most significant one.
-fn filled(number: u128) -> u128 {
+pub(crate) fn filled(number: u128) -> u128 {
     let number = number | number >> 1;
     let number = number | number >> 2;
     let number = number | number >> 4;
@@ -59,4 +61,16 @@ pub(crate) fn add_difference(mask: &mut Mask, key: &Key, other: &Key, stated: &M
     }
     // In registers alone: all that is stated.
     *mask = or(mask, stated);
+}
+
+/// Adds bits that decide whether a packet is one that a match speaks of.
+pub(crate) fn add_match(mask: &mut Mask, key: &Key, matching: &Match) {
+    if is_told(mask, key, matching) {
+        return;
+    }
+    if agree(key, &matching.key, &matching.mask) {
+        *mask = or(mask, &matching.mask);
+    } else {
+        add_difference(mask, key, &matching.key, &matching.mask);
+    }
 }

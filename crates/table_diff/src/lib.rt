@@ -9,8 +9,8 @@
 //! # What is promised
 //!
 //! The classes are the `IsDifference` of `spec_diff`. Every key that a frame may have, of a port that is listed once,
-//! is in exactly one class, or in none, and then both versions do the same to its frame. Of a class both versions do
-//! what it says of them, and that isn't the same. Both lists can be printed.
+//! is in exactly one class, or in none, and then both versions do the same to its frame. A class has a frame, and to
+//! each of its frames both versions do what it says of them, and not the same. Both lists can be printed.
 //!
 //! Where there are more cubes than are looked into, there is no list; what was found up to then is right, and
 //! something is left (`IsUnfinished`). Out of memory is the only other error.
@@ -28,19 +28,31 @@
 //! through both versions.
 //!
 //! Which bits decide what becomes of those is proposed by a run through the tables that adds, for each rule that may
-//! win and isn't told yet, one bit in which the packet differs from it (`proposing`, `choosing`). Then it is checked
-//! by a run with the mask fixed (`checking`): at each lookup, whether the mask tells of each rule that may win; at
-//! each action, whether it has the action's bits. Only the check is proved, so a better choice changes no proof.
-//! Where bits don't pass, all bits of the packet are taken, which always decide. A megaflow's bits would serve too,
-//! and are far too many: of a packet that isn't of an address they have all of that address, and one bit is enough.
+//! win and isn't told yet, one bit in which the packet differs from it (`leading`, `choosing`). Then it is checked by
+//! runs with the mask fixed. Only the checks are proved, so a better choice changes no proof. A megaflow's bits would
+//! serve too, and are far too many: of a packet that isn't of an address they have all of that address, and one bit
+//! is enough.
+//!
+//! - `checking`: at each lookup, whether the mask tells of each rule that may win; at each action, whether it has the
+//!   action's bits, those that are written over among them. Then the same datapath actions are done to all packets.
+//! - `following`: whether all packets are led the same way, whatever is written over. It keeps which bits of their
+//!   keys are known as they now are (`path`): those of the mask, less what was written, and more where all are written
+//!   alike. At each lookup these have to tell of each rule that may win; at an output, of the ports; at a `dec_ttl`,
+//!   whether the TTL has run out. Then the flow actions carried out, in one list, do to each packet what the tables
+//!   do (`proofs/FollowLaws`), and to the same ports. More than 128 datapath actions may never come.
+//!
+//! Two ways that are known tell a class where the ports differ, or both lists of datapath actions are the same for
+//! all, and one that is alike where nothing is done on either, or the same flow actions (`ways`). Else bits that are
+//! written over are stated too (`proposing`). Where these don't pass either, all bits of the packet are taken, which
+//! always decide.
 //!
 //! At the end the classes are put in order: those of one pair of actions stand together, the widest first (`order`).
 //! In any order they tell the same (`proofs/OrderLaws`).
 //!
 //! # What is left to others
 //!
-//! The text of classes (`diff_app::lines`). A class says datapath actions, which depend on the bits that are written over:
-//! rules that rewrite make a class for each value that such bits may have, and many of them end at the limit.
+//! The text of classes (`diff_app::lines`). Versions that send to the same ports and write otherwise make a class for
+//! each value that bits may have which are written over, and many of them end at the limit.
 #![tactic(auto)]
 
 mod actions;
@@ -50,19 +62,27 @@ mod choosing;
 mod class;
 mod comparing;
 mod cube;
+mod deed;
 mod error;
+mod following;
 mod judging;
 mod laws;
+mod leading;
 mod order;
+mod path;
 mod proposing;
 mod settling;
 mod splitting;
 mod telling;
+mod way;
+mod ways;
 mod whole;
+mod written;
 
 pub use actions::are_same;
 pub use class::Class;
 pub use comparing::{CUBE_LIMIT, compare};
 pub use cube::Cube;
+pub use deed::Deed;
 pub use error::CompareError;
 pub use laws::deciding_mask_is_sound;

@@ -3,8 +3,11 @@ ghost use Rattle.std.specs.List.Sorted.{IsPermutation};
 
 use crate::class::Class;
 use crate::cube::Cube;
+use crate::deed::Deed;
 use dp_actions::DpAction;
 use ovs_fields::{Mask, all_fields};
+use rule_tables::OfAction;
+use spec_actions::Slice;
 use std::cmp::Ordering;
 
 fn compare_numbers(a: &[u128], b: &[u128]) -> Ordering {
@@ -37,6 +40,62 @@ fn compare_actions(a: &[DpAction], b: &[DpAction]) -> Ordering {
     a.len().cmp(&b.len())
 }
 
+// Of a slice its name and its bits.
+fn numbers_of_slice(slice: &Slice) -> [u128; 3] {
+    [
+        u128::from(slice.name as u8),
+        u128::from(slice.low),
+        u128::from(slice.high),
+    ]
+}
+
+// Which flow action it is, and what it says.
+fn numbers_of_flow(action: &OfAction) -> [u128; 7] {
+    match action {
+        OfAction::Output(port) => [0, u128::from(*port), 0, 0, 0, 0, 0],
+        OfAction::OutputField(slice) => {
+            let [name, low, high] = numbers_of_slice(slice);
+            [1, name, low, high, 0, 0, 0]
+        }
+        OfAction::InPort => [2, 0, 0, 0, 0, 0, 0],
+        OfAction::All => [3, 0, 0, 0, 0, 0, 0],
+        OfAction::Flood => [4, 0, 0, 0, 0, 0, 0],
+        OfAction::Resubmit(table) => [5, u128::from(*table), 0, 0, 0, 0, 0],
+        OfAction::Goto(table) => [6, u128::from(*table), 0, 0, 0, 0, 0],
+        OfAction::Set { name, value, mask } => [7, u128::from(*name as u8), *value, *mask, 0, 0, 0],
+        OfAction::Move { from, to } => {
+            let [name, low, high] = numbers_of_slice(from);
+            let [target, bottom, top] = numbers_of_slice(to);
+            [8, name, low, high, target, bottom, top]
+        }
+        OfAction::DecTtl => [9, 0, 0, 0, 0, 0, 0],
+        OfAction::PushVlan(tpid) => [10, u128::from(*tpid), 0, 0, 0, 0, 0],
+        OfAction::PopVlan => [11, 0, 0, 0, 0, 0, 0],
+        OfAction::SetVid(vid) => [12, u128::from(*vid), 0, 0, 0, 0, 0],
+        OfAction::SetPcp(pcp) => [13, u128::from(*pcp), 0, 0, 0, 0, 0],
+    }
+}
+
+fn compare_flows(a: &[OfAction], b: &[OfAction]) -> Ordering {
+    for (x, y) in a.iter().zip(b) {
+        match compare_numbers(&numbers_of_flow(x), &numbers_of_flow(y)) {
+            Ordering::Equal => {}
+            order => return order,
+        }
+    }
+    a.len().cmp(&b.len())
+}
+
+// Datapath actions stand before flow actions.
+fn compare_deeds(a: &Deed, b: &Deed) -> Ordering {
+    match (a, b) {
+        (Deed::Datapath(x), Deed::Datapath(y)) => compare_actions(x.as_slice(), y.as_slice()),
+        (Deed::Datapath(_), Deed::Flow(_)) => Ordering::Less,
+        (Deed::Flow(_), Deed::Datapath(_)) => Ordering::Greater,
+        (Deed::Flow(x), Deed::Flow(y)) => compare_flows(x.as_slice(), y.as_slice()),
+    }
+}
+
 // How many bits of a packet are stated.
 fn stated(mask: &Mask) -> u32 {
     let mut count: u32 = 0;
@@ -64,11 +123,11 @@ fn compare_cubes(a: &Cube, b: &Cube) -> Ordering {
 }
 
 fn compare_classes(a: &Class, b: &Class) -> Ordering {
-    match compare_actions(a.old.as_slice(), b.old.as_slice()) {
+    match compare_deeds(&a.old, &b.old) {
         Ordering::Equal => {}
         order => return order,
     }
-    match compare_actions(a.new.as_slice(), b.new.as_slice()) {
+    match compare_deeds(&a.new, &b.new) {
         Ordering::Equal => {}
         order => return order,
     }

@@ -6,25 +6,13 @@ ghost use Rattle.ovs_fields.specs.Packed.{numbers};
 ghost use Rattle.dump_lines.specs.Live.{IsOfEdits, live_in};
 ghost use Rattle.pipe_model.specs.Runnable.{AreRunnable};
 
-use crate::choosing::add_difference;
-use crate::telling::{is_told, to_beat};
-use ovs_fields::{Key, Mask, agree, or};
+use crate::choosing::add_match;
+use crate::telling::to_beat;
+use ovs_fields::{Key, Mask};
 use pipe_model::{Found, Lookups, SpareLists, translate_by};
-use rule_tables::{Match, OfAction, VersionedRules};
+use rule_tables::{OfAction, VersionedRules};
 use std::alloc::{AllocError, Global};
 use xlate_pipeline::consult;
-
-/// Adds bits that decide whether a packet is one that a match speaks of.
-fn add_match(mask: &mut Mask, key: &Key, matching: &Match) {
-    if is_told(mask, key, matching) {
-        return;
-    }
-    if agree(key, &matching.key, &matching.mask) {
-        *mask = or(mask, &matching.mask);
-    } else {
-        add_difference(mask, key, &matching.key, &matching.mask);
-    }
-}
 
 /// Adds bits that decide which rule of a table wins.
 fn add_winner(mask: &mut Mask, rules: &VersionedRules, table: u8, key: &Key, from: u16) {

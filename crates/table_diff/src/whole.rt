@@ -1,6 +1,6 @@
 //! All bits of a packet.
 ghost use Rattle.std.specs.Prelude.{◌≡◌, ℕ, List, map, IsTrue};
-ghost use Rattle.spec_keys.specs.Keys.{agree, IsClean};
+ghost use Rattle.spec_keys.specs.Keys.{agree, joined, IsClean};
 ghost use Rattle.spec_xlate.specs.Lookup.{added};
 ghost use Rattle.spec_xlate.specs.Consulted.{whole};
 ghost use Rattle.spec_diff.specs.Classes.{IsFrameKey};
@@ -10,12 +10,19 @@ use named_fields::low_bits;
 use ovs_fields::{FieldId, Mask, all_fields, width};
 use xlate_pipeline::without_registers;
 
+/// Adds all bits of a field.
+pub(crate) fn add_field(mask: &mut Mask, field: FieldId)
+    ensures { bits mask.new ≡ joined (bits mask.old) (whole field) }
+{
+    mask.add(field, low_bits(width(field)));
+}
+
 /// Adds all bits of fields.
-fn add_whole(mask: &mut Mask, fields: &[FieldId])
+pub(crate) fn add_whole(mask: &mut Mask, fields: &[FieldId])
     ensures { bits mask.new ≡ added (bits mask.old) (map whole fields.now) }
 {
     'fields: for field in fields {
-        mask.add(*field, low_bits(width(*field)));
+        add_field(mask, *field);
     }
 }
 

@@ -3,15 +3,36 @@ ghost use Rattle.std.specs.Prelude.{◌≡◌, length};
 ghost use Rattle.std.specs.List.{list_any, count_by};
 ghost use Rattle.spec_diff.specs.Classes.{one_if};
 ghost use Rattle.table_diff.specs.Cubes.{class_view, classes_view};
-ghost use Rattle.spec_diff.specs.Texts.{is_same_kind, kinds_of};
+ghost use Rattle.table_diff.specs.Deeds.{deed_view};
+ghost use Rattle.spec_diff.specs.Texts.{are_same_flow_actions, is_same_deed, is_same_kind, kinds_of};
 
-use table_diff::{Class, are_same};
+use spec_actions::OfAction;
+use table_diff::{Class, Deed, are_same};
+
+/// Whether two lists of flow actions are the same.
+fn are_same_flow_actions(a: &[OfAction], b: &[OfAction]) -> bool
+    ensures { result ≡ are_same_flow_actions a.now b.now }
+{
+    a == b
+}
+
+/// Whether the same is said to be done.
+fn is_same_deed(a: &Deed, b: &Deed) -> bool
+    ensures { result ≡ is_same_deed (deed_view a.now) (deed_view b.now) }
+{
+    match (a, b) {
+        (Deed::Datapath(x), Deed::Datapath(y)) => are_same(x.as_slice(), y.as_slice()),
+        (Deed::Datapath(_), Deed::Flow(_)) => false,
+        (Deed::Flow(_), Deed::Datapath(_)) => false,
+        (Deed::Flow(x), Deed::Flow(y)) => are_same_flow_actions(x.as_slice(), y.as_slice()),
+    }
+}
 
 /// Whether two classes have the same pair of actions.
 fn is_same_kind(a: &Class, b: &Class) -> bool
     ensures { result ≡ is_same_kind (class_view a.now) (class_view b.now) }
 {
-    are_same(a.old.as_slice(), b.old.as_slice()) & are_same(a.new.as_slice(), b.new.as_slice())
+    is_same_deed(&a.old, &b.old) & is_same_deed(&a.new, &b.new)
 }
 
 fn any_has_kind(class: &Class, others: &[Class]) -> bool

@@ -2,20 +2,19 @@
 ghost use Rattle.std.specs.Prelude.{◌≡◌, ◌++◌, List, ℕ, All};
 ghost use Rattle.std.specs.List.{flat_map};
 ghost use Rattle.spec_board.specs.Texts.{line_of};
-ghost use Rattle.spec_flow_text.specs.DpTextPrinted.{dp_actions_printed};
-ghost use Rattle.spec_flow_text.specs.Within.{AreWithinFields};
 ghost use Rattle.spec_dumps.specs.Megaflows.{megaflow_match_text};
 ghost use Rattle.text_numbers.specs.Added.{Adds};
 ghost use Rattle.table_diff.specs.Cubes.{cube_view, class_view, classes_view};
-ghost use Rattle.spec_diff.specs.Texts.{class_text, old_line, new_line, kinds_of, kind_line, count_line, text_of_classes};
+ghost use Rattle.table_diff.specs.Deeds.{deed_view, CanPrint};
+ghost use Rattle.spec_diff.specs.Texts.{deed_text, class_text, old_line, new_line, kinds_of, kind_line, count_line, text_of_classes};
 ghost use Rattle.diff_app.specs.Pieces.{body_text, done_text, kind_text, kind_part, counts_text};
 
 use crate::lines::kinds::{count_kind, count_kinds, has_kind};
+use action_text::print_actions;
 use dp_text::print_dp_actions;
 use dump_lines::megaflows::print_megaflow_match;
-use spec_actions::DpAction;
 use std::alloc::AllocError;
-use table_diff::{Class, Cube};
+use table_diff::{Class, Cube, Deed};
 use text_numbers::{print_decimal, print_word};
 
 fn print_match_line(out: &mut String, cube: &Cube) -> Result<(), AllocError>
@@ -25,26 +24,37 @@ fn print_match_line(out: &mut String, cube: &Cube) -> Result<(), AllocError>
     print_word(out, "\n")
 }
 
-// What a version does, after a mark, as a line.
-fn print_done_line(out: &mut String, mark: &str, actions: &[DpAction]) -> Result<(), AllocError>
-    requires { AreWithinFields actions.now }
-    ensures { Adds out.old out.new (line_of (mark.now ++ dp_actions_printed actions.now)) result }
+// What a version does.
+fn print_deed(out: &mut String, deed: &Deed) -> Result<(), AllocError>
+    requires { CanPrint deed.now }
+    ensures { Adds out.old out.new (deed_text (deed_view deed.now)) result }
+{
+    match deed {
+        Deed::Datapath(actions) => print_dp_actions(actions.as_slice(), out),
+        Deed::Flow(actions) => print_actions(actions.as_slice(), out),
+    }
+}
+
+// The same, after a mark, as a line.
+fn print_done_line(out: &mut String, mark: &str, deed: &Deed) -> Result<(), AllocError>
+    requires { CanPrint deed.now }
+    ensures { Adds out.old out.new (line_of (mark.now ++ deed_text (deed_view deed.now))) result }
 {
     print_word(out, mark)?;
-    print_dp_actions(actions, out)?;
+    print_deed(out, deed)?;
     print_word(out, "\n")
 }
 
 fn print_old_line(out: &mut String, class: &Class) -> Result<(), AllocError>
     ensures { Adds out.old out.new (old_line (class_view class.now)) result }
 {
-    print_done_line(out, "- ", class.old.as_slice())
+    print_done_line(out, "- ", &class.old)
 }
 
 fn print_new_line(out: &mut String, class: &Class) -> Result<(), AllocError>
     ensures { Adds out.old out.new (new_line (class_view class.now)) result }
 {
-    print_done_line(out, "+ ", class.new.as_slice())
+    print_done_line(out, "+ ", &class.new)
 }
 
 // The three lines of a class.
@@ -69,9 +79,9 @@ fn print_classes(out: &mut String, classes: &[Class]) -> Result<(), AllocError>
 fn print_both(out: &mut String, class: &Class) -> Result<(), AllocError>
     ensures { Adds out.old out.new (done_text (class_view class.now)) result }
 {
-    print_dp_actions(class.old.as_slice(), out)?;
+    print_deed(out, &class.old)?;
     print_word(out, " -> ")?;
-    print_dp_actions(class.new.as_slice(), out)
+    print_deed(out, &class.new)
 }
 
 fn print_counted_kind(out: &mut String, count: usize, class: &Class) -> Result<(), AllocError>

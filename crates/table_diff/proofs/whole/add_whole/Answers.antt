@@ -19,7 +19,5 @@ next fields i d m m' within one =
 
 pub fields-preserved : goal.fields-preserved
 fields-preserved c =
-    next c.args.fields.now c.fields.field-index InPort (bits c.fields.mask) (bits c.add.new.self) c.fields-test.true
-    (c.add.ensures ∙ ap (λ (n : ℕ). joined (bits c.fields.mask) (only_at (place_of (get_or c.args.fields.now c.fields.field-index InPort)) n))
-    (c.low_bits.ensures ∙ ap all_bits c.width.ensures))
+    next c.args.fields.now c.fields.field-index InPort (bits c.fields.mask) (bits c.add_field.new.mask) c.fields-test.true c.add_field.ensures
     ∙ c.fields.invariant

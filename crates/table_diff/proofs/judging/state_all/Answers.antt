@@ -1,11 +1,11 @@
-use Rattle.std.proofs.Common.{◌≡◌, sym, subst, ◌∙◌}
+use Rattle.std.proofs.Common.{◌≡◌, refl, sym, subst, ◌∙◌}
 use Rattle.spec_xlate.specs.Translation.{Translation, switch_of}
 use Rattle.spec_flow_text.specs.Within.{AreWithinFields}
 use Rattle.pipe_model.specs.Plains.{translation_in}
 use Rattle.dump_lines.specs.Live.{live_in}
 use Rattle.ovs_fields.specs.Packed.{numbers, bits}
 use Rattle.table_diff.proofs.JudgeLaws.{both_do}
-use Rattle.table_diff.proofs.judging.follow.Goals as goal
+use Rattle.table_diff.proofs.judging.state_all.Goals as goal
 
 pub returns-then-are_same-clause-holds : goal.returns-then-are_same-clause-holds
 returns-then-are_same-clause-holds c other frame h =
@@ -35,11 +35,13 @@ returns-else-are_same-clause-holds c =
     record {
       old = both.0;
       new = both.1;
-      differ = λ (e : made.before.actions ≡ then.after.actions). c.are_same.ensures.other c.if-are_same.false (c.as_slice.ensures ∙ e ∙ sym c.as_slice-2.ensures);
+      plain = refl;
+      differ = λ other frame h same.
+          c.are_same.ensures.other c.if-are_same.false (c.as_slice.ensures ∙ sym (both.0 other frame h) ∙ same ∙ both.1 other frame h ∙ sym c.as_slice-2.ensures);
     }
 
-pub returns-else-are_same-clause-within : goal.returns-else-are_same-clause-within
-returns-else-are_same-clause-within c =
+pub returns-else-are_same-clause-printable : goal.returns-else-are_same-clause-printable
+returns-else-are_same-clause-printable c =
     let key = numbers c.args.cube.now.key in
     let within = c.translation_is_within_fields.ensures in
     let o = switch_of (live_in c.args.old.now) c.args.ports.now in
@@ -48,4 +50,4 @@ returns-else-are_same-clause-within c =
     subst (λ (t : Translation). AreWithinFields t.actions) (sym c.in_ok-before.ensures.translation) (within o key c.args.cube.now.key.is_key) in
     let new : AreWithinFields c.in_ok-after.after.actions =
     subst (λ (t : Translation). AreWithinFields t.actions) (sym c.in_ok-after.ensures.translation) (within n key c.args.cube.now.key.is_key) in
-    (old, new)
+    (old.within, new.within)
