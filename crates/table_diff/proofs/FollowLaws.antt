@@ -1,9 +1,8 @@
 -- Two translations side by side, of packets that agree on a mask: they carry out the same flow actions.
-use Rattle.std.proofs.Common.{◌≡◌, ◌≢◌, ℕ, zero, suc, ◌+◌, ◌-◌, ◌*◌, ◌/◌, ◌^◌, ◌<◌, ◌≤◌, Bool, true, false, ◌&&◌, ◌||◌, not, ◌==◌, nat_le, nat_lt, if◌then◌else◌, List, [], ◌∷◌, ◌++◌, length, map, set, filter, fold, bit_and, Option, Some, None, ◌⊎◌, inl, inr, refl, sym, ap, ap₂, ◌∙◌, subst, arith, eq-eqb, eqb-true, leb-true, length-append}
+use Rattle.std.proofs.Common.{◌≡◌, ◌≢◌, ℕ, zero, suc, ◌+◌, ◌-◌, ◌*◌, ◌/◌, ◌^◌, ◌<◌, ◌≤◌, Bool, true, false, ◌&&◌, ◌||◌, not, ◌==◌, nat_le, if◌then◌else◌, List, [], ◌∷◌, ◌++◌, length, set, filter, fold, bit_and, Option, Some, None, ◌⊎◌, inl, inr, refl, sym, ap, ap₂, ◌∙◌, subst, arith, eq-eqb, eqb-true, leb-true}
 use Rattle.std.specs.List.{list_all, list_any}
 use Rattle.std.proofs.lemmas.Bool.{and_parts}
 use Rattle.std.proofs.lemmas.Nat.{and_comm, and_assoc}
-use Rattle.spec_base.proofs.SortLaws.{length-sort_by}
 use Rattle.spec_keys.specs.declared.field_id.FieldId.{FieldId}
 use Rattle.spec_keys.specs.declared.field_id.FieldId.TheVariants as field
 use Rattle.spec_keys.specs.Fields.{place_of, field_count}
@@ -16,10 +15,8 @@ use Rattle.spec_actions.specs.declared.action.Slice.{Slice}
 use Rattle.spec_actions.specs.declared.action.OfAction.{OfAction}
 use Rattle.spec_actions.specs.declared.action.OfAction.TheVariants.{Output, OutputField, InPort, All, Flood, Resubmit, Goto, Set, Move, DecTtl, PushVlan, PopVlan, SetVid, SetPcp}
 use Rattle.spec_actions.specs.declared.action.DpAction.{DpAction}
-use Rattle.spec_actions.specs.declared.action.DpAction.TheVariants as datapath
 use Rattle.spec_actions.specs.Named.{named}
 use Rattle.spec_tables.specs.Rules.{Rule, winner}
-use Rattle.spec_xlate.specs.Commit.{commit}
 use Rattle.spec_xlate.specs.Tags.{is_tag, is_full, is_tag_field, pushed}
 use Rattle.spec_xlate.specs.Needs.{is_met, fields_needed}
 use Rattle.spec_xlate.specs.Translation.{Switch, State, Mode, switch_of, deepest, lookup_limit, action_limit, kept as kept_actions, stopped, with_current, written, written_bits, in_port_of, is_other_port, other_ports, rising, in_field, slice_bits, slice_of, write, act, in_mode, run, mode_after, resumed, visited, follow, with_lookups_left, enter, look, start, last_state, translation_of, pipe}
@@ -39,144 +36,11 @@ use Rattle.spec_diff.specs.Classes.{done, done_by, leads, no_lookup}
 use Rattle.table_diff.specs.Sending.{ports_in}
 use Rattle.table_diff.specs.Ways.{ArePlain, IsFollowed}
 use Rattle.table_diff.specs.Deciding.{tells_winner}
-use Rattle.table_diff.specs.Following.{Path, is_own, are_own, is_known_write, writes, forgotten, is_known, known_after, high_bits, is_ttl_told, are_known, is_slice_known, is_decided, commit_limit, sends, cost, used_after, dirty_after, is_left_out, has_room, with_action, followed}
-use Rattle.table_diff.proofs.EmitLaws.{ports_in-append, ports_in-outputs, commit-ports, commit-length, commit-none, sending, with_sent, sent, is_output, one_port, ports_of, act-sends}
+use Rattle.table_diff.specs.Following.{Path, is_own, are_own, is_known_write, writes, forgotten, is_known, known_after, high_bits, is_ttl_told, are_known, is_slice_known, is_decided, sends, used_after, dirty_after, is_left_out, has_room, with_action, followed}
+use Rattle.table_diff.proofs.EmitLaws.{is_output, one_port, ports_of}
 use Rattle.table_diff.proofs.KnownLaws.{AreSame, forgotten-zero, forgotten-known, untouched-stays, set-known}
 use Rattle.table_diff.proofs.TellLaws.{told-winner}
-
--- ---- what is sent
-
--- after a state has sent to these ports, within so many datapath actions
-record Emits (s u : State) (ps : List ℕ) (most : ℕ) : Type 0 where
-  mode : u.mode ≡ s.mode
-  ports : ports_in u.actions ≡ ports_in s.actions ++ ps
-  quiet : (ports_in s.actions ≡ [] → s.actions ≡ []) → ports_in u.actions ≡ [] → u.actions ≡ []
-  few : length u.actions ≤ most
-  clean : (s.base ≡ s.current) ⊎ (1 ≤ length ps) → u.base ≡ u.current
-
-append-none : (xs : List ℕ) → xs ++ [] ≡ xs
-append-none [] = refl
-append-none (x ∷ xs) = ap (λ (z : List ℕ). x ∷ z) (append-none xs)
-
--- there is something where something comes last
-none-last : (xs : List ℕ) (p : ℕ) (ps : List ℕ) → xs ++ (p ∷ ps) ≡ [] → ⊥
-none-last [] p ps e = cc
-none-last (x ∷ xs) p ps e = cc
-
-sending-emits : (ps : List ℕ) (s : State) (most : ℕ) → length s.actions ≤ most → most ≤ action_limit
-    → (1 ≤ length ps → length s.actions + (length (commit s.base s.current) + length ps) ≤ most) → Emits s (sending ps s) ps most
-sending-emits [] s most few within room = record {
-  mode = refl;
-  ports = sym (append-none (ports_in s.actions));
-  quiet = λ before now. before now;
-  few = few;
-  clean = λ known. at known;
-}
-  where
-    at : (s.base ≡ s.current) ⊎ (1 ≤ 0) → s.base ≡ s.current
-    at (inl same) = same
-    at (inr some) = absurd (omega arith)
-sending-emits (p ∷ ps) s most few within room =
-    let changes = commit s.base s.current in
-    let here : length s.actions + (length changes + length (p ∷ ps)) ≤ most = room (omega arith) in
-    subst (λ (u : State). Emits s u (p ∷ ps) most) (sym (sent p ps s (omega arith))) (record {
-      mode = refl;
-      ports = added_ports changes;
-      quiet = λ before now. absurd (none-last (ports_in s.actions) p ps (sym (added_ports changes) ∙ now));
-      few = added_length changes here;
-      clean = λ known. refl;
-    })
-  where
-    outputs : List DpAction
-    outputs = map datapath.Output (p ∷ ps)
-
-    added_ports : (changes : List DpAction) → ports_in (s.actions ++ (commit s.base s.current ++ map datapath.Output (p ∷ ps))) ≡ ports_in s.actions ++ (p ∷ ps)
-    added_ports changes =
-        ports_in-append s.actions (commit s.base s.current ++ map datapath.Output (p ∷ ps))
-        ∙ ap (λ (z : List ℕ). ports_in s.actions ++ z)
-        (ports_in-append (commit s.base s.current) (map datapath.Output (p ∷ ps))
-        ∙ ap₂ (λ (x y : List ℕ). x ++ y) (commit-ports s.base s.current) (ports_in-outputs (p ∷ ps)))
-
-    many : (qs : List ℕ) → length (map datapath.Output qs) ≡ length qs
-    many [] = refl
-    many (q ∷ qs) = ap suc (many qs)
-
-    added_length : (changes : List DpAction) → length s.actions + (length (commit s.base s.current) + length (p ∷ ps)) ≤ most
-        → length (s.actions ++ (commit s.base s.current ++ map datapath.Output (p ∷ ps))) ≤ most
-    added_length changes here =
-        omega (arith, length-append s.actions (commit s.base s.current ++ map datapath.Output (p ∷ ps)), length-append (commit s.base s.current) (map datapath.Output (p ∷ ps)), many (p ∷ ps), here)
-
--- ---- how much that is
-
--- an action sends to no more ports than it is said to
-filter-length : (test : ℕ → Bool) (ps : List ℕ) → length (filter test ps) ≤ length ps
-filter-length test [] = omega arith
-filter-length test (p ∷ ps) = at (test p) (filter-length test ps)
-  where
-    at : (t : Bool) → length (filter test ps) ≤ length ps → length (if t then p ∷ filter test ps else filter test ps) ≤ suc (length ps)
-    at true h = omega arith
-    at false h = omega arith
-
-one_port-length : (sw : Switch) (key : List ℕ) (n : ℕ) → length (one_port sw key n) ≤ 1
-one_port-length sw key n = at (is_other_port sw key n)
-  where
-    at : (t : Bool) → length (if t then n ∷ [] else []) ≤ 1
-    at true = omega arith
-    at false = omega arith
-
-others-length : (sw : Switch) (key : List ℕ) → length (other_ports sw key) ≤ length sw.ports
-others-length sw key =
-    omega (arith, filter-length (λ p. not (p == in_port_of key)) (rising sw.ports), length-sort_by nat_lt sw.ports)
-
-few-ports : (sw : Switch) (x : OfAction) (key : List ℕ) → length (ports_of sw x key) ≤ sends sw.ports x key
-unfolding sends
-few-ports sw (Output n) key = at (is_other_port sw key n)
-  where
-    at : (t : Bool) → length (if t then n ∷ [] else []) ≤ (if t then 1 else 0)
-    at true = omega arith
-    at false = omega arith
-few-ports sw (OutputField slice) key = one_port-length sw key (slice_of key slice)
-few-ports sw InPort key = omega arith
-few-ports sw All key = others-length sw key
-few-ports sw Flood key = others-length sw key
-few-ports sw (Resubmit table) key = omega arith
-few-ports sw (Goto table) key = omega arith
-few-ports sw (Set name value mask) key = omega arith
-few-ports sw (Move source target) key = omega arith
-few-ports sw DecTtl key = omega arith
-few-ports sw (PushVlan tpid) key = omega arith
-few-ports sw PopVlan key = omega arith
-few-ports sw (SetVid vid) key = omega arith
-few-ports sw (SetPcp pcp) key = omega arith
-
-cost-some : (dirty : Bool) (n : ℕ) → 1 ≤ n → cost dirty n ≡ (if dirty then commit_limit + n else n)
-cost-some dirty n some = at (n == 0) refl
-  where
-    at : (t : Bool) → (n == 0) ≡ t → (if t then 0 else (if dirty then commit_limit + n else n)) ≡ (if dirty then commit_limit + n else n)
-    at true e = let zero_ = eqb-true n 0 e in absurd (omega arith)
-    at false e = refl
-
--- a key that may have changed costs a commit, and one that hasn't costs nothing
-within_cost : (s : State) (ps : List ℕ) (dirty : Bool) (n : ℕ) → (dirty ≡ false → s.base ≡ s.current) → length ps ≤ n → 1 ≤ length ps
-    → length (commit s.base s.current) + length ps ≤ cost dirty n
-within_cost s ps dirty n clean few some =
-    subst (λ (z : ℕ). length (commit s.base s.current) + length ps ≤ z) (sym (cost-some dirty n (omega arith))) (at dirty refl)
-  where
-    at : (t : Bool) → dirty ≡ t → length (commit s.base s.current) + length ps ≤ (if t then commit_limit + n else n)
-    at true e = omega (arith, commit-length s.base s.current)
-    at false e =
-        let none : commit s.base s.current ≡ [] = ap (λ (key : List ℕ). commit key s.current) (clean e) ∙ commit-none s.current in
-        let zero_ : length (commit s.base s.current) ≡ 0 = ap length none in
-        omega arith
-
--- an action that sends, within what is left
-output-emits : (sw : Switch) (sub : ℕ → State → State) (x : OfAction) → is_output x ≡ true → (s : State) (dirty : Bool) (used n : ℕ) → length s.actions ≤ used
-    → (dirty ≡ false → s.base ≡ s.current) → length (ports_of sw x s.current) ≤ n → used + cost dirty n ≤ action_limit
-    → Emits s (act sw sub x s) (ports_of sw x s.current) (used + cost dirty n)
-output-emits sw sub x is s dirty used n few clean count within =
-    subst (λ (u : State). Emits s u (ports_of sw x s.current) (used + cost dirty n)) (sym (act-sends sw sub x is s))
-    (sending-emits (ports_of sw x s.current) s (used + cost dirty n) (omega arith) within
-    (λ some. let fits = within_cost s (ports_of sw x s.current) dirty n clean count some in omega arith))
+use Rattle.table_diff.proofs.SendLaws.{Emits, few-ports, output-emits}
 
 -- ---- one more action of a straight list
 

@@ -9,6 +9,7 @@ pub mod ApartLaws
 pub mod WholeLaws
 pub mod EmitLaws
 pub mod KnownLaws
+pub mod SendLaws
 pub mod FollowLaws
 pub mod WayLaws
 pub mod JudgeLaws
