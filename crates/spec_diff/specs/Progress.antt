@@ -9,13 +9,13 @@ abbrev pub AreAlike : Switch → Switch → Match → Type 0
 AreAlike o n m = (key : List ℕ) → IsFrameKey key → IsTrue (is_matched key m) → done o key ≡ done n key
 
 -- After so many steps there are classes, each of which is right, and matches of packets that are treated alike, one
--- for each step. Each frame of the first matches is in exactly one of these, or in one of what is left.
+-- for each step. Each frame is in as many of these and of what is left as of the first matches.
 pub record IsPartWay (o n : Switch) (first left : List Match) (classes : List Class) (steps : ℕ) : Type 0 where
   pub alike : List Match
   pub right : All (IsRight o n) classes
   pub same : All (AreAlike o n) alike
   pub taken : length classes + length alike ≡ steps
-  pub once : (key : List ℕ) → IsFrameKey key → holding key first ≡ 1 → holding key left + holding key (matches_of classes) + holding key alike ≡ 1
+  pub each : (key : List ℕ) → IsFrameKey key → holding key left + holding key (matches_of classes) + holding key alike ≡ holding key first
 
 -- There is something left after so many steps.
 pub record IsUnfinished (o n : Switch) (ports : List ℕ) (steps : ℕ) : Type 0 where

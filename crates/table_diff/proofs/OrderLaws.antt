@@ -23,5 +23,9 @@ pub in_any_order : (o n : Switch) (ports : List ℕ) (xs ys : List Class) → Is
     → IsDifference o n ports (classes_view xs) → IsDifference o n ports (classes_view ys)
 in_any_order o n ports xs ys moved d = record {
   right = All-map-IsPermutation class_view (IsRight o n) xs ys moved d.right;
-  told = λ key is once. subst (IsTold o n key) (as_sum key xs ∙ sym (sum_by-IsPermutation (held_by key) xs ys moved) ∙ sym (as_sum key ys)) (d.told key is once);
+  told = λ key is once. subst (IsTold o n key) (same key) (d.told key is once);
+  others = λ key is none. sym (same key) ∙ d.others key is none;
 }
+  where
+    same : (key : List ℕ) → holding key (matches_of (classes_view xs)) ≡ holding key (matches_of (classes_view ys))
+    same key = as_sum key xs ∙ sym (sum_by-IsPermutation (held_by key) xs ys moved) ∙ sym (as_sum key ys)

@@ -9,8 +9,9 @@
 //! # What is promised
 //!
 //! The classes are the `IsDifference` of `spec_diff`. Every key that a frame may have, of a port that is listed once,
-//! is in exactly one class, or in none, and then both versions do the same to its frame. A class has a frame, and to
-//! each of its frames both versions do what it says of them, and not the same. Both lists can be printed.
+//! is in exactly one class, or in none, and then both versions do the same to its frame; one of another port is in
+//! none. A class has a frame, and to each of its frames both versions do what it says of them, and not the same. Both
+//! lists can be printed.
 //!
 //! Where there are more cubes than are looked into, there is no list; what was found up to then is right, and
 //! something is left (`IsUnfinished`). Out of memory is the only other error.

@@ -7,7 +7,7 @@ use Rattle.spec_diff.specs.Progress.{IsPartWay, cube_limit}
 use Rattle.table_diff.specs.declared.cube.Cube.{Cube}
 use Rattle.table_diff.specs.declared.class.Class.{Class}
 use Rattle.table_diff.specs.Cubes.{cubes_view, classes_view}
-use Rattle.table_diff.proofs.StandLaws.{begun, told_of}
+use Rattle.table_diff.proofs.StandLaws.{begun, difference_of}
 use Rattle.table_diff.proofs.comparing.find_classes.Goals as goal
 
 pub cubes-init : goal.cubes-init
@@ -34,7 +34,7 @@ returns-in-None-clause-ok c =
     let first = map from_port c.args.ports.now in
     let none : c.cubes.work.items ≡ [] = search rules in
     let way = subst (λ (w : List Cube). IsPartWay o n first (cubes_view w) (classes_view c.cubes.classes.items) c.cubes.counter) none c.cubes.invariant in
-    record { right = way.right; told = told_of o n first (classes_view c.cubes.classes.items) c.cubes.counter way }
+    difference_of o n c.args.ports.now (classes_view c.cubes.classes.items) c.cubes.counter way
 
 empty : (work : List Cube) → length work ≡ 0 → work ≡ []
 empty [] h = refl
@@ -52,7 +52,7 @@ returns-then-is_empty-clause-ok c =
     let none : length c.cubes.work.items ≡ 0 = search rules in
     let way = subst (λ (w : List Cube). IsPartWay o n first (cubes_view w) (classes_view c.cubes.classes.items) c.cubes.counter)
     (empty c.cubes.work.items none) c.cubes.invariant in
-    record { right = way.right; told = told_of o n first (classes_view c.cubes.classes.items) c.cubes.counter way }
+    difference_of o n c.args.ports.now (classes_view c.cubes.classes.items) c.cubes.counter way
 
 pub returns-clause-too_many : goal.returns-clause-too_many
 returns-clause-too_many c is =
