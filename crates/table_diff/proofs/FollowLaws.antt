@@ -1,12 +1,12 @@
 -- Two translations side by side, of packets that agree on a mask: they carry out the same flow actions.
 use Rattle.std.proofs.Common.{◌≡◌, ◌≢◌, ℕ, zero, suc, ◌+◌, ◌-◌, ◌*◌, ◌/◌, ◌^◌, ◌<◌, ◌≤◌, Bool, true, false, ◌&&◌, ◌||◌, not, ◌==◌, nat_le, if◌then◌else◌, List, [], ◌∷◌, ◌++◌, length, set, filter, fold, bit_and, Option, Some, None, ◌⊎◌, inl, inr, refl, sym, ap, ap₂, ◌∙◌, subst, arith, eq-eqb, eqb-true, leb-true}
-use Rattle.std.specs.List.{list_all, list_any}
+use Rattle.std.specs.List.{list_any}
 use Rattle.std.proofs.lemmas.Bool.{and_parts}
 use Rattle.std.proofs.lemmas.Nat.{and_comm, and_assoc}
 use Rattle.spec_keys.specs.declared.field_id.FieldId.{FieldId}
 use Rattle.spec_keys.specs.declared.field_id.FieldId.TheVariants as field
 use Rattle.spec_keys.specs.Fields.{place_of, field_count}
-use Rattle.spec_keys.specs.Keys.{number_at, value_of, masked, covers, only_at, IsKey}
+use Rattle.spec_keys.specs.Keys.{none as no_bits, number_at, value_of, masked, covers, only_at, IsKey}
 use Rattle.spec_keys.specs.Protocols.{tag_bit, ipv4_type, ipv6_type, arp_type, icmp_protocol, tcp_protocol, udp_protocol, icmp6_protocol}
 use Rattle.spec_actions.specs.declared.named_field.NamedField.{NamedField}
 use Rattle.spec_actions.specs.declared.named_field.Prerequisite.{Prerequisite}
@@ -28,19 +28,21 @@ use Rattle.translation_laws.proofs.UnionLaws.{SameBits_from-union, agree-covers}
 use Rattle.translation_laws.proofs.StatesAlike.{whole-same}
 use Rattle.translation_laws.proofs.CommitLaws.{place_of-lt}
 use Rattle.pipe_model.specs.Events.{Event, act_events, in_mode_events, run_events, follow_events, enter_events, look_events, events_of}
-use Rattle.pipe_model.specs.Events.Event.{Looked, Acted}
+use Rattle.pipe_model.specs.Events.Event.{Looked}
 use Rattle.translation_laws.specs.Members.{Among}
 use Rattle.xlate_pipeline.specs.Steps.{step_bits}
+use Rattle.rule_changes.proofs.KeptLaws.{number_at-none}
 use Rattle.rule_changes.proofs.LockstepLaws.{beside, act-beside, act-left, act-kept}
 use Rattle.spec_diff.specs.Classes.{done, done_by, leads, no_lookup}
-use Rattle.table_diff.specs.Sending.{ports_in}
-use Rattle.table_diff.specs.Ways.{ArePlain, IsFollowed}
+use Rattle.table_diff.specs.Sending.{ports_in, is_frame_field, number_after}
+use Rattle.table_diff.specs.Ways.{IsFollowed, number_sent}
 use Rattle.table_diff.specs.Deciding.{tells_winner}
-use Rattle.table_diff.specs.Following.{Path, is_own, are_own, is_known_write, writes, forgotten, is_known, known_after, high_bits, is_ttl_told, are_known, is_slice_known, is_decided, sends, used_after, dirty_after, is_left_out, has_room, with_action, followed}
+use Rattle.table_diff.specs.Following.{Path, is_own, are_own, is_known_write, writes, forgotten, is_known, known_after, high_bits, is_ttl_told, are_known, is_slice_known, is_decided, sends, used_after, dirty_after, is_left_out, has_room, with_action, followed, sent_bits}
 use Rattle.table_diff.proofs.EmitLaws.{is_output, one_port, ports_of}
 use Rattle.table_diff.proofs.KnownLaws.{AreSame, forgotten-zero, forgotten-known, untouched-stays, set-known}
 use Rattle.table_diff.proofs.TellLaws.{told-winner}
-use Rattle.table_diff.proofs.SendLaws.{Emits, few-ports, output-emits}
+use Rattle.table_diff.proofs.SendLaws.{few-ports, output-emits}
+use Rattle.table_diff.proofs.PlainLaws.{fine-back}
 
 -- ---- one more action of a straight list
 
@@ -73,16 +75,6 @@ covered : (x y known m : List ℕ) → masked x known ≡ masked y known → cov
 covered x y known m e inside =
     (SameBits_from-union x y (m ∷ []) (agree-masked x y (union (m ∷ [])) (agree-covers x y known (union (m ∷ [])) inside (agree_from-masked x y known e)))).0
 
--- ---- steps
-
--- an undecided step is never made good
-fine-back : (p : Path) (events : List Event) → (fold followed p events).fine ≡ true → p.fine ≡ true
-fine-back p [] e = e
-fine-back p (Looked depth table rules key ∷ events) e =
-    (and_parts p.fine (tells_winner p.known rules key) (fine-back (followed p (Looked depth table rules key)) events e)).0
-fine-back p (Acted x key ∷ events) e =
-    (and_parts p.fine (is_decided p x key && has_room p x key) (fine-back (followed p (Acted x key)) events e)).0
-
 -- ---- two translations side by side
 
 module _ (sw : Switch) (a b m : List ℕ) (ka : IsKey a) (kb : IsKey b) (agreed : masked a m ≡ masked b m) where
@@ -103,6 +95,7 @@ module _ (sw : Switch) (a b m : List ℕ) (ka : IsKey a) (kb : IsKey b) (agreed 
     pub quiet : ports_in t.actions ≡ [] → t.actions ≡ []
     pub few : (length s.actions ≤ p.used) × (length t.actions ≤ p.used)
     pub clean : p.dirty ≡ false → (s.base ≡ s.current) × (t.base ≡ t.current)
+    pub turned : (f : FieldId) → is_frame_field f ≡ true → (number_after f s.actions (value_of a f) ≡ value_of s.base f) × (number_after f t.actions (value_of b f) ≡ value_of t.base f)
     pub same : straight p.actions ≡ plainly t
 
   -- ---- fields that no action wrote
@@ -226,11 +219,18 @@ module _ (sw : Switch) (a b m : List ℕ) (ka : IsKey a) (kb : IsKey b) (agreed 
     quiet : ports_in v.actions ≡ [] → v.actions ≡ []
     few : (length u.actions ≤ used) × (length v.actions ≤ used)
     clean : dirty ≡ false → (u.base ≡ u.current) × (v.base ≡ v.current)
+    turned : (f : FieldId) → is_frame_field f ≡ true → (number_after f u.actions (value_of a f) ≡ value_of u.base f) × (number_after f v.actions (value_of b f) ≡ value_of v.base f)
 
-  -- nothing but a key or a mode is changed
+  -- nothing but the current key or the mode is changed
   record Still (s u : State) : Type 0 where
     mode : u.mode ≡ s.mode
     actions : u.actions ≡ s.actions
+    base : u.base ≡ s.base
+
+  still-turned : (s u : State) (k : List ℕ) (f : FieldId) → u.actions ≡ s.actions → u.base ≡ s.base → number_after f s.actions (value_of k f) ≡ value_of s.base f
+      → number_after f u.actions (value_of k f) ≡ value_of u.base f
+  still-turned s u k f actions base same =
+      ap (λ (z : List DpAction). number_after f z (value_of k f)) actions ∙ same ∙ sym (ap (λ (z : List ℕ). value_of z f) base)
 
   still-moved : (p : Path) (s t u v : State) → Joined p s t → s.mode ≡ Going → Still s u → Still t v → (used : ℕ) → p.used ≤ used → Moved p s t u v false true used
   still-moved p s t u v h going first second used more =
@@ -244,11 +244,14 @@ module _ (sw : Switch) (a b m : List ℕ) (ka : IsKey a) (kb : IsKey b) (agreed 
         quiet = λ e. second.actions ∙ h.quiet (ap ports_in (sym second.actions) ∙ e);
         few = (few_s, few_t);
         clean = λ e. absurd (cc e);
+        turned = λ f is.
+            let before = h.turned f is in
+            (still-turned s u a f first.actions first.base before.0, still-turned t v b f second.actions second.base before.1);
       }
 
-  ended-moved : (p : Path) (s t u v : State) → Joined p s t → v.mode ≡ u.mode → u.actions ≡ s.actions → v.actions ≡ t.actions → plainly v ≡ plainly t → (used : ℕ) → p.used ≤ used
-      → Moved p s t u v true true used
-  ended-moved p s t u v h mode first second stays used more =
+  ended-moved : (p : Path) (s t u v : State) → Joined p s t → v.mode ≡ u.mode → u.actions ≡ s.actions → v.actions ≡ t.actions → u.base ≡ s.base → v.base ≡ t.base
+      → plainly v ≡ plainly t → (used : ℕ) → p.used ≤ used → Moved p s t u v true true used
+  ended-moved p s t u v h mode first second first_base second_base stays used more =
       let few_s : length u.actions ≤ used = subst (λ (z : List DpAction). length z ≤ used) (sym first) (let few = h.few.0 in omega arith) in
       let few_t : length v.actions ≤ used = subst (λ (z : List DpAction). length z ≤ used) (sym second) (let few = h.few.1 in omega arith) in
       record {
@@ -259,6 +262,9 @@ module _ (sw : Switch) (a b m : List ℕ) (ka : IsKey a) (kb : IsKey b) (agreed 
         quiet = λ e. second ∙ h.quiet (ap ports_in (sym second) ∙ e);
         few = (few_s, few_t);
         clean = λ e. absurd (cc e);
+        turned = λ f is.
+            let before = h.turned f is in
+            (still-turned s u a f first first_base before.0, still-turned t v b f second second_base before.1);
       }
 
   -- ---- actions that send
@@ -354,6 +360,9 @@ module _ (sw : Switch) (a b m : List ℕ) (ka : IsKey a) (kb : IsKey b) (agreed 
         sent = second.ports ∙ ap₂ (λ (y z : List ℕ). y ++ z) h.sent ports ∙ sym first.ports;
         quiet = second.quiet h.quiet;
         few = (first.few, second.few);
+        turned = λ f is_frame.
+            let before = h.turned f is_frame in
+            (first.turned f is_frame (value_of a f) before.0, second.turned f is_frame (value_of b f) before.1);
         clean = λ e. (first.clean (known_first (clean-output p s.current h.ports x is e)), second.clean (known_second ports (clean-output p s.current h.ports x is e)));
       }
     where
@@ -372,8 +381,8 @@ module _ (sw : Switch) (a b m : List ℕ) (ka : IsKey a) (kb : IsKey b) (agreed 
   write-still name value bits s = at (is_met (named name).write_needs s.current)
     where
       at : (u : Bool) → Still s (if u then with_current (written (named name).field (in_field name value) (written_bits name bits) s.current) s else s)
-      at true = record { mode = refl; actions = refl }
-      at false = record { mode = refl; actions = refl }
+      at true = record { mode = refl; actions = refl; base = refl }
+      at false = record { mode = refl; actions = refl; base = refl }
 
   -- one that has a bit but the least isn't 0 or 1
   high : (x k : ℕ) → (bit_and (bit_and x k) high_bits == 0) ≡ false → nat_le x 1 ≡ false
@@ -441,13 +450,13 @@ module _ (sw : Switch) (a b m : List ℕ) (ka : IsKey a) (kb : IsKey b) (agreed 
       same is = ttl-same p s t h (told (is_met Ip s.current) is parts.1)
 
       at : (u v : Bool) → is_met Ip s.current ≡ u → v ≡ u → (x y : Bool) → (u ≡ true → y ≡ x) → Moved p s t (lowered u x s) (lowered v y t) (u && x) true used
-      at false false is e x y w = still-moved p s t s t h going (record { mode = refl; actions = refl }) (record { mode = refl; actions = refl }) used more
+      at false false is e x y w = still-moved p s t s t h going (record { mode = refl; actions = refl; base = refl }) (record { mode = refl; actions = refl; base = refl }) used more
       at false true is e x y w = absurd (cc e)
       at true false is e x y w = absurd (cc e)
-      at true true is e true true w = ended-moved p s t _ _ h refl refl refl refl used more
+      at true true is e true true w = ended-moved p s t _ _ h refl refl refl refl refl refl used more
       at true true is e true false w = absurd (let g = w refl in cc g)
       at true true is e false true w = absurd (let g = w refl in cc g)
-      at true true is e false false w = still-moved p s t _ _ h going (record { mode = refl; actions = refl }) (record { mode = refl; actions = refl }) used more
+      at true true is e false false w = still-moved p s t _ _ h going (record { mode = refl; actions = refl; base = refl }) (record { mode = refl; actions = refl; base = refl }) used more
 
   full-same : (p : Path) (s t : State) → Joined p s t → are_known p field.VlanTci2 tag_bit ≡ true → is_full t.current ≡ is_full s.current
   full-same p s t h known = ap (λ (z : ℕ). not (z == 0)) (bits-known p s t h field.VlanTci2 tag_bit known)
@@ -459,10 +468,10 @@ module _ (sw : Switch) (a b m : List ℕ) (ka : IsKey a) (kb : IsKey b) (agreed 
     where
       at : (u v : Bool) → v ≡ u
           → Moved p s t (if u then stopped s else with_current (pushed tpid s.current) s) (if v then stopped t else with_current (pushed tpid t.current) t) u true used
-      at true true e = ended-moved p s t _ _ h refl refl refl refl used more
+      at true true e = ended-moved p s t _ _ h refl refl refl refl refl refl used more
       at true false e = absurd (cc e)
       at false true e = absurd (cc e)
-      at false false e = still-moved p s t _ _ h going (record { mode = refl; actions = refl }) (record { mode = refl; actions = refl }) used more
+      at false false e = still-moved p s t _ _ h going (record { mode = refl; actions = refl; base = refl }) (record { mode = refl; actions = refl; base = refl }) used more
 
   moved : (sub : ℕ → State → State) (p : Path) (s t : State) → Joined p s t → s.mode ≡ Going → (x : OfAction) → leads x ≡ false → is_decided p x s.current ≡ true
       → used_after p x s.current ≤ action_limit
@@ -483,11 +492,11 @@ module _ (sw : Switch) (a b m : List ℕ) (ka : IsKey a) (kb : IsKey b) (agreed 
   moved sub p s t h going DecTtl plain decided room = ttl-moved sub p s t h going decided (used_after p DecTtl s.current) (omega arith)
   moved sub p s t h going (PushVlan tpid) plain decided room = push-moved sub tpid p s t h going decided (used_after p (PushVlan tpid) s.current) (omega arith)
   moved sub p s t h going PopVlan plain decided room =
-      still-moved p s t _ _ h going (record { mode = refl; actions = refl }) (record { mode = refl; actions = refl }) (used_after p PopVlan s.current) (omega arith)
+      still-moved p s t _ _ h going (record { mode = refl; actions = refl; base = refl }) (record { mode = refl; actions = refl; base = refl }) (used_after p PopVlan s.current) (omega arith)
   moved sub p s t h going (SetVid vid) plain decided room =
-      still-moved p s t _ _ h going (record { mode = refl; actions = refl }) (record { mode = refl; actions = refl }) (used_after p (SetVid vid) s.current) (omega arith)
+      still-moved p s t _ _ h going (record { mode = refl; actions = refl; base = refl }) (record { mode = refl; actions = refl; base = refl }) (used_after p (SetVid vid) s.current) (omega arith)
   moved sub p s t h going (SetPcp pcp) plain decided room =
-      still-moved p s t _ _ h going (record { mode = refl; actions = refl }) (record { mode = refl; actions = refl }) (used_after p (SetPcp pcp) s.current) (omega arith)
+      still-moved p s t _ _ h going (record { mode = refl; actions = refl; base = refl }) (record { mode = refl; actions = refl; base = refl }) (used_after p (SetPcp pcp) s.current) (omega arith)
 
   act-joined : (sub : ℕ → State → State) (p : Path) (s t : State) → Joined p s t → s.mode ≡ Going → (x : OfAction) → leads x ≡ false → (with_action p x s.current).fine ≡ true
       → Joined (with_action p x s.current) (act sw sub x s) (act sw sub x t)
@@ -503,6 +512,7 @@ module _ (sw : Switch) (a b m : List ℕ) (ka : IsKey a) (kb : IsKey b) (agreed 
     quiet = made.quiet;
     few = subst (λ (z : ℕ). (length (act sw sub x s).actions ≤ z) × (length (act sw sub x t).actions ≤ z)) (sym used) made.few;
     clean = made.clean;
+    turned = made.turned;
     same = ap straight actions ∙ longer (is_left_out x s.current) refl;
   }
     where
@@ -603,6 +613,7 @@ module _ (sw : Switch) (a b m : List ℕ) (ka : IsKey a) (kb : IsKey b) (agreed 
     quiet = h.quiet;
     few = h.few;
     clean = h.clean;
+    turned = h.turned;
     same = h.same;
   }
 
@@ -622,6 +633,7 @@ module _ (sw : Switch) (a b m : List ℕ) (ka : IsKey a) (kb : IsKey b) (agreed 
         quiet = h.quiet;
         few = h.few;
         clean = h.clean;
+        turned = h.turned;
         same = h.same;
       } in
       resumed-joined _ _ _ (run-joined sub events keeps r.actions p (visited r s) (visited r t) begun going fine)
@@ -641,6 +653,7 @@ module _ (sw : Switch) (a b m : List ℕ) (ka : IsKey a) (kb : IsKey b) (agreed 
     quiet = h.quiet;
     few = h.few;
     clean = h.clean;
+    turned = h.turned;
     same = h.same;
   }
   enter-joined sub events keeps depth table (suc n) p s t h going fine =
@@ -660,6 +673,7 @@ module _ (sw : Switch) (a b m : List ℕ) (ka : IsKey a) (kb : IsKey b) (agreed 
         quiet = h.quiet;
         few = h.few;
         clean = h.clean;
+        turned = h.turned;
         same = h.same;
       } in
       subst (λ (o : Option Rule). Joined (fold followed q further) (follow sw sub (winner (sw.tables table) s.current) (with_lookups_left n s)) (follow sw sub o (with_lookups_left n t))) (sym same_rule)
@@ -679,6 +693,7 @@ module _ (sw : Switch) (a b m : List ℕ) (ka : IsKey a) (kb : IsKey b) (agreed 
     quiet = h.quiet;
     few = h.few;
     clean = h.clean;
+    turned = h.turned;
     same = h.same;
   }
   look-joined (suc depths) table p s t h going fine =
@@ -686,40 +701,12 @@ module _ (sw : Switch) (a b m : List ℕ) (ka : IsKey a) (kb : IsKey b) (agreed 
       (enter sw (look sw depths) table s.lookups_left s) (enter sw (look sw depths) table n t)) (sym h.left)
       (enter-joined (look sw depths) (look_events sw depths) (look-joined depths) (deepest - depths) table s.lookups_left p s t h going fine)
 
--- ---- no lookup is carried out
-
-plain-snoc : (actions : List OfAction) (x : OfAction) → leads x ≡ false → ArePlain actions → ArePlain (actions ++ x ∷ [])
-plain-snoc [] x plain h = ap (λ (u : Bool). not u && true) plain
-plain-snoc (y ∷ actions) x plain h =
-    let parts = and_parts (not (leads y)) (list_all (λ (action : OfAction). not (leads action)) actions) h in
-    ap₂ (λ (u v : Bool). u && v) parts.0 (plain-snoc actions x plain parts.1)
-
--- a lookup is never decided as an action
-decided-plain : (p : Path) (x : OfAction) (key : List ℕ) → is_decided p x key ≡ true → leads x ≡ false
-unfolding is_decided
-decided-plain p (Resubmit table) key e = absurd (cc e)
-decided-plain p (Goto table) key e = absurd (cc e)
-decided-plain p x key e = refl
-
-pub plain-path : (p : Path) (events : List Event) → ArePlain p.actions → (fold followed p events).fine ≡ true → ArePlain (fold followed p events).actions
-plain-path p [] plain fine = plain
-plain-path p (Looked depth table rules key ∷ events) plain fine = plain-path (followed p (Looked depth table rules key)) events plain fine
-plain-path p (Acted x key ∷ events) plain fine = plain-path (with_action p x key) events (at (has_room p x key && not (is_left_out x key))) fine
-  where
-    decided : is_decided p x key ≡ true
-    decided =
-        (and_parts (is_decided p x key) (has_room p x key)
-        (and_parts p.fine (is_decided p x key && has_room p x key) (fine-back (with_action p x key) events fine)).1).0
-
-    at : (u : Bool) → ArePlain (if u then p.actions ++ x ∷ [] else p.actions)
-    at true = plain-snoc p.actions x (decided-plain p x key decided) plain
-    at false = plain
-
 -- ---- what is done
 
 pub follows : (sw : Switch) (a b m : List ℕ) → IsKey a → IsKey b → masked a m ≡ masked b m → (p : Path)
     → p.ports ≡ sw.ports → p.mask ≡ m → masked a p.known ≡ masked b p.known → p.actions ≡ [] → p.used ≡ 0 → p.dirty ≡ false
-    → (fold followed p (events_of sw a)).fine ≡ true → IsFollowed sw a b (fold followed p (events_of sw a)).actions
+    → (fold followed p (events_of sw a)).fine ≡ true
+    → IsFollowed sw a b (fold followed p (events_of sw a)).actions (sent_bits (fold followed p (events_of sw a)))
 unfolding pipe last_state events_of run
 follows sw a b m ka kb agreed p ports mask known actions used dirty fine =
     let mode = (last_state sw a).mode in
@@ -728,6 +715,7 @@ follows sw a b m ka kb agreed p ports mask known actions used dirty fine =
       ports = ap ports_in same ∙ same_ports mode;
       none = λ e. same ∙ none_too mode e;
       straight = λ some. same ∙ some_too mode some;
+      sent = λ some f is. ap (λ (xs : List DpAction). number_sent f xs b (sent_bits last)) same ∙ sent_too mode f is some;
     }
   where
     begun : Joined sw a b m ka kb agreed p (start a) (start b)
@@ -743,6 +731,7 @@ follows sw a b m ka kb agreed p ports mask known actions used dirty fine =
       quiet = λ e. refl;
       few = (omega arith, omega arith);
       clean = λ e. (refl, refl);
+      turned = λ f is. (refl, refl);
       same = ap (λ (xs : List OfAction). run (switch_of [] sw.ports) no_lookup xs (start b)) actions;
     }
 
@@ -766,3 +755,32 @@ follows sw a b m ka kb agreed p ports mask known actions used dirty fine =
     some_too Going some = straight_actions
     some_too ListEnded some = straight_actions
     some_too Stopped some = absurd (some refl)
+
+    last : Path
+    last = fold followed p (events_of sw a)
+
+    sent_alike : (f : FieldId) → is_frame_field f ≡ true → (dirty_now : Bool) → last.dirty ≡ dirty_now
+        → bit_and (value_of (last_state sw b).base f) (value_of (if dirty_now then no_bits else last.known) f)
+        ≡ bit_and (value_of (last_state sw a).base f) (value_of (if dirty_now then no_bits else last.known) f)
+    sent_alike f is true e = zero_bits (value_of (last_state sw b).base f) ∙ sym (zero_bits (value_of (last_state sw a).base f))
+      where
+        zero_bits : (x : ℕ) → bit_and x (value_of no_bits f) ≡ 0
+        zero_bits x = ap (bit_and x) (number_at-none (place_of f)) ∙ and_zero x
+    sent_alike f is false e =
+        let base = end.clean e in
+        ap (λ (k : List ℕ). bit_and (value_of k f) (value_of last.known f)) base.1
+        ∙ sym (places_from-masked (last_state sw a).current (last_state sw b).current last.known (place_of f) end.known)
+        ∙ sym (ap (λ (k : List ℕ). bit_and (value_of k f) (value_of last.known f)) base.0)
+
+    sent_both : (f : FieldId) → is_frame_field f ≡ true → number_sent f (last_state sw b).actions b (sent_bits last) ≡ number_sent f (last_state sw a).actions a (sent_bits last)
+    sent_both f is =
+        let turned = end.turned f is in
+        ap (λ (x : ℕ). bit_and x (value_of (sent_bits last) f)) turned.1
+        ∙ sent_alike f is last.dirty refl
+        ∙ sym (ap (λ (x : ℕ). bit_and x (value_of (sent_bits last) f)) turned.0)
+
+    sent_too : (x : Mode) (f : FieldId) → is_frame_field f ≡ true → kept_actions x (last_state sw a).actions ≢ []
+        → number_sent f (kept_actions x (last_state sw b).actions) b (sent_bits last) ≡ number_sent f (kept_actions x (last_state sw a).actions) a (sent_bits last)
+    sent_too Going f is some = sent_both f is
+    sent_too ListEnded f is some = sent_both f is
+    sent_too Stopped f is some = absurd (some refl)

@@ -9,7 +9,9 @@ pub mod ApartLaws
 pub mod WholeLaws
 pub mod EmitLaws
 pub mod KnownLaws
+pub mod NumberLaws
 pub mod SendLaws
+pub mod PlainLaws
 pub mod FollowLaws
 pub mod WayLaws
 pub mod JudgeLaws

@@ -1,15 +1,18 @@
 -- What an action sends, of a packet of which so many datapath actions were made: to which ports, and within how many actions.
 use Rattle.std.proofs.Common.{◌≡◌, ℕ, suc, ◌+◌, ◌-◌, ◌≤◌, Bool, true, false, not, ◌==◌, nat_lt, if◌then◌else◌, List, [], ◌∷◌, ◌++◌, length, map, filter, ◌⊎◌, inl, inr, refl, sym, ap, ap₂, ◌∙◌, subst, arith, eqb-true, length-append}
 use Rattle.spec_base.proofs.SortLaws.{length-sort_by}
+use Rattle.spec_keys.specs.declared.field_id.FieldId.{FieldId}
+use Rattle.spec_keys.specs.Keys.{value_of}
 use Rattle.spec_actions.specs.declared.action.OfAction.{OfAction}
 use Rattle.spec_actions.specs.declared.action.OfAction.TheVariants.{Output, OutputField, InPort, All, Flood, Resubmit, Goto, Set, Move, DecTtl, PushVlan, PopVlan, SetVid, SetPcp}
 use Rattle.spec_actions.specs.declared.action.DpAction.{DpAction}
 use Rattle.spec_actions.specs.declared.action.DpAction.TheVariants as datapath
 use Rattle.spec_xlate.specs.Commit.{commit}
 use Rattle.spec_xlate.specs.Translation.{Switch, State, action_limit, in_port_of, is_other_port, other_ports, rising, slice_of, act}
-use Rattle.table_diff.specs.Sending.{ports_in}
+use Rattle.table_diff.specs.Sending.{ports_in, is_frame_field, number_after}
 use Rattle.table_diff.specs.Following.{commit_limit, sends, cost}
 use Rattle.table_diff.proofs.EmitLaws.{ports_in-append, ports_in-outputs, commit-ports, commit-length, commit-none, sending, sent, is_output, one_port, ports_of, act-sends}
+use Rattle.table_diff.proofs.NumberLaws.{number_after-append, number_after-outputs, number_after-commit}
 
 -- ---- what is sent
 
@@ -20,6 +23,7 @@ pub record Emits (s u : State) (ps : List ℕ) (most : ℕ) : Type 0 where
   pub quiet : (ports_in s.actions ≡ [] → s.actions ≡ []) → ports_in u.actions ≡ [] → u.actions ≡ []
   pub few : length u.actions ≤ most
   pub clean : (s.base ≡ s.current) ⊎ (1 ≤ length ps) → u.base ≡ u.current
+  pub turned : (f : FieldId) → is_frame_field f ≡ true → (x : ℕ) → number_after f s.actions x ≡ value_of s.base f → number_after f u.actions x ≡ value_of u.base f
 
 append-none : (xs : List ℕ) → xs ++ [] ≡ xs
 append-none [] = refl
@@ -38,6 +42,7 @@ sending-emits [] s most few within room = record {
   quiet = λ before now. before now;
   few = few;
   clean = λ known. at known;
+  turned = λ f is x same. same;
 }
   where
     at : (s.base ≡ s.current) ⊎ (1 ≤ 0) → s.base ≡ s.current
@@ -52,6 +57,7 @@ sending-emits (p ∷ ps) s most few within room =
       quiet = λ before now. absurd (none-last (ports_in s.actions) p ps (sym (added_ports changes) ∙ now));
       few = added_length changes here;
       clean = λ known. refl;
+      turned = λ f is x same. added_number f is x same;
     })
   where
     outputs : List DpAction
@@ -63,6 +69,15 @@ sending-emits (p ∷ ps) s most few within room =
         ∙ ap (λ (z : List ℕ). ports_in s.actions ++ z)
         (ports_in-append (commit s.base s.current) (map datapath.Output (p ∷ ps))
         ∙ ap₂ (λ (x y : List ℕ). x ++ y) (commit-ports s.base s.current) (ports_in-outputs (p ∷ ps)))
+
+    added_number : (f : FieldId) → is_frame_field f ≡ true → (x : ℕ) → number_after f s.actions x ≡ value_of s.base f
+        → number_after f (s.actions ++ (commit s.base s.current ++ map datapath.Output (p ∷ ps))) x ≡ value_of s.current f
+    added_number f is x same =
+        number_after-append f s.actions (commit s.base s.current ++ map datapath.Output (p ∷ ps)) x
+        ∙ number_after-append f (commit s.base s.current) (map datapath.Output (p ∷ ps)) (number_after f s.actions x)
+        ∙ number_after-outputs f (p ∷ ps) (number_after f (commit s.base s.current) (number_after f s.actions x))
+        ∙ ap (number_after f (commit s.base s.current)) same
+        ∙ number_after-commit f s.base s.current is
 
     many : (qs : List ℕ) → length (map datapath.Output qs) ≡ length qs
     many [] = refl

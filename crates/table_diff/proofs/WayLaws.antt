@@ -1,9 +1,11 @@
 -- What is known of all packets by the way of one of them.
-use Rattle.std.proofs.Common.{◌≡◌, ◌≢◌, ℕ, Bool, true, false, ◌&&◌, ◌||◌, ◌==◌, IsTrue, List, [], ◌∷◌, length, map, fold, inl, inr, refl, sym, ap, ◌∙◌, subst, eqb-true}
+use Rattle.std.proofs.Common.{◌≡◌, ◌≢◌, ℕ, Bool, true, false, ◌&&◌, ◌||◌, not, ◌==◌, IsTrue, List, [], ◌∷◌, length, map, fold, bit_and, inl, inr, refl, sym, ap, ◌∙◌, subst, eqb-true, eq-eqb}
+use Rattle.std.specs.List.{list_any}
 use Rattle.std.specs.Prelude.{Result, Ok, Err, Option, Some, None, IfOk, IfSome}
 use Rattle.std.proofs.lemmas.Bool.{and_parts}
+use Rattle.std.proofs.lemmas.Nat.{and_comm, and_assoc}
 use Rattle.spec_keys.specs.declared.field_id.FieldId.{FieldId}
-use Rattle.spec_keys.specs.Fields.{register_fields}
+use Rattle.spec_keys.specs.Fields.{fields, register_fields}
 use Rattle.spec_keys.specs.Keys.{value_of, masked, agree, are_zero, IsKey, IsClean}
 use Rattle.spec_actions.specs.declared.action.OfAction.{OfAction}
 use Rattle.spec_actions.specs.declared.action.DpAction.{DpAction}
@@ -12,6 +14,7 @@ use Rattle.spec_xlate.specs.Translation.{Switch, Translation, pipe}
 use Rattle.spec_xlate.specs.Lookup.{added}
 use Rattle.spec_xlate.specs.Consulted.{whole, without}
 use Rattle.spec_flow_text.specs.Within.{AreWithinFields}
+use Rattle.ovs_fields.specs.Packed.{bits}
 use Rattle.spec_diff.specs.Classes as diff
 use Rattle.spec_diff.specs.Classes.{IsFrameKey, done, done_by, done_as, is_plain}
 use Rattle.translation_laws.specs.Members.{Among}
@@ -23,12 +26,13 @@ use Rattle.table_diff.specs.declared.judging.Judged.{Judged}
 use Rattle.table_diff.specs.declared.judging.Judged.TheVariants.{Alike, Differ}
 use Rattle.table_diff.specs.Deeds.{deed_view, CanPrint}
 use Rattle.table_diff.specs.Deciding.{tells_all}
-use Rattle.table_diff.specs.Following.{with_registers, begun, way_of}
+use Rattle.table_diff.specs.Following.{with_registers, begun, way_of, sent_bits}
 use Rattle.table_diff.specs.Judging.{DoesAll, DoAlike, DoOtherwise, Differs}
-use Rattle.table_diff.specs.Sending.{ports_in}
-use Rattle.table_diff.specs.Ways.{ArePlain, IsFollowed, IsWay, IsDeed, AreLedAlike}
+use Rattle.table_diff.specs.Sending.{ports_in, is_frame_field, number_after}
+use Rattle.table_diff.specs.Ways.{ArePlain, IsFollowed, IsWay, IsDeed, AreLedAlike, AreSentOtherwise, is_sent_otherwise, number_sent}
 use Rattle.table_diff.proofs.KnownLaws.{AreSame, added-same, fields-same}
-use Rattle.table_diff.proofs.FollowLaws.{follows, plain-path}
+use Rattle.table_diff.proofs.FollowLaws.{follows}
+use Rattle.table_diff.proofs.PlainLaws.{plain-path}
 use Rattle.table_diff.proofs.TellLaws.{told-sound, registers-same}
 
 -- ---- the way of a packet
@@ -50,14 +54,16 @@ zeros-same a b (g ∷ fs) za zb f among = at among (zeros-same a b fs pa.1 pb.1 
 
 pub way-holds : (sw : Switch) (key mask : List ℕ) (w : Way) → IsKey key → IsClean key
     → w.actions ≡ done sw key → (w.told ≡ true → tells_all mask sw key ≡ true)
-    → w.path.items ≡ (way_of sw mask key).actions → w.fine ≡ (way_of sw mask key).fine → AreWithinFields w.actions → AreSound w.path.items
+    → w.path.items ≡ (way_of sw mask key).actions → w.fine ≡ (way_of sw mask key).fine
+    → bits w.sent ≡ sent_bits (way_of sw mask key) → AreWithinFields w.actions → AreSound w.path.items
     → IsWay sw key (without register_fields mask) w
 unfolding with_registers
-way-holds sw key mask w is clean own told path fine within sound = record {
+way-holds sw key mask w is clean own told path fine sent within sound = record {
   own = own;
   told = λ e other frame h. told-sound sw key other mask is frame.is_key clean frame.clean (told e) h;
-  fine = λ e other frame h. subst (IsFollowed sw key other) (sym path)
-      (follows sw key other mask is frame.is_key (same other frame h) (begun sw.ports mask) refl refl (known other frame h) refl refl refl (sym fine ∙ e));
+  fine = λ e other frame h. subst (λ (xs : List OfAction). IsFollowed sw key other xs (bits w.sent)) (sym path)
+      (subst (IsFollowed sw key other (way_of sw mask key).actions) (sym sent)
+      (follows sw key other mask is frame.is_key (same other frame h) (begun sw.ports mask) refl refl (known other frame h) refl refl refl (sym fine ∙ e)));
   plain = λ e. subst ArePlain (sym path) (plain-path (begun sw.ports mask) (events_of sw key) refl (sym fine ∙ e));
   within = within;
   sound = sound;
@@ -132,6 +138,15 @@ module _ (sw : Switch) (key mask : List ℕ) (w : Way) (sure : (w.told || w.fine
 
 -- ---- two ways
 
+-- an element that passes a test
+some_of : {X : Type 0} (p : X → Bool) (xs : List X) → list_any p xs ≡ true → (x : X) × (p x ≡ true)
+some_of p [] e = absurd (cc e)
+some_of {X} p (x ∷ xs) e = at (p x) refl e
+  where
+    at : (t : Bool) → p x ≡ t → (t || list_any p xs) ≡ true → (y : X) × (p y ≡ true)
+    at true is h = (x, is)
+    at false is h = some_of p xs h
+
 module _ (o n : Switch) (ports : o.ports ≡ n.ports) (key mask : List ℕ) (old new : Way) (ho : IsWay o key mask old) (hn : IsWay n key mask new) where
   pub alike_nothing : (old.told || old.fine) ≡ true → (new.told || new.fine) ≡ true → old.actions ≡ [] → new.actions ≡ [] → DoAlike o n key mask
   alike_nothing so sn none_old none_new other frame a =
@@ -153,6 +168,49 @@ module _ (o n : Switch) (ports : o.ports ≡ n.ports) (key mask : List ℕ) (old
   pub other_ports : (old.told || old.fine) ≡ true → (new.told || new.fine) ≡ true → ports_in old.actions ≢ ports_in new.actions → DoOtherwise o n key mask
   other_ports so sn apart other frame a same =
       apart (sym (same_ports o key mask old so ho other frame a) ∙ ap ports_in same ∙ same_ports n key mask new sn hn other frame a)
+
+  pub other_sent : AreSentOtherwise key old new → DoOtherwise o n key mask
+  other_sent h other frame a same = clash
+    where
+      found : (f : FieldId) × (is_sent_otherwise key old new f ≡ true)
+      found = some_of (is_sent_otherwise key old new) fields h.apart
+
+      f : FieldId
+      f = found.0
+
+      parts : (is_frame_field f ≡ true) × (not (bit_and (number_sent f old.actions key (bits old.sent)) (value_of (bits new.sent) f) == bit_and (number_sent f new.actions key (bits new.sent)) (value_of (bits old.sent) f)) ≡ true)
+      parts = and_parts (is_frame_field f) _ found.1
+
+      told_old : ℕ
+      told_old = value_of (bits old.sent) f
+
+      told_new : ℕ
+      told_new = value_of (bits new.sent) f
+
+      x : ℕ
+      x = number_after f (done o other) (value_of other f)
+
+      first : bit_and x told_old ≡ number_sent f old.actions key (bits old.sent)
+      first =
+          (ho.fine h.old_fine other frame a).sent (λ (none : done o key ≡ []). h.old_some (ho.own ∙ none)) f parts.0
+          ∙ ap (λ (ds : List DpAction). number_sent f ds key (bits old.sent)) (sym ho.own)
+
+      second : bit_and x told_new ≡ number_sent f new.actions key (bits new.sent)
+      second =
+          ap (λ (ds : List DpAction). number_sent f ds other (bits new.sent)) same
+          ∙ (hn.fine h.new_fine other frame a).sent (λ (none : done n key ≡ []). h.new_some (hn.own ∙ none)) f parts.0
+          ∙ ap (λ (ds : List DpAction). number_sent f ds key (bits new.sent)) (sym hn.own)
+
+      both : bit_and (number_sent f old.actions key (bits old.sent)) told_new ≡ bit_and (number_sent f new.actions key (bits new.sent)) told_old
+      both =
+          ap (λ (y : ℕ). bit_and y told_new) (sym first)
+          ∙ and_assoc told_new x told_old
+          ∙ ap (bit_and x) (and_comm told_old told_new)
+          ∙ sym (and_assoc told_old x told_new)
+          ∙ ap (λ (y : ℕ). bit_and y told_old) second
+
+      clash : ⊥
+      clash = let g : true ≡ false = sym parts.1 ∙ ap not (eq-eqb _ _ both) in cc
 
 pub told_sure : (told fine : Bool) → told ≡ true → (told || fine) ≡ true
 told_sure true fine e = refl

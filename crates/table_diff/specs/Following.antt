@@ -199,3 +199,8 @@ begun ports mask = record {
 -- the way of the packet of a key
 abbrev pub way_of : Switch → List ℕ → List ℕ → Path
 way_of sw mask key = fold followed (begun sw.ports mask) (events_of sw key)
+
+-- The bits of frames, as they were sent last, that are the same for all. Where keys may have changed since, none are
+-- told.
+abbrev pub sent_bits : Path → List ℕ
+sent_bits p = if p.dirty then none else p.known

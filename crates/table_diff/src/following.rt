@@ -6,7 +6,7 @@ ghost use Rattle.spec_xlate.specs.Translation.{switch_of};
 ghost use Rattle.ovs_fields.specs.Packed.{numbers, bits};
 ghost use Rattle.dump_lines.specs.Live.{IsOfEdits, live_in};
 ghost use Rattle.pipe_model.specs.Runnable.{AreRunnable};
-ghost use Rattle.table_diff.specs.Following.{way_of};
+ghost use Rattle.table_diff.specs.Following.{way_of, sent_bits};
 
 use crate::path::Path;
 use crate::telling::tells_winner;
@@ -69,25 +69,29 @@ impl<'a> Lookups for Following<'a> {
     }
 }
 
-/// The flow actions that the last version carries out on a packet of a key, and whether the mask decides each step of
-/// that. The only error is out of memory.
+/// The flow actions that the last version carries out on a packet of a key, whether the mask decides each step of that,
+/// and which bits of the frames that are sent last are the same for all. The only error is out of memory.
 pub(crate) fn follow_path(
     alloc: Global,
     rules: &VersionedRules,
     ports: &[u16],
     key: &Key,
     mask: &Mask,
-) -> Result<(Vec<OfAction>, bool), AllocError>
+) -> Result<(Vec<OfAction>, bool, Mask), AllocError>
     requires of_edits { IsOfEdits rules.now }
     requires runnable { AreRunnable (live_in rules.now) }
     ensures actions { IfOk result (λ made.
         made.0.items ≡ (way_of (switch_of (live_in rules.now) ports.now) (bits mask.now) (numbers key.now)).actions) }
     ensures fine { IfOk result (λ made.
         made.1 ≡ (way_of (switch_of (live_in rules.now) ports.now) (bits mask.now) (numbers key.now)).fine) }
+    ensures sent { IfOk result (λ made. bits made.2
+        ≡ sent_bits (way_of (switch_of (live_in rules.now) ports.now) (bits mask.now) (numbers key.now))) }
     ensures sound { IfOk result (λ made. AreSound made.0.items) }
 {
     let mut path = Path::begin(alloc, ports, mask)?;
     let sw = Following { rules, ports };
     let _made = translate_by(&sw, SpareLists::new(alloc), key, &mut path)?;
-    Ok(path.finish())
+    let sent = path.sent();
+    let (actions, fine) = path.finish();
+    Ok((actions, fine, sent))
 }

@@ -18,6 +18,7 @@ use crate::cube::Cube;
 use crate::deed::Deed;
 use crate::leading::lead;
 use crate::proposing::propose;
+use crate::sent::add_sent;
 use crate::way::way_of;
 use crate::ways::judge_ways;
 use crate::whole::frame_bits;
@@ -94,6 +95,56 @@ fn stated(mask: &Mask) -> Mask
     without_registers(mask)
 }
 
+/// Judges the packet of a cube's key by the ways that both versions lead it, if a mask tells which these are.
+fn follow_by(
+    alloc: Global,
+    old: &VersionedRules,
+    new: &VersionedRules,
+    ports: &[u16],
+    cube: &Cube,
+    mask: &Mask,
+) -> Result<Option<Judged>, AllocError>
+    requires old_edits { IsOfEdits old.now }
+    requires new_edits { IsOfEdits new.now }
+    requires old_runnable { AreRunnable (live_in old.now) }
+    requires new_runnable { AreRunnable (live_in new.now) }
+    ensures holds { IfOk result (λ found. IfSome found
+        (Holds (switch_of (live_in old.now) ports.now) (switch_of (live_in new.now) ports.now) (numbers cube.now.key))) }
+    ensures clean { IfOk result (λ found. IfSome found (λ j. IsClean (mask_of j))) }
+    ensures printable { IfOk result (λ found. IfSome found CanPrintAll) }
+{
+    let before = way_of(alloc, old, ports, &cube.key, mask)?;
+    let after = way_of(alloc, new, ports, &cube.key, mask)?;
+    judge_ways(alloc, before, after, &cube.key, stated(mask))
+}
+
+/// The same with one bit more, in which the frames that are sent may differ.
+fn follow_apart(
+    alloc: Global,
+    old: &VersionedRules,
+    new: &VersionedRules,
+    ports: &[u16],
+    cube: &Cube,
+    mask: &Mask,
+) -> Result<Option<Judged>, AllocError>
+    requires old_edits { IsOfEdits old.now }
+    requires new_edits { IsOfEdits new.now }
+    requires old_runnable { AreRunnable (live_in old.now) }
+    requires new_runnable { AreRunnable (live_in new.now) }
+    ensures holds { IfOk result (λ found. IfSome found
+        (Holds (switch_of (live_in old.now) ports.now) (switch_of (live_in new.now) ports.now) (numbers cube.now.key))) }
+    ensures clean { IfOk result (λ found. IfSome found (λ j. IsClean (mask_of j))) }
+    ensures printable { IfOk result (λ found. IfSome found CanPrintAll) }
+{
+    let before = way_of(alloc, old, ports, &cube.key, mask)?;
+    let after = way_of(alloc, new, ports, &cube.key, mask)?;
+    let mut more = *mask;
+    if !add_sent(&mut more, &before, &after, &cube.key) {
+        return Ok(None);
+    }
+    follow_by(alloc, old, new, ports, cube, &more)
+}
+
 /// Judges the packet of a cube's key by the ways that both versions lead it, if these tell.
 fn follow_ways(
     alloc: Global,
@@ -113,9 +164,11 @@ fn follow_ways(
 {
     let mask = lead(alloc, old, ports, &cube.key, &cube.mask)?;
     let mask = lead(alloc, new, ports, &cube.key, &mask)?;
-    let before = way_of(alloc, old, ports, &cube.key, &mask)?;
-    let after = way_of(alloc, new, ports, &cube.key, &mask)?;
-    judge_ways(alloc, before, after, stated(&mask))
+    let found = follow_by(alloc, old, new, ports, cube, &mask)?;
+    if found.is_some() {
+        return Ok(found);
+    }
+    follow_apart(alloc, old, new, ports, cube, &mask)
 }
 
 /// Judges the packet of a cube's key by following it through both versions.

@@ -42,18 +42,23 @@
 //!   whether the TTL has run out. Then the flow actions carried out, in one list, do to each packet what the tables
 //!   do (`proofs/FollowLaws`), and to the same ports. More than 128 datapath actions may never come.
 //!
-//! Two ways that are known tell a class where the ports differ, or both lists of datapath actions are the same for
-//! all, and one that is alike where nothing is done on either, or the same flow actions (`ways`). Else bits that are
-//! written over are stated too (`proposing`). Where these don't pass either, all bits of the packet are taken, which
-//! always decide.
+//! Two ways that are known tell a class where the ports differ, or the frames that are sent last (`sent`), or both
+//! lists of datapath actions are the same for all, and one that is alike where nothing is done on either, or the same
+//! flow actions (`ways`). Where the ports are the same, one bit more may tell the frames apart, as where one version
+//! writes an address and the other leaves it. Else bits that are written over are stated too (`proposing`). Where these
+//! don't pass either, all bits of the packet are taken, which always decide.
+//!
+//! Which frame was sent last follows from the datapath actions (`proofs/NumberLaws`). So lists that are the same send
+//! the same, and frames that differ in one bit are sent by other lists.
 //!
 //! At the end the classes are put in order: those of one pair of actions stand together, the widest first (`order`).
 //! In any order they tell the same (`proofs/OrderLaws`).
 //!
 //! # What is left to others
 //!
-//! The text of classes (`diff_app::lines`). Versions that send to the same ports and write otherwise make a class for
-//! each value that bits may have which are written over, and many of them end at the limit.
+//! The text of classes (`diff_app::lines`). Versions that send to the same ports, and the same frame last but for its
+//! tags, and differ all the same, make a class for each value that bits may have which are written over, and many of
+//! them end at the limit.
 #![tactic(auto)]
 
 mod actions;
@@ -72,6 +77,7 @@ mod leading;
 mod order;
 mod path;
 mod proposing;
+mod sent;
 mod settling;
 mod splitting;
 mod telling;

@@ -193,7 +193,7 @@ fn with_registers(mask: &Mask) -> Mask
 }
 
 impl<'a> Path<'a> {
-    ghost use Rattle.table_diff.specs.Following.{begun, is_own, are_own, are_known, is_slice_known, is_known_write, is_known, known_after, is_ttl_told, is_decided, dirty_after, with_action, looked};
+    ghost use Rattle.table_diff.specs.Following.{begun, is_own, are_own, are_known, is_slice_known, is_known_write, is_known, known_after, is_ttl_told, is_decided, dirty_after, with_action, looked, sent_bits};
     ghost use Rattle.table_diff.specs.Paths.{path_view};
 
     /// Before the first step, with no action. The only error is out of memory.
@@ -368,6 +368,14 @@ impl<'a> Path<'a> {
         ensures { bits result.now ≡ (path_view self.now).known }
     {
         &self.known
+    }
+
+    /// The bits of frames, as they were sent last, that are the same for all. Where keys may have changed since, none
+    /// are told.
+    pub(crate) fn sent(&self) -> Mask
+        ensures { bits result ≡ sent_bits (path_view self.now) }
+    {
+        if self.dirty { Mask::none() } else { self.known }
     }
 
     /// The actions carried out, and whether each step was decided. It takes no memory.

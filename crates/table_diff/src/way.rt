@@ -28,6 +28,8 @@ pub(crate) struct Way {
     pub(crate) fine: bool,
     /// The flow actions that are carried out on that way.
     pub(crate) path: Vec<OfAction>,
+    /// The bits of the frame which is sent last that are the same for all.
+    pub(crate) sent: Mask,
 }
 
 /// What the last version does to a packet of a key, and to those that agree with it on a mask, but for registers. The
@@ -47,11 +49,12 @@ pub(crate) fn way_of(
 {
     translation_is_within_fields();
     let (made, told) = check(alloc, rules, ports, key, mask)?;
-    let (path, fine) = follow_path(alloc, rules, ports, key, mask)?;
+    let (path, fine, sent) = follow_path(alloc, rules, ports, key, mask)?;
     Ok(Way {
         actions: made.actions,
         told,
         fine,
         path,
+        sent,
     })
 }

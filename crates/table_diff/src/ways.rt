@@ -1,7 +1,7 @@
 //! Two versions' ways of one packet, held against each other.
 ghost use Rattle.std.specs.Prelude.{◌≡◌, ◌≢◌, ◌||◌, ◌++◌, [], ◌∷◌, ℕ, List, true, false, IfOk, IfSome, OnOk};
 ghost use Rattle.spec_xlate.specs.Translation as xlate;
-ghost use Rattle.ovs_fields.specs.Packed.{bits};
+ghost use Rattle.ovs_fields.specs.Packed.{numbers, bits};
 ghost use Rattle.table_diff.specs.Sending.{ports_in};
 ghost use Rattle.table_diff.specs.Ways.{IsWay, IsDeed, IsFound, AreLedAlike};
 ghost use Rattle.table_diff.specs.Judging.{DoOtherwise};
@@ -9,9 +9,10 @@ ghost use Rattle.table_diff.specs.Judging.{DoOtherwise};
 use crate::actions::are_same;
 use crate::deed::Deed;
 use crate::judging::Judged;
+use crate::sent::are_sent_otherwise;
 use crate::way::Way;
 use dp_actions::DpAction;
-use ovs_fields::Mask;
+use ovs_fields::{Key, Mask};
 use rule_changes::are_same_actions;
 use std::alloc::{AllocError, Global};
 
@@ -51,7 +52,7 @@ fn send_alike(alloc: Global, a: &[DpAction], b: &[DpAction]) -> Result<bool, All
 }
 
 /// Whether nothing is done.
-fn is_none(actions: &[DpAction]) -> bool
+pub(crate) fn is_none(actions: &[DpAction]) -> bool
     ensures none { result ≡ true → actions.now ≡ [] }
     ensures some { result ≡ false → actions.now ≢ [] }
 {
@@ -135,11 +136,17 @@ fn judge_by_ports(
 }
 
 /// What is found by two ways on which it is known what is done. The only error is out of memory.
-fn judge_sure(alloc: Global, old: Way, new: Way, mask: Mask) -> Result<Option<Judged>, AllocError>
-    ensures { IfOk result (λ found. IfSome found (λ judged. (o n : xlate.Switch) (key : List ℕ) → o.ports ≡ n.ports
-        → IsWay o key (bits mask) old → IsWay n key (bits mask) new
+fn judge_sure(
+    alloc: Global,
+    old: Way,
+    new: Way,
+    key: &Key,
+    mask: Mask,
+) -> Result<Option<Judged>, AllocError>
+    ensures { IfOk result (λ found. IfSome found (λ judged. (o n : xlate.Switch) → o.ports ≡ n.ports
+        → IsWay o (numbers key.now) (bits mask) old → IsWay n (numbers key.now) (bits mask) new
         → (old.told || old.fine) ≡ true → (new.told || new.fine) ≡ true
-        → IsFound o n key (bits mask) judged)) }
+        → IsFound o n (numbers key.now) (bits mask) judged)) }
 {
     if do_nothing(&old, &new) {
         return Ok(Some(Judged::Alike(mask)));
@@ -150,6 +157,9 @@ fn judge_sure(alloc: Global, old: Way, new: Way, mask: Mask) -> Result<Option<Ju
     if old.told & new.told {
         return Ok(Some(judge_told(old, new, mask)));
     }
+    if are_sent_otherwise(&old, &new, key) {
+        return Ok(Some(differ(old, new, mask)));
+    }
     judge_by_ports(alloc, old, new, mask)
 }
 
@@ -159,13 +169,15 @@ pub(crate) fn judge_ways(
     alloc: Global,
     old: Way,
     new: Way,
+    key: &Key,
     mask: Mask,
 ) -> Result<Option<Judged>, AllocError>
-    ensures { IfOk result (λ found. IfSome found (λ judged. (o n : xlate.Switch) (key : List ℕ) → o.ports ≡ n.ports
-        → IsWay o key (bits mask) old → IsWay n key (bits mask) new → IsFound o n key (bits mask) judged)) }
+    ensures { IfOk result (λ found. IfSome found (λ judged. (o n : xlate.Switch) → o.ports ≡ n.ports
+        → IsWay o (numbers key.now) (bits mask) old → IsWay n (numbers key.now) (bits mask) new
+        → IsFound o n (numbers key.now) (bits mask) judged)) }
 {
     if !((old.told | old.fine) & (new.told | new.fine)) {
         return Ok(None);
     }
-    judge_sure(alloc, old, new, mask)
+    judge_sure(alloc, old, new, key, mask)
 }

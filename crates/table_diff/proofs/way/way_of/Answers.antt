@@ -13,6 +13,6 @@ returns c =
     let made = c.in_ok-made in
     let path = c.in_ok-path in
     way-holds sw key (bits c.args.mask.now) _ c.args.key.now.is_key c.requires.clean
-    (ap (λ (t : Translation). t.actions) made.ensures.translation) (λ e. sym made.ensures.told ∙ e) path.ensures.actions path.ensures.fine
+    (ap (λ (t : Translation). t.actions) made.ensures.translation) (λ e. sym made.ensures.told ∙ e) path.ensures.actions path.ensures.fine path.ensures.sent
     (subst (λ (t : Translation). AreWithinFields t.actions) (sym made.ensures.translation) (c.translation_is_within_fields.ensures sw key c.args.key.now.is_key))
     path.ensures.sound

@@ -6,7 +6,7 @@ use Rattle.ovs_fields.specs.Packed.{numbers, bits}
 use Rattle.table_diff.specs.declared.judging.Judged.{Judged}
 use Rattle.table_diff.specs.Ways.{IsWay, IsFound}
 use Rattle.table_diff.proofs.WayLaws.{found_map}
-use Rattle.table_diff.proofs.judging.follow_ways.Goals as goal
+use Rattle.table_diff.proofs.judging.follow_by.Goals as goal
 
 pub returns-clause-holds : goal.returns-clause-holds
 returns-clause-holds c =
@@ -15,7 +15,7 @@ returns-clause-holds c =
     let n = switch_of (live_in c.args.new.now) c.args.ports.now in
     let old : IsWay o key (bits c.stated.result) c.in_ok-before.before = subst (λ (m : List ℕ). IsWay o key m c.in_ok-before.before) (sym c.stated.ensures.bits) c.in_ok-before.ensures in
     let new : IsWay n key (bits c.stated.result) c.in_ok-after.after = subst (λ (m : List ℕ). IsWay n key m c.in_ok-after.after) (sym c.stated.ensures.bits) c.in_ok-after.ensures in
-    found_map c.judge_ways.result c.judge_ways.ensures (λ judged found. (found o n key refl old new).holds)
+    found_map c.judge_ways.result c.judge_ways.ensures (λ judged found. (found o n refl old new).holds)
 
 pub returns-clause-clean : goal.returns-clause-clean
 returns-clause-clean c =
@@ -24,7 +24,7 @@ returns-clause-clean c =
     let n = switch_of (live_in c.args.new.now) c.args.ports.now in
     let old : IsWay o key (bits c.stated.result) c.in_ok-before.before = subst (λ (m : List ℕ). IsWay o key m c.in_ok-before.before) (sym c.stated.ensures.bits) c.in_ok-before.ensures in
     let new : IsWay n key (bits c.stated.result) c.in_ok-after.after = subst (λ (m : List ℕ). IsWay n key m c.in_ok-after.after) (sym c.stated.ensures.bits) c.in_ok-after.ensures in
-    found_map c.judge_ways.result c.judge_ways.ensures (λ judged found. subst IsClean (sym (found o n key refl old new).same_mask) c.stated.ensures.clean)
+    found_map c.judge_ways.result c.judge_ways.ensures (λ judged found. subst IsClean (sym (found o n refl old new).same_mask) c.stated.ensures.clean)
 
 pub returns-clause-printable : goal.returns-clause-printable
 returns-clause-printable c =
@@ -33,4 +33,4 @@ returns-clause-printable c =
     let n = switch_of (live_in c.args.new.now) c.args.ports.now in
     let old : IsWay o key (bits c.stated.result) c.in_ok-before.before = subst (λ (m : List ℕ). IsWay o key m c.in_ok-before.before) (sym c.stated.ensures.bits) c.in_ok-before.ensures in
     let new : IsWay n key (bits c.stated.result) c.in_ok-after.after = subst (λ (m : List ℕ). IsWay n key m c.in_ok-after.after) (sym c.stated.ensures.bits) c.in_ok-after.ensures in
-    found_map c.judge_ways.result c.judge_ways.ensures (λ judged found. (found o n key refl old new).printable)
+    found_map c.judge_ways.result c.judge_ways.ensures (λ judged found. (found o n refl old new).printable)
