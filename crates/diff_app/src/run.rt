@@ -1,18 +1,18 @@
 ghost use Rattle.std.specs.Prelude.{◌≡◌, ◌++◌, ◌⊎◌, ℕ, take, string_bytes, IsTrue, IsOk, OnOk, OnErr, IfOk, IfErr};
-ghost use Rattle.spec_base.specs.Counts.{Rose};
-ghost use Rattle.spec_run.specs.Statuses.{done_status, limit_status, read_fault_status, out_of_memory_status};
+ghost use Rattle.spec_run.specs.Statuses.{done_status};
 ghost use Rattle.edge_io.specs.declared.outside.InUse.TheVariants.{Nothing};
 ghost use Rattle.edge_io.specs.Counts.{HasCause, with_fault};
 ghost use Rattle.command_words.specs.CommandViews.{texts};
 ghost use Rattle.spec_diff.specs.Progress.{IsUnfinished, cube_limit};
 ghost use Rattle.spec_diff.specs.Verdict.{old_switch, new_switch, verdict};
-ghost use Rattle.spec_diff.specs.Statuses.{differ_status, found_status, status_of as refusal_status};
+ghost use Rattle.spec_diff.specs.Statuses.{differ_status, found_status};
 ghost use Rattle.spec_diff.specs.Outputs.{Tells};
 ghost use Rattle.spec_diff.specs.Texts.{text_of_classes};
 ghost use Rattle.table_diff.specs.Cubes.{classes_view};
 ghost use Rattle.diff_app.specs.InputViews.{accepted_view, AreComparable};
 ghost use Rattle.diff_app.specs.Ends.{Ends, IsCompared};
 ghost use Rattle.diff_app.specs.Leaving.{Leaves};
+ghost use Rattle.diff_app.specs.Statuses.{IsStatusOfRefused, EndsAccepted};
 
 use crate::inputs::{Inputs, read_inputs};
 use crate::lines::print_difference;
@@ -133,13 +133,9 @@ pub fn run_diff<S: Shelf, K: Sink>(
     // What is refused ends with the status of its refusal, and what is accepted is compared, unless a count rises,
     // memory runs out or there are more cubes than are looked into.
     ensures refusal { IsTrue S.tells → IfErr (verdict (texts words.now) (S.told shelf.old).holds)
-        (λ r. (result ≡ refusal_status r)
-        ⊎ ((result ≡ read_fault_status) ⊎ (result ≡ out_of_memory_status))) }
+        (λ r. IsStatusOfRefused r result) }
     ensures accepted { IsTrue S.tells → IsOk (verdict (texts words.now) (S.told shelf.old).holds)
-        → ¬ Rose (S.counts shelf.old).reading (S.counts shelf.new).reading
-        → ¬ Rose (K.faults say.old) (K.faults say.new)
-        → ((result ≡ done_status) ⊎ (result ≡ differ_status))
-        ⊎ ((result ≡ limit_status) ⊎ (result ≡ out_of_memory_status)) }
+        → EndsAccepted S.Shelf K.Sink shelf.old shelf.new say.old say.new result }
 {
     end(alloc, words, shelf, say)
 }

@@ -1,5 +1,5 @@
 //! Frames that came in one after the other at a port, and are only sent on to another: they are written at once.
-ghost use Rattle.std.specs.Prelude.{◌≡◌, ◌+◌, ◌-◌, ◌<◌, ◌≤◌, IsTrue, length, get_or, take, drop};
+ghost use Rattle.std.specs.Prelude.{◌≡◌, ◌+◌, ◌-◌, ◌<◌, ◌≤◌, IsTrue, length, take, drop};
 ghost use Rattle.std.specs.List.{flat_map};
 ghost use Rattle.spec_pcap.specs.Pcap.{record_of};
 ghost use Rattle.spec_case.specs.Run.{frames_of};
@@ -9,7 +9,7 @@ ghost use Rattle.edge_io.specs.declared.outside.InUse.TheVariants.{Created};
 ghost use Rattle.edge_io.specs.Written.{WritesAll};
 ghost use Rattle.run_case.specs.Places.{HasPort};
 ghost use Rattle.egress_capture.specs.Filters.{AreFilters};
-ghost use Rattle.egress_capture.specs.Batches.{Follows, IsBatch};
+ghost use Rattle.egress_capture.specs.Batches.{Follows, IsBatch, arrivals_at};
 
 use crate::port_filter::PortFilter;
 use edge_io::{Failed, Shelf, write_all};
@@ -104,9 +104,8 @@ pub fn send_batch<C: Case, S: Shelf>(
     requires within { at + count ≤ length (in_order (came_in C.run)) }
     requires batch { IsBatch (in_order (came_in C.run)) filters.now port at count }
     ensures nanos { writer.new ≡ writer.old }
-    ensures writes { let came = take count (drop at (in_order (came_in C.run))) in
-        let frames = flat_map (sent_to C.run finished.now port) came in
-        WritesAll S.Shelf shelf.old shelf.new (flat_map (record_of nanos) frames) result }
+    ensures writes { let sent = flat_map (sent_to C.run finished.now port) (arrivals_at C.run at count) in
+        WritesAll S.Shelf shelf.old shelf.new (flat_map (record_of nanos) sent) result }
 {
     let first = finished.arrivals()[at];
     write_frames(shelf, writer, run, first, count, nanos)

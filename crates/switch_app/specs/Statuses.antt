@@ -10,12 +10,8 @@ use Rattle.edge_io.specs.declared.outside.Sink as sink
 abbrev pub IsStatusOfRefused : Refusal → ℕ → Type 0
 IsStatusOfRefused r status = (status ≡ status_of r) ⊎ ((status ≡ read_fault_status) ⊎ (status ≡ out_of_memory_status))
 
--- What is accepted is done, unless memory runs out.
-abbrev pub IsStatusOfAccepted : ℕ → Type 0
-IsStatusOfAccepted status = (status ≡ done_status) ⊎ (status ≡ out_of_memory_status)
-
--- It holds where no call of the outside failed: no count rose.
-abbrev pub IfNoneFailed : {S K : Type 0} → shelf.Ghosts S → sink.Ghosts K → S → S → K → K → Type 0 → Type 0
-IfNoneFailed g h old new said saying claim =
+-- What is accepted is done, unless a call of the outside failed, which a count tells, or memory ran out.
+abbrev pub EndsAccepted : {S K : Type 0} → shelf.Ghosts S → sink.Ghosts K → S → S → K → K → ℕ → Type 0
+EndsAccepted g h old new said saying status =
     ¬ Rose (g.counts old).reading (g.counts new).reading → ¬ Rose (g.counts old).writing (g.counts new).writing
-    → ¬ Rose (h.faults said) (h.faults saying) → claim
+    → ¬ Rose (h.faults said) (h.faults saying) → (status ≡ done_status) ⊎ (status ≡ out_of_memory_status)

@@ -13,7 +13,7 @@ ghost use Rattle.switch_input.specs.InputViews.{run_view, IsWithinLimits};
 ghost use Rattle.switch_output.specs.OutletViews.{outlets_in};
 ghost use Rattle.switch_output.specs.Put.{NamesNoFile};
 ghost use Rattle.switch_app.specs.Ends.{Ends, IsAllDone};
-ghost use Rattle.switch_app.specs.Statuses.{IsStatusOfRefused, IsStatusOfAccepted, IfNoneFailed};
+ghost use Rattle.switch_app.specs.Statuses.{IsStatusOfRefused, EndsAccepted};
 ghost use Rattle.switch_app.specs.RunViews.{told_if, PutsRun, CutsRun, Leaves};
 
 use crate::decider::{decide_by_workers, run_schedule};
@@ -260,8 +260,7 @@ pub fn run_switch<R: Threads + Wait + Sync, S: Shelf, K: Sink, G: Gate + Sync>(
         (λ r. IsStatusOfRefused r result) }
     ensures accepted { let words = texts words.now in
         IsKnown S.tells words → IsOk (verdict words (S.told shelf.old).holds)
-        → IfNoneFailed S.Shelf K.Sink shelf.old shelf.new say.old say.new
-        (IsStatusOfAccepted result) }
+        → EndsAccepted S.Shelf K.Sink shelf.old shelf.new say.old say.new result }
 
     // Where no file is needed, as the words are refused or have a number, none is opened or written.
     ensures untouched { NeedNoFile (texts words.now) → shelf.new ≡ shelf.old }

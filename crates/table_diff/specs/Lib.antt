@@ -11,3 +11,4 @@ pub mod Leading
 pub mod Sending
 pub mod Ways
 pub mod Proposing
+pub mod Settling

@@ -1,5 +1,5 @@
 -- What a version does to the packet of a key, and to the others that agree with it on a mask.
-use Rattle.std.specs.Prelude.{◌≡◌, ◌≢◌, ℕ, Bool, true, not, ◌&&◌, ◌==◌, List, [], IsTrue, bit_and}
+use Rattle.std.specs.Prelude.{◌≡◌, ◌≢◌, ℕ, Bool, true, not, ◌&&◌, ◌||◌, ◌==◌, List, [], IsTrue, bit_and}
 use Rattle.std.specs.List.{list_all, list_any}
 use Rattle.spec_keys.specs.declared.field_id.FieldId.{FieldId}
 use Rattle.spec_keys.specs.Fields.{fields}
@@ -42,6 +42,14 @@ pub record IsWay (sw : Switch) (key mask : List ℕ) (w : Way) : Type 0 where
   pub plain : w.fine ≡ true → ArePlain w.path.items
   pub within : AreWithinFields w.actions
   pub sound : AreSound w.path.items
+
+-- what is done on a way is known: the same of all frames, or what the flow actions do
+abbrev pub IsKnown : Way → Type 0
+IsKnown w = (w.told || w.fine) ≡ true
+
+-- It holds of two switches with the same ports that do to the packet of a key what these ways say.
+abbrev pub ForWays : List ℕ → List ℕ → Way → Way → (Switch → Switch → Type 0) → Type 0
+ForWays key mask old new claim = (o n : Switch) → o.ports ≡ n.ports → IsWay o key mask old → IsWay n key mask new → claim o n
 
 -- This is done to each frame whose key agrees with a key on a mask; and it can be printed.
 pub record IsDeed (sw : Switch) (key mask : List ℕ) (deed : Deed) : Type 0 where

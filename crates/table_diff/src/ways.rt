@@ -3,7 +3,7 @@ ghost use Rattle.std.specs.Prelude.{◌≡◌, ◌≢◌, ◌||◌, ◌++◌, []
 ghost use Rattle.spec_xlate.specs.Translation as xlate;
 ghost use Rattle.ovs_fields.specs.Packed.{numbers, bits};
 ghost use Rattle.table_diff.specs.Sending.{ports_in};
-ghost use Rattle.table_diff.specs.Ways.{IsWay, IsDeed, IsFound, AreLedAlike};
+ghost use Rattle.table_diff.specs.Ways.{IsWay, IsKnown, ForWays, IsDeed, IsFound, AreLedAlike};
 ghost use Rattle.table_diff.specs.Judging.{DoOtherwise};
 
 use crate::actions::are_same;
@@ -92,9 +92,8 @@ fn deed_of(way: Way) -> Deed
 
 /// Packets to which not the same is done. It takes no memory.
 fn differ(old: Way, new: Way, mask: Mask) -> Judged
-    ensures { (o n : xlate.Switch) (key : List ℕ) → IsWay o key (bits mask) old → IsWay n key (bits mask) new
-        → (old.told || old.fine) ≡ true → (new.told || new.fine) ≡ true
-        → DoOtherwise o n key (bits mask) → IsFound o n key (bits mask) result }
+    ensures { let m = bits mask in (o n : xlate.Switch) (key : List ℕ) → IsWay o key m old → IsWay n key m new
+        → IsKnown old → IsKnown new → DoOtherwise o n key m → IsFound o n key m result }
 {
     Judged::Differ {
         old: deed_of(old),
@@ -123,10 +122,8 @@ fn judge_by_ports(
     new: Way,
     mask: Mask,
 ) -> Result<Option<Judged>, AllocError>
-    ensures { IfOk result (λ found. IfSome found (λ judged. (o n : xlate.Switch) (key : List ℕ) → o.ports ≡ n.ports
-        → IsWay o key (bits mask) old → IsWay n key (bits mask) new
-        → (old.told || old.fine) ≡ true → (new.told || new.fine) ≡ true
-        → IsFound o n key (bits mask) judged)) }
+    ensures { IfOk result (λ found. IfSome found (λ judged. (key : List ℕ) → ForWays key (bits mask) old new
+        (λ o n. IsKnown old → IsKnown new → IsFound o n key (bits mask) judged))) }
 {
     let same = send_alike(alloc, old.actions.as_slice(), new.actions.as_slice())?;
     if same {
@@ -143,10 +140,8 @@ fn judge_sure(
     key: &Key,
     mask: Mask,
 ) -> Result<Option<Judged>, AllocError>
-    ensures { IfOk result (λ found. IfSome found (λ judged. (o n : xlate.Switch) → o.ports ≡ n.ports
-        → IsWay o (numbers key.now) (bits mask) old → IsWay n (numbers key.now) (bits mask) new
-        → (old.told || old.fine) ≡ true → (new.told || new.fine) ≡ true
-        → IsFound o n (numbers key.now) (bits mask) judged)) }
+    ensures { IfOk result (λ found. IfSome found (λ judged. ForWays (numbers key.now) (bits mask) old new
+        (λ o n. IsKnown old → IsKnown new → IsFound o n (numbers key.now) (bits mask) judged))) }
 {
     if do_nothing(&old, &new) {
         return Ok(Some(Judged::Alike(mask)));
@@ -172,9 +167,8 @@ pub(crate) fn judge_ways(
     key: &Key,
     mask: Mask,
 ) -> Result<Option<Judged>, AllocError>
-    ensures { IfOk result (λ found. IfSome found (λ judged. (o n : xlate.Switch) → o.ports ≡ n.ports
-        → IsWay o (numbers key.now) (bits mask) old → IsWay n (numbers key.now) (bits mask) new
-        → IsFound o n (numbers key.now) (bits mask) judged)) }
+    ensures { IfOk result (λ found. IfSome found (λ judged. ForWays (numbers key.now) (bits mask) old new
+        (λ o n. IsFound o n (numbers key.now) (bits mask) judged))) }
 {
     if !((old.told | old.fine) & (new.told | new.fine)) {
         return Ok(None);

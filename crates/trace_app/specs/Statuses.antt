@@ -11,11 +11,7 @@ use Rattle.edge_io.specs.declared.outside.Sink as sink
 abbrev pub IsStatusOfRefused : Refusal → ℕ → Type 0
 IsStatusOfRefused r status = (status ≡ status_of r) ⊎ ((status ≡ read_fault_status) ⊎ (status ≡ out_of_memory_status))
 
--- What is accepted is traced, unless memory runs out.
-abbrev pub IsStatusOfAccepted : ℕ → Type 0
-IsStatusOfAccepted status = (status ≡ done_status) ⊎ (status ≡ out_of_memory_status)
-
--- It holds where no read failed, and no print: no count rose.
-abbrev pub IfNoneFailed : {S K : Type 0} → shelf.Ghosts S → sink.Ghosts K → S → S → K → K → Type 0 → Type 0
-IfNoneFailed g h old new said saying claim =
-    ¬ Rose (g.counts old).reading (g.counts new).reading → ¬ Rose (h.faults said) (h.faults saying) → claim
+-- What is accepted is traced, unless a call of the outside failed, which a count tells, or memory ran out.
+abbrev pub EndsAccepted : {S K : Type 0} → shelf.Ghosts S → sink.Ghosts K → S → S → K → K → ℕ → Type 0
+EndsAccepted g h old new said saying status =
+    ¬ Rose (g.counts old).reading (g.counts new).reading → ¬ Rose (h.faults said) (h.faults saying) → (status ≡ done_status) ⊎ (status ≡ out_of_memory_status)

@@ -8,7 +8,7 @@ ghost use Rattle.spec_trace.specs.Outputs.{text_for};
 ghost use Rattle.trace_app.specs.Known.{IsKnown};
 ghost use Rattle.trace_app.specs.InputViews.{accepted_view, IsTraceable};
 ghost use Rattle.trace_app.specs.Ends.{Ends, IsTraced};
-ghost use Rattle.trace_app.specs.Statuses.{IsStatusOfRefused, IsStatusOfAccepted, IfNoneFailed};
+ghost use Rattle.trace_app.specs.Statuses.{IsStatusOfRefused, EndsAccepted};
 ghost use Rattle.trace_app.specs.Leaving.{Leaves};
 
 use crate::inputs::{Inputs, read_inputs};
@@ -111,8 +111,7 @@ pub fn run_trace<S: Shelf, K: Sink>(
         (λ r. IsStatusOfRefused r result) }
     ensures accepted { let words = texts words.now in
         IsKnown S.tells words → IsOk (verdict words (S.told shelf.old).holds)
-        → IfNoneFailed S.Shelf K.Sink shelf.old shelf.new say.old say.new
-        (IsStatusOfAccepted result) }
+        → EndsAccepted S.Shelf K.Sink shelf.old shelf.new say.old say.new result }
 {
     end(alloc, words, shelf, say)
 }

@@ -30,4 +30,4 @@ returns-then-are_sent_otherwise c o n ports ho hn so sn =
     (other_sent o n ports (numbers c.args.key.now) (bits c.args.mask) c.args.old c.args.new ho hn (c.are_sent_otherwise.ensures c.if-are_sent_otherwise.true))
 
 pub returns : goal.returns
-returns c = found_map c.judge_by_ports.result c.judge_by_ports.ensures (λ judged found o n ports. found o n (numbers c.args.key.now) ports)
+returns c = found_map c.judge_by_ports.result c.judge_by_ports.ensures (λ judged found. found (numbers c.args.key.now))

@@ -1,0 +1,19 @@
+-- With which status a call ends, by the verdict alone.
+use Rattle.std.specs.Prelude.{◌≡◌, ℕ, ◌⊎◌}
+use Rattle.spec_base.specs.Counts.{Rose}
+use Rattle.spec_run.specs.Statuses.{done_status, limit_status, read_fault_status, out_of_memory_status}
+use Rattle.spec_diff.specs.Verdict.{Refusal}
+use Rattle.spec_diff.specs.Statuses.{differ_status, status_of}
+use Rattle.edge_io.specs.declared.outside.Shelf as shelf
+use Rattle.edge_io.specs.declared.outside.Sink as sink
+
+-- What is refused ends with the status of its refusal, unless reading fails or memory runs out before.
+abbrev pub IsStatusOfRefused : Refusal → ℕ → Type 0
+IsStatusOfRefused r status = (status ≡ status_of r) ⊎ ((status ≡ read_fault_status) ⊎ (status ≡ out_of_memory_status))
+
+-- What is accepted is compared, unless a call of the outside failed, which a count tells, memory ran out, or there are more
+-- cubes than are looked into.
+abbrev pub EndsAccepted : {S K : Type 0} → shelf.Ghosts S → sink.Ghosts K → S → S → K → K → ℕ → Type 0
+EndsAccepted g h old new said saying status =
+    ¬ Rose (g.counts old).reading (g.counts new).reading → ¬ Rose (h.faults said) (h.faults saying)
+    → ((status ≡ done_status) ⊎ (status ≡ differ_status)) ⊎ ((status ≡ limit_status) ⊎ (status ≡ out_of_memory_status))
