@@ -1,8 +1,6 @@
-use Rattle.std.proofs.Common.{◌≡◌, ℕ, ◌+◌, ◌<◌, length, false, refl, inl, inr, arith}
+use Rattle.std.proofs.Common.{◌≡◌, ◌+◌, ◌<◌, length, false, refl, inl, inr, arith}
 use Rattle.std.proofs.lemmas.Bool.{cases_lt}
 use Rattle.std.proofs.lemmas.List.{get_or_default}
-use Rattle.egress_capture.specs.declared.port_filter.PortFilter.{PortFilter}
-use Rattle.egress_capture.specs.Filters.{SendsOnlyTo}
 use Rattle.egress_capture.proofs.batch.batch_at.Goals as goal
 
 pub frames-preserved : goal.frames-preserved

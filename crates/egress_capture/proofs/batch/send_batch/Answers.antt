@@ -1,6 +1,6 @@
-use Rattle.std.proofs.Common.{◌≡◌, ℕ, ◌+◌, ◌-◌, ◌≤◌, ◌<◌, false, [], ◌∷◌, List, length, get_or, take, drop, subst, sym, ap, ◌∙◌, arith}
+use Rattle.std.proofs.Common.{◌≡◌, ℕ, ◌+◌, ◌-◌, ◌≤◌, ◌<◌, false, [], ◌∷◌, List, length, get_or, take, drop, subst, ap, ◌∙◌, arith}
 use Rattle.std.specs.List.{flat_map}
-use Rattle.spec_pcap.specs.Pcap.{Frame, record_of}
+use Rattle.spec_pcap.specs.Pcap.{Frame}
 use Rattle.spec_case.specs.declared.arrival.Arrival.{Arrival}
 use Rattle.spec_case.specs.Run.{Run, frames_of, frame_at}
 use Rattle.spec_board.specs.Texts.{Journal}
