@@ -13,7 +13,7 @@ use Rattle.spec_netflow.specs.Flows.{packets, flows_of, of_class, packet_sum, oc
 use Rattle.spec_run.specs.Journals.{HasEditsApart, AreWhole, actions_for}
 use Rattle.spec_run.specs.Mirrored.{copies, mirror_file}
 use Rattle.spec_run.specs.Outputs.{frames_out, port_file}
-use Rattle.output_laws.specs.Parts.{parts}
+use Rattle.output_laws.specs.Parts.{parts, MayBeCutAt}
 use Rattle.output_laws.specs.Classes.{class_times}
 
 -- a run, and journals of it
@@ -97,3 +97,9 @@ pub record FlowsAddUp (run : Run) (journals : List Journal) (cut : List Part) (c
   pub octet_sums : class_octets run journals class ≡ sum_by (λ (p : Part). class_octets p.run p.journals class) cut
   pub times : class_times run (actions_for run journals) class
       ≡ flat_map (λ (p : Part). class_times p.run (actions_for p.run p.journals) class) cut
+
+-- It holds of any run that may be cut at times, of its journals, and of its parts.
+abbrev pub OfParts : (Run → List Journal → List Part → Type 0) → Type 0
+OfParts claim =
+    (times : List ℕ) (run : Run) (journals : List Journal) (cut : List Part)
+    → MayBeCutAt times run → AreParts times run journals cut → claim run journals cut
