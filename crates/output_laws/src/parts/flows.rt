@@ -1,10 +1,8 @@
 ghost use Rattle.std.specs.Prelude.{ℕ, List};
 ghost use Rattle.spec_case.specs.Run.{Run};
-ghost use Rattle.spec_board.specs.Texts.{Journal};
 ghost use Rattle.spec_netflow.specs.Flows.{Decided};
-ghost use Rattle.output_laws.specs.Parts.{MayBeCutAt};
 ghost use Rattle.output_laws.specs.Classes.{TellTimes};
-ghost use Rattle.output_laws.specs.Laws.{Part, AreParts, FlowsAddUp};
+ghost use Rattle.output_laws.specs.Laws.{FlowsAddUp, OfParts};
 
 use netflow_laws::every_packet_is_counted_once;
 
@@ -12,9 +10,8 @@ use netflow_laws::every_packet_is_counted_once;
 /// the times at which they do in the parts, one after the other. In any run the first flow of a class begins with the
 /// first of its packets, and the last one ends with the last.
 pub fn flows_of_parts_add_up()
-    ensures sums { (times : List ℕ) (run : Run) (journals : List Journal) (cut : List Part)
-        → MayBeCutAt times run → AreParts times run journals cut
-        → (class : List ℕ) → FlowsAddUp run journals cut class }
+    ensures sums { OfParts (λ run journals cut. (class : List ℕ)
+        → FlowsAddUp run journals cut class) }
     ensures times { (run : Run) (decided : Decided) (class : List ℕ) → TellTimes run decided class }
 {
     every_packet_is_counted_once();
