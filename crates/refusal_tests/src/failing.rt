@@ -15,8 +15,8 @@ pub struct Unwritten {
     pub in_use: Option<(&'static str, &'static str)>,
 }
 
-/// Reading takes the calls 1 to 8, and the file of port 1 those from 9 to 11. That of port 2, in which a frame is
-/// written in two calls, takes those from 12 to 16. In the dumps of rules and megaflows a line is written in one call; in
+/// Reading takes the calls 1 to 8, and the file of port 1 those from 9 to 11. That of port 2, in which a record is
+/// written in one call, takes those from 12 to 15. In the dumps of rules and megaflows a line is written in one call; in
 /// the journal that of a port is, and then all of its steps.
 pub static UNWRITTEN: [Unwritten; 6] = [
     Unwritten {
@@ -35,28 +35,28 @@ pub static UNWRITTEN: [Unwritten; 6] = [
     },
     Unwritten {
         shows: "a failed write of rules leaves the files of the ports whole",
-        failing_call: 18,
+        failing_call: 17,
         text: "write fault: out.rules",
         whole: 2,
         in_use: Some(("out.rules", "")),
     },
     Unwritten {
         shows: "where the dump of megaflows isn't created, the rules are the last file",
-        failing_call: 20,
+        failing_call: 19,
         text: "write fault: out.megaflows",
         whole: 3,
         in_use: None,
     },
     Unwritten {
         shows: "a failed write of megaflows leaves the rules whole",
-        failing_call: 21,
+        failing_call: 20,
         text: "write fault: out.megaflows",
         whole: 3,
         in_use: Some(("out.megaflows", "")),
     },
     Unwritten {
         shows: "a failed write of the journal leaves a prefix of it",
-        failing_call: 27,
+        failing_call: 26,
         text: "write fault: out.journal",
         whole: 4,
         in_use: Some((
