@@ -150,6 +150,34 @@ fn one_frame_is_read_and_written_back(rt: HostRuntime) -> Result<(), Fail> {
     Ok(())
 }
 
+// Two records of the frame.
+fn two_records(alloc: Global) -> Result<Vec<u8>, AllocError> {
+    let mut bytes = RECORD_HEADER.to_vec(alloc)?;
+    bytes.extend_from_slice(&frame())?;
+    bytes.extend_from_slice(&RECORD_HEADER)?;
+    bytes.extend_from_slice(&frame())?;
+    Ok(bytes)
+}
+
+// A frame that had a byte more on the wire is written with another header, and so is each in another unit.
+#[test]
+fn consecutive_records_are_lent_as_they_are_written(rt: HostRuntime) -> Result<(), Fail> {
+    let alloc = rt.alloc();
+    let mut bytes = HEADER.to_vec(alloc)?;
+    bytes.extend_from_slice(two_records(alloc)?.as_slice())?;
+    bytes.extend_from_slice(&[1, 0, 0, 0, 0, 0, 0, 0, 60, 0, 0, 0, 61, 0, 0, 0])?;
+    bytes.extend_from_slice(&frame())?;
+    let trace = read_trace(alloc, bytes, 3)?;
+    assert_eq!(rt; trace.len(), 3);
+    let (count, records) = trace.records(1, 3, false);
+    assert_eq!(rt; count, 2);
+    assert_eq!(rt; records, two_records(alloc)?.as_slice());
+    assert_eq!(rt; trace.records(2, 2, false).0, 1);
+    assert_eq!(rt; trace.records(3, 1, false).0, 0);
+    assert_eq!(rt; trace.records(1, 3, true).0, 0);
+    Ok(())
+}
+
 #[test]
 fn file_in_nanoseconds_has_its_magic_and_unit(rt: HostRuntime) -> Result<(), Fail> {
     let alloc = rt.alloc();
