@@ -141,11 +141,11 @@ module _ (sw : Switch) (key mask : List ℕ) (w : Way) (sure : (w.told || w.fine
 -- an element that passes a test
 some_of : {X : Type 0} (p : X → Bool) (xs : List X) → list_any p xs ≡ true → (x : X) × (p x ≡ true)
 some_of p [] e = absurd (cc e)
-some_of {X} p (x ∷ xs) e = at (p x) refl e
+some_of {X} p (x ∷ xs) e = at (p x) refl e (some_of p xs)
   where
-    at : (t : Bool) → p x ≡ t → (t || list_any p xs) ≡ true → (y : X) × (p y ≡ true)
-    at true is h = (x, is)
-    at false is h = some_of p xs h
+    at : (t : Bool) → p x ≡ t → (t || list_any p xs) ≡ true → (list_any p xs ≡ true → (y : X) × (p y ≡ true)) → (y : X) × (p y ≡ true)
+    at true is h later = (x, is)
+    at false is h later = later h
 
 module _ (o n : Switch) (ports : o.ports ≡ n.ports) (key mask : List ℕ) (old new : Way) (ho : IsWay o key mask old) (hn : IsWay n key mask new) where
   pub alike_nothing : (old.told || old.fine) ≡ true → (new.told || new.fine) ≡ true → old.actions ≡ [] → new.actions ≡ [] → DoAlike o n key mask

@@ -91,7 +91,5 @@ pub(crate) fn follow_path(
     let mut path = Path::begin(alloc, ports, mask)?;
     let sw = Following { rules, ports };
     let _made = translate_by(&sw, SpareLists::new(alloc), key, &mut path)?;
-    let sent = path.sent();
-    let (actions, fine) = path.finish();
-    Ok((actions, fine, sent))
+    Ok(path.finish())
 }

@@ -372,19 +372,22 @@ impl<'a> Path<'a> {
 
     /// The bits of frames, as they were sent last, that are the same for all. Where keys may have changed since, none
     /// are told.
-    pub(crate) fn sent(&self) -> Mask
+    fn sent(&self) -> Mask
         ensures { bits result ≡ sent_bits (path_view self.now) }
     {
         if self.dirty { Mask::none() } else { self.known }
     }
 
-    /// The actions carried out, and whether each step was decided. It takes no memory.
-    pub(crate) fn finish(self) -> (Vec<OfAction>, bool)
+    /// The actions carried out, whether each step was decided, and the bits that are told of what was sent. It takes no
+    /// memory.
+    pub(crate) fn finish(self) -> (Vec<OfAction>, bool, Mask)
         ensures actions { result.0.items ≡ (path_view self.entry).actions }
         ensures fine { result.1 ≡ (path_view self.entry).fine }
+        ensures sent { bits result.2 ≡ sent_bits (path_view self.entry) }
         ensures sound { AreSound result.0.items }
     {
-        (self.actions, self.fine)
+        let told = self.sent();
+        (self.actions, self.fine, told)
     }
 
     // ---- a way whose mask grows, of which nothing is told

@@ -11,8 +11,7 @@ use crate::choosing::filled;
 use crate::way::Way;
 use crate::ways::is_none;
 use dp_actions::DpAction;
-use named_fields::low_bits;
-use ovs_fields::{FieldId, Key, Mask, all_fields, width};
+use ovs_fields::{FieldId, Key, Mask, all_fields};
 
 /// Whether two fields are one.
 fn is_same_field(field: FieldId, other: FieldId) -> bool
@@ -103,6 +102,17 @@ pub(crate) fn are_sent_otherwise(old: &Way, new: &Way, key: &Key) -> bool
     (old.fine & new.fine) & (some & apart)
 }
 
+/// Adds the first bit in which two numbers of a field differ, of those that are told, and tells whether there is one.
+fn add_first(mask: &mut Mask, field: FieldId, differing: u128, told: &Mask) -> bool {
+    let bits = told.get(field);
+    let differing = differing & bits;
+    if differing == 0 {
+        return false;
+    }
+    mask.add(field, differing & !(filled(differing) >> 1) & bits);
+    true
+}
+
 /// Adds a bit in which the frames that both ways send last may differ, for all packets that agree on it, and tells
 /// whether there is one. Whether it decides is checked, so nothing is proved of the choice.
 pub(crate) fn add_sent(mask: &mut Mask, old: &Way, new: &Way, key: &Key) -> bool {
@@ -110,11 +120,13 @@ pub(crate) fn add_sent(mask: &mut Mask, old: &Way, new: &Way, key: &Key) -> bool
         let number = key.get(*field);
         let before = number_after(old.actions.as_slice(), *field, number);
         let after = number_after(new.actions.as_slice(), *field, number);
-        let differing = (before ^ after) & (old.sent.get(*field) | new.sent.get(*field));
-        if is_frame_field(*field) && differing != 0 {
-            let first = differing & !(filled(differing) >> 1);
-            mask.add(*field, first & low_bits(width(*field)));
-            return true;
+        if is_frame_field(*field) {
+            if add_first(mask, *field, before ^ after, &old.sent) {
+                return true;
+            }
+            if add_first(mask, *field, before ^ after, &new.sent) {
+                return true;
+            }
         }
     }
     false

@@ -1,4 +1,5 @@
-use Rattle.std.proofs.Common.{rules, ◌≡◌, ◌++◌, ℕ, suc, ◌<◌, List, [], ◌∷◌, length, map, refl, sym, ap, subst, arith}
+use Rattle.std.proofs.Common.{rules, ◌≡◌, ◌++◌, ℕ, suc, ◌<◌, List, [], ◌∷◌, length, map, refl, sym, ap, subst, ◌∙◌, arith}
+use Rattle.std.proofs.lemmas.Bool.{eqb-false}
 use Rattle.spec_tables.specs.Rules.{Match}
 use Rattle.spec_xlate.specs.Translation.{switch_of}
 use Rattle.dump_lines.specs.Live.{live_in}
@@ -62,7 +63,8 @@ returns-clause-too_many c is =
     let past = c.cubes-test.false in
     let within = c.cubes.auto.counter-end in
     let last : c.cubes.counter ≡ cube_limit = omega arith in
-    let some : 0 < length c.cubes.work.items = search rules in
+    let none_not = eqb-false _ 0 (sym c.is_empty.ensures ∙ c.if-is_empty.false) in
+    let some : 0 < length c.cubes.work.items = omega (arith, none_not) in
     record {
       left = cubes_view c.cubes.work.items;
       classes = classes_view c.cubes.classes.items;

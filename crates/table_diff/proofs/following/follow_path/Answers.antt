@@ -19,4 +19,4 @@ returns-clause-fine c =
 pub returns-clause-sent : goal.returns-clause-sent
 returns-clause-sent c =
     let events = events_of (switch_of (live_in c.args.rules.now) c.args.ports.now) (numbers c.args.key.now) in
-    c.sent.ensures ∙ ap sent_bits (c.in_ok-_made.ensures.noted ∙ ap (λ (p : Path). fold followed p events) c.in_ok-path.ensures)
+    c.finish.ensures.sent ∙ ap sent_bits (c.in_ok-_made.ensures.noted ∙ ap (λ (p : Path). fold followed p events) c.in_ok-path.ensures)
