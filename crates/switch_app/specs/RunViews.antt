@@ -25,9 +25,8 @@ use Rattle.switch_input.specs.Reading.{Ending, ReadsWhere}
 use Rattle.switch_input.specs.Refused.{TellsUsage, Explains, stop_of}
 use Rattle.switch_output.specs.declared.refusal.WriteRefusal.{WriteRefusal}
 use Rattle.switch_output.specs.declared.refusal.WriteRefusal.TheVariants.{WriteFault, OutOfMemory}
-use Rattle.switch_output.specs.declared.refusal.OutputRefusal.{OutputRefusal}
 use Rattle.switch_output.specs.declared.refusal.OutputRefusal.TheVariants.{Files, Summary}
-use Rattle.switch_output.specs.Put.{PutsWhole, CutsOut}
+use Rattle.switch_output.specs.Put.{PutsWhole}
 use Rattle.switch_output.specs.Refused.{IfWriteFault, HasWriteCause}
 use Rattle.switch_app.specs.declared.refusal.Refusal.{Refusal}
 use Rattle.switch_app.specs.declared.refusal.Refusal.TheVariants.{Reading, Output}
@@ -59,15 +58,9 @@ abbrev pub summary_of_read : Inputs → Run → List Journal → List ℕ
 summary_of_read i run journals = summary run journals (ran_of (has_steps (input_view i.command.input)) run)
 
 module _ {S K : Type 0} (g : shelf.Ghosts S) (h : sink.Ghosts K) (i : Inputs) (run : Run) (old new : S) (said saying : K) where
-  -- The run is decided, its files are written and its summary is printed;
+  -- The run is decided, its files are written and its summary is printed.
   abbrev pub PutsRun : Type 0
   PutsRun = ByJournals i.command.workers run (λ journals. PutsWhole g h old new said saying (output_of_read i run journals) (summary_of_read i run journals))
-
-  -- or these are cut short, or memory ran out before.
-  abbrev pub CutsRun : OutputRefusal → Type 0
-  CutsRun r =
-      (r ≡ Files OutOfMemory) × IsUntouched g h old new said saying
-      ⊎ ByJournals i.command.workers run (λ journals. CutsOut g h old new said saying (output_of_read i run journals) (summary_of_read i run journals) r)
 
 module _ {S K : Type 0} (g : shelf.Ghosts S) (h : sink.Ghosts K) (words : List (List ℕ)) (old new : S) (said saying : K) where
   -- The files of the words were read.

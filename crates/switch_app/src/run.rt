@@ -2,19 +2,22 @@ ghost use Rattle.std.specs.Prelude.{◌≡◌, ◌≢◌, ◌≤◌, ◌⊎◌, 
 ghost use Rattle.std.specs.List.{list_all};
 ghost use Rattle.spec_tables.specs.Edits.{has_sound_actions};
 ghost use Rattle.spec_script.specs.Steps.{most_steps};
+ghost use Rattle.spec_dumps.specs.Summary.{summary};
 ghost use Rattle.spec_run.specs.Verdict.{command_in, verdict};
 ghost use Rattle.spec_run.specs.Journals.{AreJournals};
-ghost use Rattle.spec_run.specs.Outputs.{outlets_of, has_steps, ran_of};
+ghost use Rattle.spec_run.specs.Outputs.{outlets_of, output_of, has_steps, ran_of};
 ghost use Rattle.spec_run.specs.Statuses.{usage_status, out_of_memory_status};
 ghost use Rattle.edge_io.specs.declared.outside.InUse.TheVariants.{Nothing};
 ghost use Rattle.command_words.specs.CommandViews.{texts, input_view, HasWorkers};
 ghost use Rattle.switch_input.specs.Known.{IsKnown, NeedNoFile};
 ghost use Rattle.switch_input.specs.InputViews.{run_view, IsWithinLimits};
 ghost use Rattle.switch_output.specs.OutletViews.{outlets_in};
-ghost use Rattle.switch_output.specs.Put.{NamesNoFile};
+ghost use Rattle.switch_output.specs.declared.refusal.OutputRefusal.TheVariants.{Files};
+ghost use Rattle.switch_output.specs.declared.refusal.WriteRefusal.TheVariants.{OutOfMemory};
+ghost use Rattle.switch_output.specs.Put.{NamesNoFile, CutsOut};
 ghost use Rattle.switch_app.specs.Ends.{Ends, IsAllDone};
 ghost use Rattle.switch_app.specs.Statuses.{IsStatusOfRefused, EndsAccepted};
-ghost use Rattle.switch_app.specs.RunViews.{told_if, PutsRun, CutsRun, Leaves};
+ghost use Rattle.switch_app.specs.RunViews.{told_if, ByJournals, PutsRun, IsUntouched, Leaves};
 
 use crate::decider::{decide_by_workers, run_schedule};
 use crate::refusal::Refusal;
@@ -126,8 +129,13 @@ fn decide_and_tell<
     requires within { IsWithinLimits inputs }
     ensures ok { OnOk result
         (PutsRun S.Shelf K.Sink inputs.entry C.run shelf.old shelf.new say.old say.new) }
-    ensures err { IfErr result
-        (CutsRun S.Shelf K.Sink inputs.entry C.run shelf.old shelf.new say.old say.new) }
+    ensures err { let input = input_view inputs.entry.command.input in
+        IfErr result (λ r. (r ≡ Files OutOfMemory)
+        × IsUntouched S.Shelf K.Sink shelf.old shelf.new say.old say.new
+        ⊎ ByJournals inputs.entry.command.workers C.run (λ journals.
+        CutsOut S.Shelf K.Sink shelf.old shelf.new say.old say.new
+        (output_of (outlets_of input inputs.entry.mirrors.items) C.run journals)
+        (summary C.run journals (ran_of (has_steps input) C.run)) r)) }
     ensures opened { IsTrue S.tells → (S.told shelf.new).opened ≡ (S.told shelf.old).opened }
 
     // Where nothing is written, the shelf isn't touched.
