@@ -2,7 +2,7 @@
  *
  *     keys FILE ROUNDS
  *
- * It is what the program of crates/tool_key_cost does, as one would write it in plain C: the same fields by the same rules,
+ * It is what `tool_layers keys` does, as one would write it in plain C: the same fields by the same rules,
  * with the same tests of bounds before a byte is read. bench/keys compares the numbers of both, and their times. The
  * capture file is the one that bench/keys has made, and isn't tested.
  */

@@ -8,6 +8,9 @@ import struct
 import subprocess
 import sys
 
+# The program that asks parts of the switch, and where it is built.
+LAYERS = os.path.join(os.path.dirname(os.path.dirname(os.path.abspath(__file__))), "crates", "tool_layers")
+PROGRAM = os.path.join(LAYERS, "out", "tool_layers")
 
 # Of ptrace(2): what it is asked, and that a process is held as it ends.
 PTRACE_CONT, PTRACE_SEIZE, PTRACE_O_TRACEEXIT = 7, 0x4206, 0x40
@@ -93,6 +96,11 @@ def build(crate, words):
     ran = subprocess.run(["rt", "run", "--", *words], cwd=crate, capture_output=True, text=True)
     if ran.returncode != 0:
         sys.exit(f"bench: {name} is not built:\n{ran.stdout}{ran.stderr}")
+
+
+def build_layers():
+    """Proves and builds the program that asks parts of the switch."""
+    build(LAYERS, ["flows", "data/edits"])
 
 
 def counts_cycles():

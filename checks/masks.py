@@ -106,7 +106,7 @@ def printed(program, edits, frames, port, ports):
         for name, data in {"edits": edits, "trace": write_trace(frames, MICROSECOND)}.items():
             with open(os.path.join(room, name), "wb") as file:
                 file.write(data)
-        words = [program, "edits", "trace", str(port), *map(str, ports)]
+        words = [program, "translations", "edits", "trace", str(port), *map(str, ports)]
         ran = subprocess.run(words, cwd=room, stdin=subprocess.DEVNULL, stdout=subprocess.PIPE, check=True, text=True)
     return [read_line(line) for line in ran.stdout.splitlines()]
 

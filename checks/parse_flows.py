@@ -1,12 +1,12 @@
 #!/usr/bin/env python3
 """Compares how flow text is read and printed with `ovs-ofctl parse-flows` of Open vSwitch, which needs no daemon.
 
-    python3 parse_flows.py [FLOW_PRINT]
+    python3 parse_flows.py [LAYERS]
 
 takes the lines of flow_lines.txt and those of the examples' files of edits, but for sync lines. Of each line it is
 compared whether it is accepted; where both accept it, what ovs-ofctl prints of it is read here and has to mean the
 same, and what is printed here of it, as a line of dumped rules, is read by ovs-ofctl and has to mean the same. It is the
-simulation that prints here. Where the program FLOW_PRINT is given, which crates/tool_flow_print is, it has to print the
+simulation that prints here. Where the program LAYERS is given, which crates/tool_layers is, it has to print the
 match and the actions of each line that is accepted here alike.
 
 docs/OPEN_VSWITCH.md says where the two differ by intention. Each such difference is a kind below, with its reason. A
@@ -178,7 +178,7 @@ def printed_by(program, lines):
     with tempfile.NamedTemporaryFile("w", suffix=".edits") as file:
         file.writelines(line + "\n" for line in lines)
         file.flush()
-        return subprocess.run([program, file.name], capture_output=True, text=True).stdout.split("\n")[:-1]
+        return subprocess.run([program, "flows", file.name], capture_output=True, text=True).stdout.split("\n")[:-1]
 
 
 def printed_otherwise(program, lines):

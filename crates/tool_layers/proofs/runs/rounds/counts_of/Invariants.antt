@@ -1,5 +1,5 @@
 use Rattle.switch_input.specs.InputViews.{run_view}
-use Rattle.tool_cache_cost.proofs.rounds.counts_of.Given as goal
+use Rattle.tool_layers.proofs.runs.rounds.counts_of.Given as goal
 
 -- the run's name means what was read, under the flow limit of the words
 abbrev pub ghosts-counts_in_rounds : goal.ghosts-counts_in_rounds

@@ -3,7 +3,7 @@ use Rattle.std.specs.Prelude.{IsTrue}
 use Rattle.std.specs.List.{list_all}
 use Rattle.spec_case.specs.Run.{Run}
 use Rattle.spec_tables.specs.Edits.{has_sound_actions}
-use Rattle.tool_cache_cost.proofs.rounds.counts_in_rounds.Goals as goal
+use Rattle.tool_layers.proofs.runs.rounds.counts_in_rounds.Goals as goal
 
 pub run_schedule-requires-clause-sound : goal.run_schedule-requires-clause-sound
 run_schedule-requires-clause-sound g c =

@@ -1,9 +1,9 @@
 //! The words of the command line.
+use crate::numbers::split_rounds;
 use anyhow::{Result, anyhow, bail};
 use std::alloc::Global;
-use tool_input::split_rounds;
 
-const USE: &str = "use: tool_xlate_print EDITS TRACE PORT PORTS.. [--rounds=N]";
+const USE: &str = "use: tool_layers translations EDITS TRACE PORT PORTS.. [--rounds=N]";
 
 /// What the words of the command line say.
 #[derive(Drop)]

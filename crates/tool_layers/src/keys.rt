@@ -1,21 +1,15 @@
-//! The command `tool_key_cost FILE ROUNDS`, by which `bench/keys` measures what the key of a frame costs.
-//!
-//! It reads a capture file, makes the key of every frame of it in each round, and prints a number that all keys go
-//! into, so that none is left out. It looks at no clock: two runs with different numbers of rounds differ only in
-//! keys, and whoever runs it takes the time of both.
-//!
-//! Nothing is promised of the number, which `bench/keys.c` makes too, and compares.
-#![tactic(auto)]
-
+//! `keys FILE ROUNDS`, by which `bench/keys` measures what the key of a frame costs: it makes the key of every frame of a
+//! capture file in each round, and prints a number that all keys go into. `bench/keys.c` makes the same number.
 ghost use Rattle.std.specs.Prelude.{◌^◌, ◌≤◌, length};
 
+use crate::files::read_capture;
+use crate::numbers::number_of;
 use anyhow::{Result, bail};
 use frame_keys::key_of;
 use ovs_fields::{FieldId, Key, all_fields};
 use pcap_files::reader::Trace;
 use std::alloc::Global;
-use std::env;
-use tool_input::{number_of, read_capture};
+use std::fmt::Write;
 
 /// The port at which all frames come in.
 const PORT: u16 = 1;
@@ -53,18 +47,17 @@ fn frames_of(alloc: Global, trace: &Trace) -> Result<Vec<&[u8]>>
     Ok(frames)
 }
 
-fn main(rt: HostRuntime) -> Result<()> {
-    let words: Vec<String> = env::args(&rt)?.skip(1).collect(rt.alloc())?;
-    let [name, count] = words.as_slice() else {
-        bail!("use: tool_key_cost FILE ROUNDS");
+/// The number that all keys go into, and how many frames and rounds there are.
+pub fn answer(rt: &HostRuntime, words: &[String]) -> Result<String> {
+    let [name, count] = words else {
+        bail!("use: tool_layers keys FILE ROUNDS");
     };
     let count = number_of("rounds", count)?;
-    let trace = read_capture(&rt, name)?;
+    let trace = read_capture(rt, name)?;
     let frames = frames_of(rt.alloc(), &trace)?;
-    println!(rt;
-        "{:032x} frames={} rounds={count}",
-        rounds(count, &frames),
-        frames.len()
-    )?;
-    Ok(())
+    let number = rounds(count, &frames);
+    let frames = frames.len();
+    let mut text = String::new(rt.alloc());
+    writeln!(text, "{number:032x} frames={frames} rounds={count}")?;
+    Ok(text)
 }

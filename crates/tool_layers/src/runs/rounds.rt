@@ -2,8 +2,8 @@
 ghost use Rattle.std.specs.Prelude.{◌≡◌};
 ghost use Rattle.switch_input.specs.InputViews.{run_view, IsWithinLimits};
 
-use crate::counts::Counts;
-use crate::words::Command;
+use crate::runs::counts::Counts;
+use crate::runs::words::Command;
 use given_steps::run_schedule;
 use run_case::{Case, RunData};
 use run_tables::ClassifierTables;

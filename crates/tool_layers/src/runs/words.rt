@@ -2,10 +2,10 @@
 ghost use Rattle.std.specs.Prelude.{IfOk};
 ghost use Rattle.switch_input.specs.InputViews.{IsWithinLimits};
 
+use crate::numbers::{number_of, split_rounds};
 use anyhow::{Result, anyhow};
 use edge_io::real::RealShelf;
 use switch_input::{Input, Inputs, read_inputs};
-use tool_input::{number_of, split_rounds};
 
 /// What the words of the command line say, and what their files have.
 #[derive(Drop)]

@@ -1,21 +1,15 @@
-//! The command `tool_flow_print FILE`: the flows of a file of edits as they are printed.
-//!
-//! It prints a line for each edit, its match and its actions, in the one form of each (`match_text`, `action_text`). So
-//! `checks/parse_flows.py` holds what is printed against what ovs-ofctl reads. A file that has a fault is refused as a
-//! whole, with its first one.
-#![tactic(auto)]
-
+//! `flows FILE`: the flows of a file of edits as they are printed, a line for each edit, its match and its actions, in the
+//! one form of each (`match_text`, `action_text`).
 ghost use Rattle.std.specs.Prelude.{IsTrue};
 ghost use Rattle.std.specs.List.{list_all};
 ghost use Rattle.spec_tables.specs.Edits.{has_sound_actions};
 
+use crate::files::read_edits;
 use action_text::print_actions;
 use anyhow::{Result, bail};
 use edit_script::Edit;
 use match_text::print_match;
 use std::alloc::AllocError;
-use std::env;
-use tool_input::read_edits;
 
 /// Adds the line of an edit.
 fn print_edit(edit: &Edit, text: &mut String) -> Result<(), AllocError>
@@ -37,14 +31,13 @@ fn print_edits(edits: &[Edit], text: &mut String) -> Result<(), AllocError>
     Ok(())
 }
 
-fn main(rt: HostRuntime) -> Result<()> {
-    let words: Vec<String> = env::args(&rt)?.skip(1).collect(rt.alloc())?;
-    let [name] = words.as_slice() else {
-        bail!("use: tool_flow_print FILE");
+/// The lines of a file.
+pub fn answer(rt: &HostRuntime, words: &[String]) -> Result<String> {
+    let [name] = words else {
+        bail!("use: tool_layers flows FILE");
     };
-    let script = read_edits(&rt, name)?;
+    let script = read_edits(rt, name)?;
     let mut text = String::new(rt.alloc());
     print_edits(&script.edits, &mut text)?;
-    print!(rt; "{text}")?;
-    Ok(())
+    Ok(text)
 }

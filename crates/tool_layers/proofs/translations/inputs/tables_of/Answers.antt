@@ -3,7 +3,7 @@ use Rattle.tuple_classifier.specs.Versions.{Version, after}
 use Rattle.tuple_classifier.proofs.VersionLaws.{no_edits_yet, after_all}
 use Rattle.pipe_model.specs.Runnable.{AreRunnable}
 use Rattle.pipe_model.proofs.Versions.{runnable-after_edits}
-use Rattle.tool_xlate_print.proofs.inputs.tables_of.Goals as goal
+use Rattle.tool_layers.proofs.translations.inputs.tables_of.Goals as goal
 
 pub returns-then-is_empty : goal.returns-then-is_empty
 returns-then-is_empty c =
