@@ -15,7 +15,7 @@ before the end of a block does what threads have left (thread_marks.py): no proo
 have to be enough for that, also on a machine that has other work.
 
 A journal doesn't tell which thread took a step, nor how many there are, nor what waits for whom. Who makes fewer workers,
-or gives ports to them otherwise, writes journals like any other; the tests of thread_tests and publish_tests, and
+or gives ports to them otherwise, writes journals like any other; the tests of thread_tests and worker_tests, and
 refused_threads.py, tell of those.
 
 It prints the first run that is wrong and keeps its folder, or what threads never did, and ends with 1; else it prints how
