@@ -4,3 +4,4 @@ pub mod Sending
 pub mod JournalSums
 pub mod Numbered
 pub mod RuleTexts
+pub mod LookLines

@@ -1,6 +1,5 @@
 -- What is written of a step, and of a board.
 use Rattle.std.proofs.Common.{◌≡◌, ℕ, ◌+◌, ◌<◌, List, [], ◌∷◌, ◌++◌, length, get_or, take, drop, ap, sym, ◌∙◌, add-one, append_assoc, append-nil, take-suc}
-use Rattle.std.specs.Prelude.{codes}
 use Rattle.std.proofs.lemmas.List.{take-append-drop}
 use Rattle.std.proofs.lemmas.Grind.{flat_map-append}
 use Rattle.std.specs.List.{flat_map}
@@ -34,15 +33,14 @@ lines_to steps i d lt =
     ∙ flat_map-append line_of_step (take i steps) (get_or steps i d ∷ [])
     ∙ ap (λ (xs : List ℕ). flat_map line_of_step (take i steps) ++ xs) (append-nil (line_of_step (get_or steps i d)))
 
--- To a text that ends with these the line of one more step is added: the text of the step, and a line feed.
-pub lines_more : (steps : List Step) (i : ℕ) (d : Step) → i < length steps → (front before text after : List ℕ)
-    → before ≡ front ++ flat_map line_of_step (take i steps) → text ≡ before ++ step_text (step_view (get_or steps i d))
-    → after ≡ text ++ codes "\n" → after ≡ front ++ flat_map line_of_step (take (i + 1) steps)
-lines_more steps i d lt front before text after was is fed =
-    let step = step_text (step_view (get_or steps i d)) in
+-- To a text that ends with these the line of one more step is added.
+pub lines_more : (steps : List Step) (i : ℕ) (d : Step) → i < length steps → (front before after : List ℕ)
+    → before ≡ front ++ flat_map line_of_step (take i steps) → after ≡ before ++ line_of_step (get_or steps i d)
+    → after ≡ front ++ flat_map line_of_step (take (i + 1) steps)
+lines_more steps i d lt front before after was is =
+    let line = line_of_step (get_or steps i d) in
     let lines = flat_map line_of_step (take i steps) in
-    fed ∙ ap (λ (t : List ℕ). t ++ codes "\n") (is ∙ ap (λ (t : List ℕ). t ++ step) was)
-    ∙ append_assoc (front ++ lines) step (codes "\n") ∙ append_assoc front lines (line_of_step (get_or steps i d))
+    is ∙ ap (λ (t : List ℕ). t ++ line) was ∙ append_assoc front lines line
     ∙ ap (λ (t : List ℕ). front ++ t) (sym (lines_to steps i d lt))
 
 -- the lines of some steps, and of others after them

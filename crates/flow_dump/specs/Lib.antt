@@ -5,3 +5,5 @@ pub mod Numbered
 pub mod RuleTexts
 pub mod Counted
 pub mod Sums
+pub mod LookLines
+pub mod KeptLooks

@@ -25,6 +25,7 @@ enum OfBoard {
 
 // Writes what is written of a board.
 fn write_board<C: Case, S: Shelf>(
+    alloc: Global,
     shelf: &mut S,
     line: &mut String,
     what: OfBoard,
@@ -36,13 +37,14 @@ fn write_board<C: Case, S: Shelf>(
     ensures printable { OnOk result (IsPrintedWell what (journal_view board.now)) }
 {
     match what {
-        OfBoard::Journal => write_journal(shelf, line, board),
+        OfBoard::Journal => write_journal(alloc, shelf, line, board),
         OfBoard::Megaflows => write_entries(shelf, line, board),
     }
 }
 
 // Writes it of each finished board.
 fn write_boards<C: Case, S: Shelf>(
+    alloc: Global,
     shelf: &mut S,
     line: &mut String,
     what: OfBoard,
@@ -55,7 +57,7 @@ fn write_boards<C: Case, S: Shelf>(
 {
     let of_ports = finished.boards();
     'boards: for board in of_ports {
-        write_board(shelf, line, what, board)?;
+        write_board(alloc, shelf, line, what, board)?;
     }
     Ok(())
 }
@@ -82,7 +84,7 @@ fn write_dump<C: Case, S: Shelf>(
             ensures writes { let text = dump_text what C.run finished.entry.now in
                 WritesAll S.Shelf shelf.old shelf.new text result }
             ensures printable { OnOk result (All (IsPrintedWell what) finished.entry.now) }
-        { write_boards(shelf, &mut line, what, finished) },
+        { write_boards(alloc, shelf, &mut line, what, finished) },
     )
 }
 

@@ -1,5 +1,5 @@
 ghost use Rattle.std.specs.Prelude.{◌≡◌, ◌++◌, All, OnOk, codes, string_bytes};
-ghost use Rattle.spec_board.specs.Texts.{line_of, word_with, journal_text};
+ghost use Rattle.spec_board.specs.Texts.{line_of, word_with, step_text, journal_text};
 ghost use Rattle.edge_io.specs.declared.outside.InUse.TheVariants.{Created};
 ghost use Rattle.board_steps.specs.StepViews.{step_view, steps_view};
 ghost use Rattle.pmd_board.specs.BoardView.{journal_view};
@@ -7,11 +7,12 @@ ghost use Rattle.flow_dump.specs.Lines.{steps_text};
 ghost use Rattle.edge_io.specs.Written.{WritesAll};
 ghost use Rattle.board_steps.specs.Printable.{IsPrintable, IsPrintableStep, IsPrintableJournal};
 
+use crate::look_line::LookLine;
 use board_steps::{Step, push_step};
 use edge_io::{Failed, Shelf, write_all};
 use pmd_board::Board;
 use run_case::Case;
-use std::alloc::AllocError;
+use std::alloc::{AllocError, Global};
 use std::fmt::Write;
 
 // How many steps are written in one piece.
@@ -39,41 +40,64 @@ fn write_port<S: Shelf>(shelf: &mut S, line: &mut String, port: u16) -> Result<(
     write_line(shelf, line)
 }
 
-// Adds the lines of steps. After an error it isn't said what the buffer has.
-fn push_lines(line: &mut String, steps: &[Step]) -> Result<(), AllocError>
-    ensures text { OnOk result (string_bytes line.new ≡ string_bytes line.old ++ steps_text (steps_view steps.now)) }
+// Adds the line of a step. After an error it isn't said what the text has.
+fn push_line(text: &mut String, looks: &mut LookLine, step: &Step) -> Result<(), AllocError>
+    ensures text { OnOk result
+        (string_bytes text.new ≡ string_bytes text.old ++ line_of (step_text (step_view step.now))) }
+    ensures printable { OnOk result (IsPrintableStep (step_view step.now)) }
+{
+    if let Step::Look { place, result } = step {
+        return looks.push_to(text, *place, *result);
+    }
+    push_step(text, step)?;
+    text.push('\n')
+}
+
+// Adds the lines of steps. After an error it isn't said what the text has.
+fn push_lines(text: &mut String, looks: &mut LookLine, steps: &[Step]) -> Result<(), AllocError>
+    ensures text { OnOk result (string_bytes text.new ≡ string_bytes text.old ++ steps_text (steps_view steps.now)) }
     ensures printable { OnOk result (All (λ step. IsPrintableStep (step_view step)) steps.now) }
 {
     'steps: for step in steps {
-        push_step(line, step)?;
-        line.push('\n')?;
+        push_line(text, looks, step)?;
     }
     Ok(())
 }
 
 // Writes the lines of steps in one piece.
-fn write_lines<S: Shelf>(shelf: &mut S, line: &mut String, steps: &[Step]) -> Result<(), Failed>
+fn write_lines<S: Shelf>(
+    shelf: &mut S,
+    text: &mut String,
+    looks: &mut LookLine,
+    steps: &[Step],
+) -> Result<(), Failed>
     requires { S.in_use shelf.old ≡ Created }
     ensures writes { let text = steps_text (steps_view steps.now) in
         WritesAll S.Shelf shelf.old shelf.new text result }
     ensures printable { OnOk result (All (λ step. IsPrintableStep (step_view step)) steps.now) }
 {
-    line.clear();
-    push_lines(line, steps)?;
-    write_all(shelf, line.as_bytes())
+    text.clear();
+    push_lines(text, looks, steps)?;
+    write_all(shelf, text.as_bytes())
 }
 
 // Writes the lines of steps, so many at once that the calls of the shelf are few.
-fn write_steps<S: Shelf>(shelf: &mut S, line: &mut String, steps: &[Step]) -> Result<(), Failed>
+fn write_steps<S: Shelf>(
+    alloc: Global,
+    shelf: &mut S,
+    text: &mut String,
+    steps: &[Step],
+) -> Result<(), Failed>
     requires { S.in_use shelf.old ≡ Created }
     ensures writes { let text = steps_text (steps_view steps.now) in
         WritesAll S.Shelf shelf.old shelf.new text result }
     ensures printable { OnOk result (All IsPrintableStep (steps_view steps.now)) }
 {
+    let mut looks = LookLine::new(alloc);
     let mut done = 0;
     'pieces: while done < steps.len() {
         let end = steps.len().min(done + STEPS_AT_ONCE);
-        write_lines(shelf, line, &steps[done..end])?;
+        write_lines(shelf, text, &mut looks, &steps[done..end])?;
         done = end;
     }
     Ok(())
@@ -81,6 +105,7 @@ fn write_steps<S: Shelf>(shelf: &mut S, line: &mut String, steps: &[Step]) -> Re
 
 /// Writes the text of the journal of a board.
 pub(crate) fn write_journal<C: Case, S: Shelf>(
+    alloc: Global,
     shelf: &mut S,
     line: &mut String,
     board: &Board<C>,
@@ -91,5 +116,5 @@ pub(crate) fn write_journal<C: Case, S: Shelf>(
     ensures printable { OnOk result (IsPrintableJournal (journal_view board.now)) }
 {
     write_port(shelf, line, board.port())?;
-    write_steps(shelf, line, board.journal())
+    write_steps(alloc, shelf, line, board.journal())
 }

@@ -48,6 +48,7 @@
 mod boards;
 mod frame_counts;
 mod journal;
+mod look_line;
 mod megaflows;
 mod rules;
 mod step_counts;

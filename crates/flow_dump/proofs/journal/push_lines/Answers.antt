@@ -7,11 +7,10 @@ use Rattle.flow_dump.proofs.Lines.{steps_text-is, lines_more}
 use Rattle.flow_dump.proofs.journal.push_lines.Goals as goal
 
 pub steps-preserved : goal.steps-preserved
-unfolding lib.Utf8.encode
 steps-preserved c = record {
-  text = lines_more c.args.steps.now c.steps.step-index _ c.steps-test.true (string_bytes c.args.line.now) _ _ _ c.steps.invariant.text (rw c.step-item.is at c.in_ok-push_step.ensures.text) c.in_ok-push.ensures.bytes;
+  text = lines_more c.args.steps.now c.steps.step-index _ c.steps-test.true (string_bytes c.args.text.now) _ _ c.steps.invariant.text (rw c.step-item.is at c.in_ok-push_line.ensures.text);
   printable =
-      let step = rw c.step-item.is at c.in_ok-push_step.ensures.printable in
+      let step = rw c.step-item.is at c.in_ok-push_line.ensures.printable in
       All-more (λ step. IsPrintableStep (step_view step)) c.args.steps.now c.steps.step-index _ c.steps-test.true c.steps.invariant.printable step;
 }
 

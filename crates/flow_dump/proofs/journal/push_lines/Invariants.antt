@@ -8,6 +8,6 @@ use Rattle.flow_dump.proofs.journal.push_lines.Given as goal
 
 abbrev pub invariant-steps : goal.invariant-steps
 invariant-steps l = record {
-  text : string_bytes l.line ≡ string_bytes l.fn.line ++ flat_map line_of_step (take l.step-index l.steps);
+  text : string_bytes l.text ≡ string_bytes l.fn.text ++ flat_map line_of_step (take l.step-index l.steps);
   printable : All (λ step. IsPrintableStep (step_view step)) (take l.step-index l.steps);
 }

@@ -1,9 +1,9 @@
-use Rattle.std.proofs.Common.{◌≡◌, ◌+◌, ◌<◌, ◌≤◌, ◌^◌, ℕ, List, length, refl, sym, ap, subst, ◌∙◌, arith}
+use Rattle.std.proofs.Common.{◌≡◌, ◌+◌, ◌<◌, ◌≤◌, ◌^◌, ℕ, length, refl, sym, ap, subst, ◌∙◌, arith}
 use Rattle.std.specs.Prelude.{All}
 use Rattle.std.proofs.lemmas.List.{length-map}
 use Rattle.spec_pcap.specs.Pcap.{Frame, snap_length}
 use Rattle.spec_case.specs.Run.{Run, frames_of}
-use Rattle.spec_board.specs.State.{State, Total}
+use Rattle.spec_board.specs.State.{Total}
 use Rattle.board_laws.specs.Counts.{HasBoundedCounts}
 use Rattle.pmd_board.specs.BoardView.{BoardView, journal_view, state_of}
 use Rattle.port_caches.specs.Sums.{total_of}

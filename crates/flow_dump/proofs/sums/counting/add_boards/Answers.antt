@@ -1,4 +1,4 @@
-use Rattle.std.proofs.Common.{◌≡◌, ◌+◌, ◌<◌, ℕ, List, refl, sym, ap, subst, ◌∙◌, get_or, arith}
+use Rattle.std.proofs.Common.{◌≡◌, ℕ, refl, ap, subst, arith}
 use Rattle.pmd_board.specs.BoardView.{BoardView, journal_view}
 use Rattle.port_caches.specs.Sums.{total_of}
 use Rattle.flow_dump.specs.Sums.{sums_view, with_total}

@@ -1,8 +1,7 @@
-use Rattle.std.proofs.Common.{◌≡◌, ◌+◌, ◌-◌, ℕ, refl, sym, ap, ap₂, ◌∙◌, arith}
+use Rattle.std.proofs.Common.{◌+◌, ◌-◌, ℕ, ap, ap₂, ◌∙◌, arith}
 use Rattle.std.specs.Prelude.{slice_index_or}
 use Rattle.std.proofs.lemmas.List.{length-map}
 use Rattle.spec_board.specs.State.{Total}
-use Rattle.spec_dumps.specs.declared.rule_counts.RuleCounts.{RuleCounts}
 use Rattle.port_caches.specs.Sums.{IsRule}
 use Rattle.flow_dump.specs.Sums.{sum_view, sums_view, with_total}
 use Rattle.flow_dump.proofs.sums.Adding.{one_added}
