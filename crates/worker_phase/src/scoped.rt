@@ -12,7 +12,7 @@ use run_case::Case;
 use std::alloc::{AllocError, Global};
 use std::sync::Wait;
 use std::thread;
-use std::thread::{JoinHandle, SpawnError, Threads};
+use std::thread::{JoinHandle, Scope, SpawnError, Threads};
 use table_versions::RunTables;
 
 /// The workers of a phase beside its editor.
@@ -50,32 +50,116 @@ fn begin<T, F: FnOnce() -> T>(spawned: Result<JoinHandle<T>, SpawnError<F>>) -> 
     }
 }
 
-// The receive workers, once all have ended.
-fn join_receivers<C: Case, P: Phase, R: Threads>(
-    rt: &R,
-    alloc: Global,
-    begun: Vec<Begun<Receiver<C, P>>>,
-) -> Result<Vec<Receiver<C, P>>, AllocError> {
-    let mut receivers = Vec::with_capacity(alloc, begun.len())?;
-    'begun: for one in begun {
-        receivers.push(one.join(rt))?;
-    }
-    Ok(receivers)
+/// A worker of a phase that works in a thread of its own.
+trait InThread<C: Case, T: RunTables<C>, P: Phase, R: Threads + Wait, G: Gate>: Drop {
+    // Works until the phase has ended, and gives the worker back. The only error is out of memory.
+    fn work(
+        self,
+        rt: &R,
+        alloc: Global,
+        shared: &Shared<'_, C, T, P>,
+        gate: &G,
+    ) -> (Self, Result<(), AllocError>);
 }
 
-// The handlers, once all have ended.
-fn join_handlers<C: Case, T: RunTables<C>, P: Phase, R: Threads>(
+impl<C: Case, T: RunTables<C>, P: Phase, R: Threads + Wait, G: Gate> InThread<C, T, P, R, G>
+    for Receiver<C, P> {
+    fn work(
+        self,
+        rt: &R,
+        _alloc: Global,
+        shared: &Shared<'_, C, T, P>,
+        gate: &G,
+    ) -> (Receiver<C, P>, Result<(), AllocError>) {
+        (receive(rt, shared, self, gate), Ok(()))
+    }
+}
+
+impl<C: Case, T: RunTables<C>, P: Phase, R: Threads + Wait, G: Gate> InThread<C, T, P, R, G>
+    for Handler<C, T, P> {
+    fn work(
+        self,
+        rt: &R,
+        alloc: Global,
+        shared: &Shared<'_, C, T, P>,
+        gate: &G,
+    ) -> (Handler<C, T, P>, Result<(), AllocError>) {
+        handle(rt, alloc, shared, self, gate)
+    }
+}
+
+impl<C: Case, T: RunTables<C>, P: Phase, R: Threads + Wait, G: Gate> InThread<C, T, P, R, G>
+    for Revalidator<C, T, P> {
+    fn work(
+        self,
+        rt: &R,
+        alloc: Global,
+        shared: &Shared<'_, C, T, P>,
+        gate: &G,
+    ) -> (Revalidator<C, T, P>, Result<(), AllocError>) {
+        revalidate(rt, alloc, shared, self, gate)
+    }
+}
+
+// Begins the work of a worker.
+fn begin_one<
+    's,
+    E,
+    C: Case + Send + Sync,
+    T: RunTables<C> + Send + Sync,
+    P: Phase + Send + Sync,
+    R: Threads + Wait + Sync,
+    G: Gate + Sync,
+    W: InThread<C, T, P, R, G> + Send + 's,
+>(
+    scope: &Scope<'s, E>,
+    rt: &'s R,
+    alloc: Global,
+    shared: &'s Shared<'s, C, T, P>,
+    gate: &'s G,
+    worker: W,
+) -> Begun<(W, Result<(), AllocError>)> {
+    begin(scope.spawn(move || worker.work(rt, alloc, shared, gate)))
+}
+
+// Begins the work of each.
+fn begin_each<
+    's,
+    E,
+    C: Case + Send + Sync,
+    T: RunTables<C> + Send + Sync,
+    P: Phase + Send + Sync,
+    R: Threads + Wait + Sync,
+    G: Gate + Sync,
+    W: InThread<C, T, P, R, G> + Send + 's,
+>(
+    scope: &Scope<'s, E>,
+    rt: &'s R,
+    alloc: Global,
+    shared: &'s Shared<'s, C, T, P>,
+    gate: &'s G,
+    workers: Vec<W>,
+) -> Result<Vec<Begun<(W, Result<(), AllocError>)>>, AllocError> {
+    let mut begun = Vec::with_capacity(alloc, workers.len())?;
+    'workers: for worker in workers {
+        begun.push(begin_one(scope, rt, alloc, shared, gate, worker))?;
+    }
+    Ok(begun)
+}
+
+// The workers, once all have ended.
+fn join_each<W: Drop, R: Threads>(
     rt: &R,
     alloc: Global,
-    begun: Vec<Begun<(Handler<C, T, P>, Result<(), AllocError>)>>,
-) -> Result<Vec<Handler<C, T, P>>, AllocError> {
-    let mut handlers = Vec::with_capacity(alloc, begun.len())?;
+    begun: Vec<Begun<(W, Result<(), AllocError>)>>,
+) -> Result<Vec<W>, AllocError> {
+    let mut workers = Vec::with_capacity(alloc, begun.len())?;
     'begun: for one in begun {
-        let (handler, done) = one.join(rt);
+        let (worker, done) = one.join(rt);
         done?;
-        handlers.push(handler)?;
+        workers.push(worker)?;
     }
-    Ok(handlers)
+    Ok(workers)
 }
 
 /// Runs the workers of a phase, each in a thread of its own, and gives them back once all have ended. The receive workers
@@ -106,27 +190,13 @@ pub fn work<
                 handlers,
                 revalidator,
             } = workers;
-            let mut receiving = Vec::new(alloc);
-            'receivers: for receiver in receivers {
-                receiving.push(begin(scope.spawn(move || receive(rt, shared, receiver, gate))))?;
-            }
+            let receiving = begin_each(scope, rt, alloc, shared, gate, receivers)?;
             let editing = begin(scope.spawn(move || edit(rt, shared, slot, gate)));
-            let mut handling = Vec::new(alloc);
-            'handlers: for handler in handlers {
-                handling.push(begin(scope.spawn(move || handle(
-                    rt, alloc, shared, handler, gate,
-                ))))?;
-            }
-            let sweeping = begin(scope.spawn(move || revalidate(
-                rt,
-                alloc,
-                shared,
-                revalidator,
-                gate,
-            )));
-            let receivers = join_receivers(rt, alloc, receiving)?;
+            let handling = begin_each(scope, rt, alloc, shared, gate, handlers)?;
+            let sweeping = begin_one(scope, rt, alloc, shared, gate, revalidator);
+            let receivers = join_each(rt, alloc, receiving)?;
             editing.join(rt);
-            let handlers = join_handlers(rt, alloc, handling)?;
+            let handlers = join_each(rt, alloc, handling)?;
             let (revalidator, swept) = sweeping.join(rt);
             swept?;
             Ok(Workers {

@@ -21,23 +21,6 @@ spawn-requires-send-F g c κs within =
     let kept_sync : IsSync (param 1 g.row.T) = param_sync 1 _ bounds.4 in
     let of_sync : IsSync (param 2 g.row.P) = param_sync 2 _ bounds.5 in
     let rt : IsSend (ShrRef (named 5) κs.1.1.1.1.1.0 (param 3 g.row.R)) = shr_send _ _ _ (param_sync 3 _ bounds.6) in
-    let gate : IsSend (ShrRef (named 8) κs.1.1.1.1.1.1.1.1.0 (param 4 g.row.G)) = shr_send _ _ _ (param_sync 4 _ bounds.7) in
-    let ℓ : NamedLft = record { mir = named 7; lft = κs.1.1.1.1.1.1.1.0 } in
-    let shared : IsSend (ShrRef (named 6) κs.1.1.1.1.1.1.0 (shared_state.the_row ℓ (param 0 g.row.C) (param 1 g.row.T) (param 2 g.row.P) g.C.Case g.P.Phase g.T.RunTables)) =
-    shr_send _ _ _ (shared_sync (param 0 g.row.C) (param 1 g.row.T) (param 2 g.row.P) g.C.Case g.T.RunTables g.P.Phase c_send c_sync kept_send kept_sync of_send of_sync ℓ) in
-    let receiver = receiver_send (param 0 g.row.C) (param 2 g.row.P) g.C.Case g.P.Phase c_send c_sync of_send of_sync in
-    param_send 1 _ (arg_send _ exit.no _ (tuple4_send _ _ _ _ _ rt shared receiver gate))
-
-pub spawn-requires-2-send-F : goal.spawn-requires-2-send-F
-spawn-requires-2-send-F g c κs within =
-    let bounds = c.requires.1.1.1.1.1 in
-    let c_send : IsSend (param 0 g.row.C) = param_send 0 _ bounds.0 in
-    let kept_send : IsSend (param 1 g.row.T) = param_send 1 _ bounds.1 in
-    let of_send : IsSend (param 2 g.row.P) = param_send 2 _ bounds.2 in
-    let c_sync : IsSync (param 0 g.row.C) = param_sync 0 _ bounds.3 in
-    let kept_sync : IsSync (param 1 g.row.T) = param_sync 1 _ bounds.4 in
-    let of_sync : IsSync (param 2 g.row.P) = param_sync 2 _ bounds.5 in
-    let rt : IsSend (ShrRef (named 5) κs.1.1.1.1.1.0 (param 3 g.row.R)) = shr_send _ _ _ (param_sync 3 _ bounds.6) in
     let ℓ : NamedLft = record { mir = named 7; lft = κs.1.1.1.1.1.1.1.0 } in
     let shared : IsSend (ShrRef (named 6) κs.1.1.1.1.1.1.0 (shared_state.the_row ℓ (param 0 g.row.C) (param 1 g.row.T) (param 2 g.row.P) g.C.Case g.P.Phase g.T.RunTables)) =
     shr_send _ _ _ (shared_sync (param 0 g.row.C) (param 1 g.row.T) (param 2 g.row.P) g.C.Case g.T.RunTables g.P.Phase c_send c_sync kept_send kept_sync of_send of_sync ℓ) in
@@ -46,60 +29,29 @@ spawn-requires-2-send-F g c κs within =
     let gate : IsSend (ShrRef (named 9) κs.1.1.1.1.1.1.1.1.1.0 (param 4 g.row.G)) = shr_send _ _ _ (param_sync 4 _ bounds.7) in
     param_send 1 _ (arg_send _ exit.no _ (tuple4_send _ _ _ _ _ rt shared slot gate))
 
-pub spawn-requires-in-handlers-send-F : goal.spawn-requires-in-handlers-send-F
-spawn-requires-in-handlers-send-F g c κs within =
-    let bounds = c.requires.1.1.1.1.1 in
-    let c_send : IsSend (param 0 g.row.C) = param_send 0 _ bounds.0 in
-    let kept_send : IsSend (param 1 g.row.T) = param_send 1 _ bounds.1 in
-    let of_send : IsSend (param 2 g.row.P) = param_send 2 _ bounds.2 in
-    let c_sync : IsSync (param 0 g.row.C) = param_sync 0 _ bounds.3 in
-    let kept_sync : IsSync (param 1 g.row.T) = param_sync 1 _ bounds.4 in
-    let of_sync : IsSync (param 2 g.row.P) = param_sync 2 _ bounds.5 in
-    let rt : IsSend (ShrRef (named 5) κs.1.1.1.1.1.0 (param 3 g.row.R)) = shr_send _ _ _ (param_sync 3 _ bounds.6) in
-    let gate : IsSend (ShrRef (named 8) κs.1.1.1.1.1.1.1.1.0 (param 4 g.row.G)) = shr_send _ _ _ (param_sync 4 _ bounds.7) in
-    let ℓ : NamedLft = record { mir = named 7; lft = κs.1.1.1.1.1.1.1.0 } in
-    let shared : IsSend (ShrRef (named 6) κs.1.1.1.1.1.1.0 (shared_state.the_row ℓ (param 0 g.row.C) (param 1 g.row.T) (param 2 g.row.P) g.C.Case g.P.Phase g.T.RunTables)) =
-    shr_send _ _ _ (shared_sync (param 0 g.row.C) (param 1 g.row.T) (param 2 g.row.P) g.C.Case g.T.RunTables g.P.Phase c_send c_sync kept_send kept_sync of_send of_sync ℓ) in
-    let handler = handler_send (param 0 g.row.C) (param 1 g.row.T) (param 2 g.row.P) g.C.Case g.T.RunTables g.P.Phase c_send c_sync kept_send kept_sync of_send of_sync in
-    param_send 1 _ (arg_send _ exit.no _ (tuple5_send _ _ _ _ _ _ rt std.send shared handler gate))
+pub begin_each-requires-send-C : goal.begin_each-requires-send-C
+begin_each-requires-send-C g c κs within = param_send 1 _ (param_send 0 _ c.requires.1.1.1.1.1.0)
 
-pub spawn-requires-in-handlers-send-T : goal.spawn-requires-in-handlers-send-T
-spawn-requires-in-handlers-send-T g c κs within =
-    let bounds = c.requires.1.1.1.1.1 in
-    let c_send : IsSend (param 0 g.row.C) = param_send 0 _ bounds.0 in
-    let kept_send : IsSend (param 1 g.row.T) = param_send 1 _ bounds.1 in
-    let of_send : IsSend (param 2 g.row.P) = param_send 2 _ bounds.2 in
-    let c_sync : IsSync (param 0 g.row.C) = param_sync 0 _ bounds.3 in
-    let kept_sync : IsSync (param 1 g.row.T) = param_sync 1 _ bounds.4 in
-    let of_sync : IsSync (param 2 g.row.P) = param_sync 2 _ bounds.5 in
-    let handler = handler_send (param 0 g.row.C) (param 1 g.row.T) (param 2 g.row.P) g.C.Case g.T.RunTables g.P.Phase c_send c_sync kept_send kept_sync of_send of_sync in
-    param_send 2 _ (arg_send _ exit.no _ (tuple2_send _ _ _ handler done_send))
+pub begin_each-requires-send-T : goal.begin_each-requires-send-T
+begin_each-requires-send-T g c κs within = param_send 2 _ (param_send 1 _ c.requires.1.1.1.1.1.1)
 
-pub spawn-requires-3-send-F : goal.spawn-requires-3-send-F
-spawn-requires-3-send-F g c κs within =
-    let bounds = c.requires.1.1.1.1.1 in
-    let c_send : IsSend (param 0 g.row.C) = param_send 0 _ bounds.0 in
-    let kept_send : IsSend (param 1 g.row.T) = param_send 1 _ bounds.1 in
-    let of_send : IsSend (param 2 g.row.P) = param_send 2 _ bounds.2 in
-    let c_sync : IsSync (param 0 g.row.C) = param_sync 0 _ bounds.3 in
-    let kept_sync : IsSync (param 1 g.row.T) = param_sync 1 _ bounds.4 in
-    let of_sync : IsSync (param 2 g.row.P) = param_sync 2 _ bounds.5 in
-    let rt : IsSend (ShrRef (named 5) κs.1.1.1.1.1.0 (param 3 g.row.R)) = shr_send _ _ _ (param_sync 3 _ bounds.6) in
-    let gate : IsSend (ShrRef (named 8) κs.1.1.1.1.1.1.1.1.0 (param 4 g.row.G)) = shr_send _ _ _ (param_sync 4 _ bounds.7) in
-    let ℓ : NamedLft = record { mir = named 7; lft = κs.1.1.1.1.1.1.1.0 } in
-    let shared : IsSend (ShrRef (named 6) κs.1.1.1.1.1.1.0 (shared_state.the_row ℓ (param 0 g.row.C) (param 1 g.row.T) (param 2 g.row.P) g.C.Case g.P.Phase g.T.RunTables)) =
-    shr_send _ _ _ (shared_sync (param 0 g.row.C) (param 1 g.row.T) (param 2 g.row.P) g.C.Case g.T.RunTables g.P.Phase c_send c_sync kept_send kept_sync of_send of_sync ℓ) in
-    let revalidator = revalidator_send (param 0 g.row.C) (param 1 g.row.T) (param 2 g.row.P) g.C.Case g.T.RunTables g.P.Phase c_send c_sync kept_send kept_sync of_send of_sync in
-    param_send 1 _ (arg_send _ exit.no _ (tuple5_send _ _ _ _ _ _ rt std.send shared revalidator gate))
+pub begin_each-requires-send-P : goal.begin_each-requires-send-P
+begin_each-requires-send-P g c κs within = param_send 3 _ (param_send 2 _ c.requires.1.1.1.1.1.2)
 
-pub spawn-requires-3-send-T : goal.spawn-requires-3-send-T
-spawn-requires-3-send-T g c κs within =
-    let bounds = c.requires.1.1.1.1.1 in
-    let c_send : IsSend (param 0 g.row.C) = param_send 0 _ bounds.0 in
-    let kept_send : IsSend (param 1 g.row.T) = param_send 1 _ bounds.1 in
-    let of_send : IsSend (param 2 g.row.P) = param_send 2 _ bounds.2 in
-    let c_sync : IsSync (param 0 g.row.C) = param_sync 0 _ bounds.3 in
-    let kept_sync : IsSync (param 1 g.row.T) = param_sync 1 _ bounds.4 in
-    let of_sync : IsSync (param 2 g.row.P) = param_sync 2 _ bounds.5 in
-    let revalidator = revalidator_send (param 0 g.row.C) (param 1 g.row.T) (param 2 g.row.P) g.C.Case g.T.RunTables g.P.Phase c_send c_sync kept_send kept_sync of_send of_sync in
-    param_send 2 _ (arg_send _ exit.no _ (tuple2_send _ _ _ revalidator done_send))
+pub begin_each-requires-2-send-C : goal.begin_each-requires-2-send-C
+begin_each-requires-2-send-C g c κs within = param_send 1 _ (param_send 0 _ c.requires.1.1.1.1.1.0)
+
+pub begin_each-requires-2-send-T : goal.begin_each-requires-2-send-T
+begin_each-requires-2-send-T g c κs within = param_send 2 _ (param_send 1 _ c.requires.1.1.1.1.1.1)
+
+pub begin_each-requires-2-send-P : goal.begin_each-requires-2-send-P
+begin_each-requires-2-send-P g c κs within = param_send 3 _ (param_send 2 _ c.requires.1.1.1.1.1.2)
+
+pub begin_one-sweeping-requires-send-C : goal.begin_one-sweeping-requires-send-C
+begin_one-sweeping-requires-send-C g c κs within = param_send 1 _ (param_send 0 _ c.requires.1.1.1.1.1.0)
+
+pub begin_one-sweeping-requires-send-T : goal.begin_one-sweeping-requires-send-T
+begin_one-sweeping-requires-send-T g c κs within = param_send 2 _ (param_send 1 _ c.requires.1.1.1.1.1.1)
+
+pub begin_one-sweeping-requires-send-P : goal.begin_one-sweeping-requires-send-P
+begin_one-sweeping-requires-send-P g c κs within = param_send 3 _ (param_send 2 _ c.requires.1.1.1.1.1.2)
