@@ -5,10 +5,10 @@
     python3 diff_rows.py PROGRAM OLD NEW PORT..
 
 Of a made-up pair NEW is OLD with some lines left out, moved, or with actions and matches of others; the second command
-takes two files that are there. Packets are tried of each class, beside each class by one bit, of frames, and of no frame at
-all. Each has to be in exactly one class, which says what the simulation does to it under both files, or in none and treated
-alike. Round n is the same at each call. It prints the first packet that is told otherwise, and ends with 1; else it tells
-how many rounds ended with which status, and how many packets were tried.
+takes two files that are there. Packets are tried of each match, beside each match by one bit, of frames, and of no frame at
+all. The first match that has it says what the simulation does to it under both files, or that this is the same; where none
+has it, it is the same too. Round n is the same at each call. It prints the first packet that is told otherwise, and ends
+with 1; else it tells how many rounds ended with which status, and how many packets were tried.
 """
 import ipaddress
 import os
@@ -29,9 +29,10 @@ from simulation.frame_key import key_of
 from simulation.switch import read_edits, read_text
 from simulation.translation import REGISTERS, translate
 
-Class = namedtuple("Class", "key mask old new")
+# A match, and what both do; None where they do the same.
+Line = namedtuple("Line", "key mask said")
 
-# The packets that are tried of a class, and beside it, and the random ones.
+# The packets that are tried of a match, and beside it, and the random ones.
 INSIDE, BESIDE, ANYWHERE = 4, 4, 200
 # A round whose comparison takes longer is left out.
 SECONDS = 3
@@ -65,20 +66,24 @@ def read_item(item):
     return value << BEGIN[name], mask << BEGIN[name]
 
 
-def read_class(match, old, new):
+def read_line(match, said):
     items = [read_item(item) for item in match.split(",")]
-    return Class(sum(key for key, _ in items), sum(mask for _, mask in items), old.removeprefix("- "), new.removeprefix("+ "))
+    return Line(sum(key for key, _ in items), sum(mask for _, mask in items), said)
 
 
-def read_classes(text):
-    """The classes of a text, whose last line counts them."""
-    lines = text.splitlines()
-    if not lines:
-        return []
-    classes = [read_class(*lines[at : at + 3]) for at in range(0, len(lines) - 1, 3)]
-    kinds = {(it.old, it.new) for it in classes}
-    assert lines[-1] == f"{len(classes)} classes, {len(kinds)} kinds", lines[-1]
-    return classes
+def read_lines(text):
+    """The lines of a text, the last of which counts classes and kinds."""
+    *rest, counts = text.splitlines() or [""]
+    lines = []
+    while rest:
+        match, first, *rest = rest
+        said = None
+        if first != "=":
+            said = (first.removeprefix("- "), rest.pop(0).removeprefix("+ "))
+        lines.append(read_line(match, said))
+    told = [line.said for line in lines if line.said]
+    assert not lines or counts == f"{len(told)} classes, {len(set(told))} kinds", counts
+    return lines
 
 
 def changed(pick, lines):
@@ -125,9 +130,9 @@ def tables_of(data):
     return Tables(rules.live.values())
 
 
-def packets(pick, ports, frames, classes):
+def packets(pick, ports, frames, lines):
     """Keys of packets that are tried."""
-    for it in pick.sample(classes, min(len(classes), 40)):
+    for it in pick.sample(lines, min(len(lines), 40)):
         for _ in range(INSIDE):
             yield it.key | pick.getrandbits(ALL.bit_length()) & ALL & ~it.mask
         bits = [bit for bit in range(it.mask.bit_length()) if it.mask >> bit & 1]
@@ -152,15 +157,15 @@ def done_as(actions, ports, key):
     return print_datapath_actions(translate(tables_of(f"actions={actions}\n".encode()), ports, key).actions)
 
 
-def is_told(classes, ports, tables, key):
-    """Whether a packet is told as the simulation treats it. Of other ports nothing is told."""
+def is_told(lines, ports, tables, key):
+    """Whether a packet is told as the simulation treats it. Of other ports no difference is told."""
+    said = next((it.said for it in lines if key & it.mask == it.key), None)
     if key >> BEGIN["in_port"] & full(16) not in ports:
-        return True
+        return said is None
     old, new = (print_datapath_actions(translate(each, ports, key).actions) for each in tables)
-    its = [it for it in classes if key & it.mask == it.key]
-    if not its:
+    if said is None:
         return old == new
-    return old != new and [(done_as(it.old, ports, key), done_as(it.new, ports, key)) for it in its] == [(old, new)]
+    return old != new and (done_as(said[0], ports, key), done_as(said[1], ports, key)) == (old, new)
 
 
 def read_file(name):
@@ -168,12 +173,12 @@ def read_file(name):
         return file.read()
 
 
-def otherwise(number, classes, ports, frames, old, new):
+def otherwise(number, lines, ports, frames, old, new):
     """How many packets were tried, up to the first that is told otherwise, and what is to be said of that."""
     tables, tried = (tables_of(old), tables_of(new)), 0
-    for key in packets(random.Random(number), ports, frames, classes):
+    for key in packets(random.Random(number), ports, frames, lines):
         tried += 1
-        if not is_told(classes, ports, tables, key):
+        if not is_told(lines, ports, tables, key):
             return tried, f"tells otherwise of the key {key:#x}: {old!r} and {new!r}"
     return tried, None
 
@@ -182,9 +187,9 @@ def compare_files(program, old, new, ports):
     _, frames, _, _ = made_pair(0)
     old, new, ports = read_file(old), read_file(new), [int(port) for port in ports]
     _, text = compared(program, ports, old, new)
-    classes = read_classes(text)
-    tried, fault = otherwise(0, classes, ports, frames, old, new)
-    print(fault or f"{len(classes)} classes, {tried} packets")
+    lines = read_lines(text)
+    tried, fault = otherwise(0, lines, ports, frames, old, new)
+    print(fault or f"{len(lines)} matches, {tried} packets")
     return 1 if fault else 0
 
 
@@ -204,11 +209,11 @@ def main(words):
         ended[status] += 1
         if status > 1:
             continue
-        classes = read_classes(text)
-        if status != bool(classes):
-            print(f"round {number}: status {status} of {len(classes)} classes")
+        lines = read_lines(text)
+        if status != any(line.said for line in lines):
+            print(f"round {number}: status {status} of {len(lines)} matches")
             return 1
-        more, fault = otherwise(number, classes, ports, frames, old, new)
+        more, fault = otherwise(number, lines, ports, frames, old, new)
         tried += more
         if fault:
             print(f"round {number} {fault}")

@@ -1,5 +1,5 @@
 -- How a call ends, from what a refusal leaves and what is printed of it; and what follows from how it ends.
-use Rattle.std.proofs.Common.{◌≡◌, ◌≢◌, ℕ, List, refl, sym, subst, inl, inr, arith}
+use Rattle.std.proofs.Common.{◌≡◌, ℕ, List, refl, sym, subst, inl, inr, arith}
 use Rattle.std.specs.Prelude.{◌⊎◌, IsTrue, IsOk, IfErr, Result, Ok, Err}
 use Rattle.spec_base.specs.Counts.{Rose}
 use Rattle.spec_run.specs.Statuses.{done_status, limit_status, read_fault_status, out_of_memory_status, read_fault_text, status_of as run_status, Prints}

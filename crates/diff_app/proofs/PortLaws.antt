@@ -1,5 +1,5 @@
 -- The ports of words, word by word.
-use Rattle.std.proofs.Common.{◌≡◌, ℕ, zero, suc, ◌+◌, ◌<◌, ◌≤◌, Bool, true, false, List, [], ◌∷◌, ◌++◌, length, get_or, drop, map, Option, Some, None, refl, sym, ap, ◌∙◌, arith}
+use Rattle.std.proofs.Common.{◌≡◌, ℕ, zero, suc, ◌+◌, ◌<◌, ◌≤◌, Bool, true, false, List, [], ◌∷◌, ◌++◌, length, get_or, drop, Some, None, refl, sym, ap, ◌∙◌, arith}
 use Rattle.std.specs.Prelude.{nat_lt, String, string_bytes}
 use Rattle.std.specs.declared.alloc.Global.{Global}
 use Rattle.std.proofs.lemmas.Bool.Decides.{nat_tests}
@@ -7,7 +7,7 @@ use Rattle.std.proofs.lemmas.List.{drop_more, length-map}
 use Rattle.command_words.specs.CommandViews.{texts}
 use Rattle.spec_words.specs.Words.{most_ports}
 use Rattle.spec_trace.specs.Words.{new_port}
-use Rattle.spec_diff.specs.Words.{Command, ports_with, ports_of, command_from, command_in}
+use Rattle.spec_diff.specs.Words.{ports_with, ports_of, command_from, command_in}
 
 pub one_port : (before word : List ℕ) (words : List (List ℕ)) (port : ℕ) → new_port before word ≡ Some port
     → ports_with before (word ∷ words) ≡ ports_with (before ++ port ∷ []) words

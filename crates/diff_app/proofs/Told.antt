@@ -1,8 +1,7 @@
 -- What stands where no difference is told, by the refusal.
-use Rattle.std.proofs.Common.{◌≡◌, ℕ, List, [], ◌∷◌, ◌⊎◌, inl, inr, refl, sym, ap, ◌∙◌, subst}
-use Rattle.std.specs.Prelude.{IsTrue}
+use Rattle.std.proofs.Common.{◌≡◌, ℕ, List, [], ◌∷◌, ◌⊎◌, inl, inr, refl}
 use Rattle.spec_run.specs.Statuses.{done_status}
-use Rattle.spec_diff.specs.Classes.{Class}
+use Rattle.spec_diff.specs.Lines.{Line}
 use Rattle.spec_diff.specs.Statuses.{differ_status, found_status}
 use Rattle.edge_io.specs.declared.outside.Shelf as shelf
 use Rattle.edge_io.specs.declared.outside.Sink as sink
@@ -22,9 +21,9 @@ unread_leaves g h words old new said saying TooManyCubes untold left = absurd un
 unread_leaves g h words old new said saying (Printing f) untold left = absurd untold
 
 -- the status of a comparison is one of two
-pub found : (classes : List Class) (status : ℕ) → status ≡ found_status classes → (status ≡ done_status) ⊎ (status ≡ differ_status)
+pub found : (lines : List Line) (status : ℕ) → status ≡ found_status lines → (status ≡ done_status) ⊎ (status ≡ differ_status)
 found [] status is = inl is
-found (c ∷ classes) status is = inr is
+found (l ∷ lines) status is = inr is
 
 -- a comparison that is given up, or memory that runs out in it
 pub unfound_leaves : {S K : Type 0} (g : shelf.Ghosts S) (h : sink.Ghosts K) (words : List (List ℕ)) (old new : S) (said saying : K) (e : CompareError)

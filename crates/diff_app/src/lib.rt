@@ -10,8 +10,7 @@
 //! what is said of text where the sink does.
 //!
 //! - Where all is done, the verdict accepts the words and both files, and exactly the text of a difference is
-//!   printed: of classes that are the `IsDifference` of both switches. The status is 0 where there is none, and else
-//!   1.
+//!   printed: of lines that are the `IsListed` of both switches. The status is 0 where there is none, and else 1.
 //! - Every other status has its cause. An input is refused as the verdict refuses it, the first in the order of
 //!   reading. A comparison is given up only where there is something left after as many cubes as are looked into. A
 //!   fault in reading is told only where calls of reading failed, and of the last file that was opened, and one in
@@ -29,7 +28,7 @@
 //!
 //! # What is left to others
 //!
-//! Edits to `switch_input`, the comparison to `table_diff`, its text to `lines`, texts and statuses that the
+//! Edits to `switch_input`, the comparison to `table_diff`, its lines to `class_list` and their text to `lines`, texts and statuses that the
 //! switch has too to `switch_input::refusals`, and all that touches the system to `edge_io`.
 //!
 //! The lines of a difference stand in `lines`.

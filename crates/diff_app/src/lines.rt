@@ -2,13 +2,13 @@
 //!
 //! # What?
 //!
-//! For each class three lines: its match as a dump of megaflows has it, what the old rules do after `- `, and what
-//! the new ones do after `+ `. In brief, a line for each pair of actions, with the number of its classes. At the end
-//! a line counts both.
+//! For each line its match as a dump of megaflows has it. If it tells a difference, it is a class, and there stand what
+//! the old rules do after `- `, and what the new ones do after `+ `; else `=`. In brief, a line for each pair of
+//! actions, with the number of its classes. At the end a line counts both.
 //!
 //! # What is promised
 //!
-//! `print_difference` adds exactly the text that `spec_diff::run` gives, and nothing where there is no class. Out of
+//! `print_difference` adds exactly the text that `spec_diff::run` gives, and nothing where there is no line. Out of
 //! memory is the only error, and then the string has what it had, and perhaps a part of the text.
 //!
 //! # How
@@ -18,7 +18,7 @@
 //!
 //! # What is left to others
 //!
-//! The classes (`table_diff`), matches (`dump_lines::megaflows`), datapath actions (`dp_text`) and flow actions
+//! The lines (`class_list`), matches (`dump_lines::megaflows`), datapath actions (`dp_text`) and flow actions
 //! (`action_text`).
 
 mod kinds;

@@ -7,8 +7,8 @@ ghost use Rattle.spec_diff.specs.Progress.{IsUnfinished, cube_limit};
 ghost use Rattle.spec_diff.specs.Verdict.{old_switch, new_switch, verdict};
 ghost use Rattle.spec_diff.specs.Statuses.{differ_status, found_status};
 ghost use Rattle.spec_diff.specs.Outputs.{Tells};
-ghost use Rattle.spec_diff.specs.Texts.{text_of_classes};
-ghost use Rattle.table_diff.specs.Cubes.{classes_view};
+ghost use Rattle.spec_diff.specs.Texts.{text_of_lines};
+ghost use Rattle.class_list.specs.LineViews.{lines_view};
 ghost use Rattle.diff_app.specs.InputViews.{accepted_view, AreComparable};
 ghost use Rattle.diff_app.specs.Ends.{Ends, IsCompared};
 ghost use Rattle.diff_app.specs.Leaving.{Leaves};
@@ -19,10 +19,11 @@ use crate::lines::print_difference;
 use crate::refusal::Refusal;
 use crate::say::say_refusal;
 use crate::status::{DIFFER, status_of};
+use class_list::{Line, lines_of};
 use edge_io::{Failed, Shelf, Sink, say_all};
 use std::alloc::{AllocError, Global};
 use switch_input::refusals::DONE;
-use table_diff::{Class, CompareError, compare};
+use table_diff::{CompareError, compare};
 
 /// The text of a difference, and the status that goes with it.
 #[derive(Drop)]
@@ -31,24 +32,24 @@ struct Told {
     status: u8,
 }
 
-fn found_status(classes: &[Class]) -> u8
-    ensures { result ≡ found_status (classes_view classes.now) }
+fn found_status(lines: &[Line<'_>]) -> u8
+    ensures { result ≡ found_status (lines_view lines.now) }
 {
-    match classes {
+    match lines {
         [] => DONE,
         [_, ..] => DIFFER,
     }
 }
 
-fn tell(alloc: Global, classes: &[Class], brief: bool) -> Result<Told, AllocError>
-    ensures text { IfOk result (λ t. string_bytes t.text ≡ text_of_classes brief (classes_view classes.now)) }
-    ensures status { IfOk result (λ t. t.status ≡ found_status (classes_view classes.now)) }
+fn tell(alloc: Global, lines: &[Line<'_>], brief: bool) -> Result<Told, AllocError>
+    ensures text { IfOk result (λ t. string_bytes t.text ≡ text_of_lines brief (lines_view lines.now)) }
+    ensures status { IfOk result (λ t. t.status ≡ found_status (lines_view lines.now)) }
 {
     let mut text = String::new(alloc);
-    print_difference(&mut text, classes, brief)?;
+    print_difference(&mut text, lines, brief)?;
     Ok(Told {
         text,
-        status: found_status(classes),
+        status: found_status(lines),
     })
 }
 
@@ -60,8 +61,10 @@ fn find(alloc: Global, inputs: &Inputs) -> Result<Told, CompareError>
         IsUnfinished (old_switch (accepted_view inputs.now)) (new_switch (accepted_view inputs.now))
         inputs.now.ports.items cube_limit) }
 {
-    let classes = compare(alloc, &inputs.old, &inputs.new, &inputs.ports)?;
-    let told = tell(alloc, &classes, inputs.brief)?;
+    let ports = inputs.ports.as_slice();
+    let classes = compare(alloc, &inputs.old, &inputs.new, ports)?;
+    let lines = lines_of(alloc, &inputs.old, &inputs.new, ports, classes.as_slice())?;
+    let told = tell(alloc, lines.as_slice(), inputs.brief)?;
     Ok(told)
 }
 
@@ -113,9 +116,10 @@ fn end<S: Shelf, K: Sink>(alloc: Global, words: &[String], shelf: &mut S, say: &
 /// The words are those after the program's name: `[--brief] OLD NEW PORT..`. OLD and NEW name the files, whose lines
 /// are as `megaswitch` reads them; sync lines say nothing here. The ports of the switch are 1 to 32 numbers.
 ///
-/// For each class of packets three lines are printed: the match, and what the old tables and the new ones do; with
-/// `--brief` one line for each pair of actions. A last line counts both. Nothing is printed where no packet is
-/// treated differently, and nothing is written to the shelf.
+/// For each class of packets three lines are printed: the match, and what the old tables and the new ones do, where no
+/// match before has the packet; of packets that both treat alike, and that are to be taken out of those that follow, the
+/// match and a line with `=`. With `--brief` one line is printed for each pair of actions. A last line counts classes
+/// and pairs. Nothing is printed where no packet is treated differently, and nothing is written to the shelf.
 ///
 /// The answer is the exit status: 0 where no packet is treated differently, 1 where some is. `spec_diff::run` has the
 /// others, and the text that is printed with each. Of a text a prefix may be missing its end where the sink fails.

@@ -1,12 +1,10 @@
--- What a list of classes says of the frames of two runs, and of what these write.
+-- What a list of lines says of the frames of two runs, and of what these write.
 use Rattle.std.proofs.Common.{◌≡◌, ◌⊎◌, inl, inr, ℕ, suc, ◌≤◌, ◌==◌, ◌||◌, Bool, true, false, List, [], ◌∷◌, length, All, refl, sym, ap, ap₂, ◌∙◌, subst, arith}
-use Rattle.std.specs.Prelude.{IsTrue}
 use Rattle.std.specs.List.{flat_map, filter_map, list_any}
 use Rattle.std.proofs.Math.Path.{fun_ext}
 use Rattle.std.proofs.lemmas.Bool.{eqb-true}
 use Rattle.spec_pcap.specs.Pcap.{Capture, Frame, file_of}
 use Rattle.spec_actions.specs.declared.action.DpAction.{DpAction}
-use Rattle.spec_tables.specs.Rules.{is_matched}
 use Rattle.spec_case.specs.declared.arrival.Arrival.{Arrival}
 use Rattle.spec_case.specs.Run.{Run, frames_of, frame_at, is_nanos}
 use Rattle.spec_case.specs.Arrivals.{arrivals, in_order}
@@ -18,9 +16,11 @@ use Rattle.spec_netflow.specs.Datagrams.{netflow_file}
 use Rattle.spec_run.specs.Journals.{actions_for}
 use Rattle.spec_run.specs.Mirrored.{copy_of, mirror_file_name, mirror_file}
 use Rattle.spec_run.specs.Outputs.{frames_by, frames_out, port_file_name, port_file}
-use Rattle.spec_diff.specs.Classes.{Class, IsOf, IsRight, IsFrameKey, done, done_as, holding, matches_of}
+use Rattle.spec_diff.specs.Classes.{IsFrameKey, done, done_as}
+use Rattle.spec_diff.specs.Lines.{Said, Line, IsAsSaid, said_of}
+use Rattle.spec_diff.specs.Lines.Said.{Alike, Differ}
 use Rattle.board_laws.specs.Entries.{AreOfBytes}
-use Rattle.diff_laws.specs.Runs.{last_switch, AreByAllEdits, AreCompared, HasNone, IsAsSaid, IsTreated}
+use Rattle.diff_laws.specs.Runs.{last_switch, AreByAllEdits, AreCompared, HasNone, IsTreated}
 use Rattle.diff_laws.proofs.Keys.{is_frame_key, is_held_once}
 use Rattle.diff_laws.proofs.Decided.{IsWithin, is_within, has_port, decided_within, decided_beyond}
 
@@ -37,7 +37,7 @@ all_where P port (p ∷ ps) each there = at (p == port) refl there (all_where P 
     at true e there later = subst P (eqb-true p port e) (each 0 port (omega arith))
     at false e there later = later there
 
-module _ (o n : Run) (classes : List Class) (a b : List Journal) (compared : AreCompared o n classes) (by_o : AreByAllEdits o a) (by_n : AreByAllEdits n b) where
+module _ (o n : Run) (lines : List Line) (a b : List Journal) (compared : AreCompared o n lines) (by_o : AreByAllEdits o a) (by_n : AreByAllEdits n b) where
   frames_alike : (port : ℕ) → frames_of o port ≡ frames_of n port
   frames_alike port = ap₂ (λ (ps : List ℕ) (ts : List Capture). frames_of (of_frames ps ts) port) compared.ports compared.traces
 
@@ -68,44 +68,29 @@ module _ (o n : Run) (classes : List Class) (a b : List Journal) (compared : Are
     new_done : actions_for n b port place ≡ done (last_switch n) key
     new_done = decided_within n b by_n port place (within_new port place is) ∙ ap (done (last_switch n)) (sym (keys_alike port place))
 
-    told : (holding key (matches_of classes) ≡ 1) ⊎ ((holding key (matches_of classes) ≡ 0) × (done (last_switch o) key ≡ done (last_switch n) key))
-    told = compared.difference.told key frame_key (is_held_once o port of_port place is.0 compared.packets.of_bytes compared.packets.distinct listed)
+    told : IsAsSaid (last_switch o) (last_switch n) key (said_of lines key)
+    told = compared.listed.told key frame_key (is_held_once o port of_port place is.0 compared.packets.of_bytes compared.packets.distinct listed)
 
-    at_most_once : (holding key (matches_of classes) ≡ 1) ⊎ ((holding key (matches_of classes) ≡ 0) × (done (last_switch o) key ≡ done (last_switch n) key))
-        → holding key (matches_of classes) ≤ 1
-    at_most_once (inl one) = omega (arith, one)
-    at_most_once (inr none) = let zero = none.0 in omega (arith, zero)
-
-    alike_outside : (holding key (matches_of classes) ≡ 1) ⊎ ((holding key (matches_of classes) ≡ 0) × (done (last_switch o) key ≡ done (last_switch n) key))
-        → holding key (matches_of classes) ≡ 0 → actions_for o a port place ≡ actions_for n b port place
-    alike_outside (inl one) zero = absurd (omega (arith, one, zero))
-    alike_outside (inr none) zero = old_done ∙ none.1 ∙ sym new_done
-
-    as_said : (c : Class) → IsRight (last_switch o) (last_switch n) c → IsTrue (is_matched key c.matching)
-        → IsAsSaid o.ports key (actions_for o a port place) (actions_for n b port place) c
-    as_said c right matched =
-        let is_of : IsOf c.matching key = record { frame = frame_key; matched = matched } in
-        record {
-          old_is = old_done ∙ right.old key is_of;
-          new_is = new_done ∙ right.new key is_of ∙ ap (λ (ps : List ℕ). done_as ps c.new key) (sym compared.ports);
-          differ = λ same. right.differ key is_of (sym old_done ∙ same ∙ new_done);
-        }
-
-    pub treated : IsTreated o.ports classes key (actions_for o a port place) (actions_for n b port place)
-    treated = record {
-      once = at_most_once told;
-      outside = alike_outside told;
-      inside = λ k d within. as_said _ (compared.difference.right k d within);
+    as_said : (said : Said) → IsAsSaid (last_switch o) (last_switch n) key said → IsTreated o.ports key (actions_for o a port place) (actions_for n b port place) said
+    as_said Alike same = old_done ∙ same ∙ sym new_done
+    as_said (Differ by_old by_new) are = record {
+      old_is = old_done ∙ are.old;
+      new_is = new_done ∙ are.new ∙ ap (λ (ps : List ℕ). done_as ps by_new key) (sym compared.ports);
+      differ = λ same. are.differ (sym old_done ∙ same ∙ new_done);
     }
 
-  -- ---- where no class has a frame
+    pub treated : IsTreated o.ports key (actions_for o a port place) (actions_for n b port place) (said_of lines key)
+    treated = as_said (said_of lines key) told
 
-  module _ (none : HasNone o classes) where
+  -- ---- where no difference is told of a frame
+
+  module _ (none : HasNone o lines) where
     pub actions_are : (port place : ℕ) → actions_for o a port place ≡ actions_for n b port place
     actions_are port place = at (is_within o port place)
       where
         at : IsWithin o port place ⊎ (IsWithin o port place → ⊥) → actions_for o a port place ≡ actions_for n b port place
-        at (inl is) = (treated port place is).outside (none port place is.0 is.1)
+        at (inl is) =
+            subst (IsTreated o.ports (key_at o port place) (actions_for o a port place) (actions_for n b port place)) (none port place is.0 is.1) (treated port place is)
         at (inr beyond) =
             decided_beyond o a port place beyond
             ∙ sym (decided_beyond n b port place (λ is. beyond (is.0, subst (λ (fs : List Frame). place ≤ length fs) (sym (frames_alike port)) is.1)))

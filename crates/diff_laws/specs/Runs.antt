@@ -1,8 +1,7 @@
--- Two runs that differ in their tables, and a list of classes that tells how these differ.
-use Rattle.std.specs.Prelude.{◌≡◌, ◌≢◌, ℕ, ◌≤◌, nat_eq, List, length, IsTrue, All}
+-- Two runs that differ in their tables, and a list of lines that tells how these differ.
+use Rattle.std.specs.Prelude.{◌≡◌, ◌≢◌, ℕ, ◌≤◌, nat_eq, List, length, All}
 use Rattle.std.specs.List.{IsDistinct}
 use Rattle.spec_actions.specs.declared.action.DpAction.{DpAction}
-use Rattle.spec_tables.specs.Rules.{is_matched}
 use Rattle.spec_xlate.specs.Translation.{Switch}
 use Rattle.spec_case.specs.Run.{Run, last_version, frames_of}
 use Rattle.spec_case.specs.Blocks.{hi, block_of}
@@ -10,7 +9,9 @@ use Rattle.spec_board.specs.Results.{key_at, switch_at}
 use Rattle.spec_board.specs.Texts.{Journal}
 use Rattle.spec_run.specs.Journals.{AreWhole, IsByLastVersion}
 use Rattle.board_laws.specs.Entries.{AreOfBytes}
-use Rattle.spec_diff.specs.Classes.{Class, IsDifference, done_as, holding, matches_of}
+use Rattle.spec_diff.specs.Classes.{Deed, done_as}
+use Rattle.spec_diff.specs.Lines.{Said, Line, IsListed, said_of}
+use Rattle.spec_diff.specs.Lines.Said.{Alike, Differ}
 
 -- ---- runs
 
@@ -37,28 +38,27 @@ pub record HasPackets (run : Run) : Type 0 where
   pub distinct : IsDistinct nat_eq run.ports
   pub of_bytes : All (AreOfBytes run) run.ports
 
--- The runs have the same ports and the same traces, and the classes are the difference of their tables.
-pub record AreCompared (o n : Run) (classes : List Class) : Type 0 where
+-- The runs have the same ports and the same traces, and the lines tell how their tables differ.
+pub record AreCompared (o n : Run) (lines : List Line) : Type 0 where
   pub ports : o.ports ≡ n.ports
   pub traces : o.traces ≡ n.traces
   pub packets : HasPackets o
-  pub difference : IsDifference (last_switch o) (last_switch n) o.ports classes
+  pub listed : IsListed (last_switch o) (last_switch n) o.ports lines
 
 -- ---- frames
 
--- No class has one of the frames.
-abbrev pub HasNone : Run → List Class → Type 0
-HasNone run classes = OfFrames run (λ port place. holding (key_at run port place) (matches_of classes) ≡ 0)
+-- Of none of the frames the lines tell a difference.
+abbrev pub HasNone : Run → List Line → Type 0
+HasNone run lines = OfFrames run (λ port place. said_of lines (key_at run port place) ≡ Alike)
 
--- What was decided of a packet of this key at these ports is what a class says of both, and that isn't the same.
-pub record IsAsSaid (ports key : List ℕ) (old new : List DpAction) (c : Class) : Type 0 where
-  pub old_is : old ≡ done_as ports c.old key
-  pub new_is : new ≡ done_as ports c.new key
+-- What was decided of a packet of this key at these ports is what is said of both, and that isn't the same.
+pub record IsAsTold (ports key : List ℕ) (old new : List DpAction) (by_old by_new : Deed) : Type 0 where
+  pub old_is : old ≡ done_as ports by_old key
+  pub new_is : new ≡ done_as ports by_new key
   pub differ : old ≢ new
 
--- A packet of this key is in one class at most. Where it is in one, the class says what was decided of both; where it
--- is in none, that is the same.
-pub record IsTreated (ports : List ℕ) (classes : List Class) (key : List ℕ) (old new : List DpAction) : Type 0 where
-  pub once : holding key (matches_of classes) ≤ 1
-  pub outside : holding key (matches_of classes) ≡ 0 → old ≡ new
-  pub inside : All (λ (c : Class). IsTrue (is_matched key c.matching) → IsAsSaid ports key old new c) classes
+-- Where the first line that has a packet of this key tells a difference, it says what was decided of both; else that is
+-- the same.
+abbrev pub IsTreated : List ℕ → List ℕ → List DpAction → List DpAction → Said → Type 0
+IsTreated ports key old new Alike = old ≡ new
+IsTreated ports key old new (Differ by_old by_new) = IsAsTold ports key old new by_old by_new

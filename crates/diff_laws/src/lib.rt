@@ -1,4 +1,4 @@
-//! What a comparison of tables says of runs: where no class has a frame of the traces, nothing that is sent changes.
+//! What a comparison of tables says of runs: where it tells no difference of a frame, nothing that is sent changes.
 //!
 //! # What?
 //!
@@ -8,13 +8,13 @@
 //!
 //! # What is promised
 //!
-//! Of two runs with the same ports and the same traces, whose tables the classes are the difference of
+//! Of two runs with the same ports and the same traces, whose tables differ as the lines of a comparison tell
 //! (`AreCompared`), and of whole journals of both that decide each frame under the tables that all edits make
 //! (`AreByAllEdits`):
 //!
-//! - *Of a frame that is in a class, both runs decide what the class says of them; of one that is in none they decide
-//!   the same* (`frames_are_treated_as_classes_say`). None is in two.
-//! - *Where no class has one of the frames, both runs send the same* (`runs_without_such_frames_are_alike`): the
+//! - *Of a frame both runs decide what the first line says that has it; where that tells no difference, or none has it,
+//!   they decide the same* (`frames_are_treated_as_lines_say`).
+//! - *Where of none of the frames a difference is told, both runs send the same* (`runs_without_such_frames_are_alike`): the
 //!   files of the ports are the same, what mirrors copy, and the flows.
 //! - *So it is where nothing is listed* (`nothing_listed_changes_nothing`), whatever the traces are.
 //!
@@ -29,7 +29,7 @@
 //!
 //! # Which definitions this refuses
 //!
-//! A difference that says nothing of some key of a frame, or of a port; a class that is right of the key that it
+//! A difference that says nothing of some key of a frame, or of a port; a line that is right of the key that it
 //! shows, and not of each one that it holds; a cache that decides otherwise than the tables.
 //!
 //! # How
@@ -51,4 +51,4 @@ mod treated;
 
 pub use alike::{nothing_listed_changes_nothing, runs_without_such_frames_are_alike};
 pub use premises::{files_make_the_tables, runs_by_all_edits};
-pub use treated::frames_are_treated_as_classes_say;
+pub use treated::frames_are_treated_as_lines_say;

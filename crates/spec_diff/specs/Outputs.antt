@@ -1,22 +1,22 @@
 -- What is printed of a difference that was found: all of its text, or a part of it; and when none is found.
 use Rattle.std.specs.Prelude.{◌≡◌, ℕ, Bool, IsTrue, List, ◌++◌, take, Ok}
 use Rattle.spec_run.specs.Verdict.{Files}
-use Rattle.spec_diff.specs.Classes.{Class, IsDifference}
+use Rattle.spec_diff.specs.Lines.{Line, IsListed}
 use Rattle.spec_diff.specs.Progress.{IsUnfinished, cube_limit}
-use Rattle.spec_diff.specs.Texts.{text_of_classes}
+use Rattle.spec_diff.specs.Texts.{text_of_lines}
 use Rattle.spec_diff.specs.Statuses.{found_status}
 use Rattle.spec_diff.specs.Verdict.{Accepted, old_switch, new_switch, verdict}
 
--- These classes are the difference of what is compared.
-abbrev pub IsDifferenceOf : Accepted → List Class → Type 0
-IsDifferenceOf a classes = IsDifference (old_switch a) (new_switch a) a.ports classes
+-- These lines tell how what is compared differs.
+abbrev pub IsListedOf : Accepted → List Line → Type 0
+IsListedOf a lines = IsListed (old_switch a) (new_switch a) a.ports lines
 
 -- This text tells a difference of what is compared, and this status goes with it.
 pub record Tells (a : Accepted) (text : List ℕ) (status : ℕ) : Type 0 where
-  pub classes : List Class
-  pub is_difference : IsDifferenceOf a classes
-  pub is_text : text ≡ text_of_classes a.brief classes
-  pub is_status : status ≡ found_status classes
+  pub lines : List Line
+  pub is_listed : IsListedOf a lines
+  pub is_text : text ≡ text_of_lines a.brief lines
+  pub is_status : status ≡ found_status lines
 
 -- The words and what they name are accepted. After what was printed before, where that is told, exactly the text of a
 -- difference was printed, and the status goes with it.

@@ -5,7 +5,7 @@ use Rattle.spec_board.specs.Texts.{line_of}
 use Rattle.spec_run.specs.Verdict.{Files}
 use Rattle.spec_run.specs.Statuses as run
 use Rattle.spec_run.specs.Statuses.{done_status, usage_status, Prints}
-use Rattle.spec_diff.specs.Classes.{Class}
+use Rattle.spec_diff.specs.Lines.{Line}
 use Rattle.spec_diff.specs.Progress.{cube_limit}
 use Rattle.spec_diff.specs.Verdict.{Refusal, Usage, Input, verdict}
 
@@ -13,10 +13,10 @@ use Rattle.spec_diff.specs.Verdict.{Refusal, Usage, Input, verdict}
 abbrev pub differ_status : ℕ
 differ_status = 1
 
--- the status of a comparison that found these classes
-abbrev pub found_status : List Class → ℕ
+-- the status of a comparison whose lines are these
+abbrev pub found_status : List Line → ℕ
 found_status [] = done_status
-found_status (c ∷ classes) = differ_status
+found_status (l ∷ lines) = differ_status
 
 -- which words the program takes
 abbrev pub usage_text : List ℕ

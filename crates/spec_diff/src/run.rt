@@ -2,7 +2,7 @@
 //!
 //! - `Words`: the words of the command line.
 //! - `Verdict`: what becomes of them, and of both files; the first that is refused decides.
-//! - `Texts`: the text of a difference, class by class or one line for each pair of actions.
+//! - `Texts`: the text of a difference, line by line or, in brief, one for each pair of actions.
 //! - `Statuses`: the exit statuses, and the text of each refusal.
 //! - `Outputs`: what is printed of a difference, all of it or a prefix; and when a comparison is given up.
 //!

@@ -22,7 +22,7 @@ use std::alloc::{AllocError, Global};
 pub const CUBE_LIMIT: u32 = 1 << 22;
 
 /// All packets that come in by a port.
-fn cube_of(port: u16) -> Cube
+pub fn cube_of(port: u16) -> Cube
     ensures { cube_view result ≡ from_port port }
 {
     let mut key = Key::zero();

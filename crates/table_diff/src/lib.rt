@@ -56,9 +56,9 @@
 //!
 //! # What is left to others
 //!
-//! The text of classes (`diff_app::lines`). Versions that send to the same ports, and the same frame last but for its
-//! tags, and differ all the same, make a class for each value that bits may have which are written over, and many of
-//! them end at the limit.
+//! Fewer lines that say the same (`class_list`), and their text (`diff_app::lines`). Versions that send to the same
+//! ports, and the same frame last but for its tags, and differ all the same, make a class for each value that bits may
+//! have which are written over, and many of them end at the limit.
 #![tactic(auto)]
 
 mod actions;
@@ -88,8 +88,10 @@ mod written;
 
 pub use actions::are_same;
 pub use class::Class;
-pub use comparing::{CUBE_LIMIT, compare};
+pub use comparing::{CUBE_LIMIT, compare, cube_of};
 pub use cube::Cube;
 pub use deed::Deed;
 pub use error::CompareError;
 pub use laws::deciding_mask_is_sound;
+pub use splitting::split_bit;
+pub use written::add_written;

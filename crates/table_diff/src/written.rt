@@ -32,7 +32,7 @@ fn add_with(mask: &mut Mask, field: FieldId)
 }
 
 /// Adds the fields that an action writes.
-pub(crate) fn add_written(mask: &mut Mask, action: OfAction)
+pub fn add_written(mask: &mut Mask, action: OfAction)
     ensures { bits mask.new ≡ added (bits mask.old) (writes action) }
 {
     match action {

@@ -201,3 +201,18 @@ fn a_ttl_that_has_run_out_is_in_no_class(rt: HostRuntime) -> Result<(), Fail> {
     assert!(rt; ends_as_shown(rt.alloc(), &comparison, NONE, NONE)?);
     Ok(())
 }
+
+#[test]
+fn what_another_rule_takes_out_is_a_line_that_tells_no_difference(
+    rt: HostRuntime,
+) -> Result<(), Fail> {
+    let comparison = Comparison {
+        old: "priority=2,in_port=1,ip,nw_dst=10.1.0.0/16,actions=in_port\npriority=1,in_port=1,ip,nw_dst=10.0.0.0/8,actions=2\n",
+        new: "priority=2,in_port=1,ip,nw_dst=10.1.0.0/16,actions=in_port\npriority=1,in_port=1,ip,nw_dst=10.0.0.0/8,actions=drop\n",
+        words: &WORDS,
+        status: 1,
+        text: "in_port=1,dl_type=0x0800,nw_dst=10.1.0.0/16\n=\nin_port=1,dl_type=0x0800,nw_dst=10.0.0.0/8\n- 2\n+ drop\n1 classes, 1 kinds\n",
+    };
+    assert!(rt; ends_as_shown(rt.alloc(), &comparison, NONE, NONE)?);
+    Ok(())
+}

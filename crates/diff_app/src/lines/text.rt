@@ -1,16 +1,18 @@
-//! The lines of classes and of kinds.
+//! The text of lines and of kinds.
 ghost use Rattle.std.specs.Prelude.{◌≡◌, ◌++◌, List, ℕ, All};
 ghost use Rattle.std.specs.List.{flat_map};
 ghost use Rattle.spec_board.specs.Texts.{line_of};
 ghost use Rattle.spec_dumps.specs.Megaflows.{megaflow_match_text};
 ghost use Rattle.text_numbers.specs.Added.{Adds};
-ghost use Rattle.table_diff.specs.Cubes.{cube_view, class_view, classes_view};
+ghost use Rattle.table_diff.specs.Cubes.{cube_view};
 ghost use Rattle.table_diff.specs.Deeds.{deed_view, CanPrint};
-ghost use Rattle.spec_diff.specs.Texts.{deed_text, class_text, old_line, new_line, kinds_of, kind_line, count_line, text_of_classes};
-ghost use Rattle.diff_app.specs.Pieces.{body_text, done_text, kind_text, kind_part, counts_text};
+ghost use Rattle.class_list.specs.LineViews.{said_view, line_view, lines_view};
+ghost use Rattle.spec_diff.specs.Texts.{deed_text, said_text, line_text, old_line, new_line, kind_of, kinds_in, kind_line, kinds_text, count_line, text_of_lines};
+ghost use Rattle.diff_app.specs.Pieces.{kind_view, body_text, done_text, kind_text, last_kind_text, counts_text};
 
-use crate::lines::kinds::{count_kind, count_kinds, has_kind};
+use crate::lines::kinds::{count_classes, count_kind, count_kinds, has_kind};
 use action_text::print_actions;
+use class_list::Line;
 use dp_text::print_dp_actions;
 use dump_lines::megaflows::print_megaflow_match;
 use std::alloc::AllocError;
@@ -46,38 +48,53 @@ fn print_done_line(out: &mut String, mark: &str, deed: &Deed) -> Result<(), Allo
 }
 
 fn print_old_line(out: &mut String, class: &Class) -> Result<(), AllocError>
-    ensures { Adds out.old out.new (old_line (class_view class.now)) result }
+    ensures { Adds out.old out.new (old_line (deed_view class.now.old)) result }
 {
     print_done_line(out, "- ", &class.old)
 }
 
 fn print_new_line(out: &mut String, class: &Class) -> Result<(), AllocError>
-    ensures { Adds out.old out.new (new_line (class_view class.now)) result }
+    ensures { Adds out.old out.new (new_line (deed_view class.now.new)) result }
 {
     print_done_line(out, "+ ", &class.new)
 }
 
-// The three lines of a class.
-fn print_class(out: &mut String, class: &Class) -> Result<(), AllocError>
-    ensures { Adds out.old out.new (class_text (class_view class.now)) result }
+fn print_both_lines(out: &mut String, class: &Class) -> Result<(), AllocError>
+    ensures { Adds out.old out.new (old_line (deed_view class.now.old) ++ new_line (deed_view class.now.new)) result }
 {
-    print_match_line(out, &class.cube)?;
     print_old_line(out, class)?;
     print_new_line(out, class)
 }
 
-fn print_classes(out: &mut String, classes: &[Class]) -> Result<(), AllocError>
-    ensures { Adds out.old out.new (flat_map class_text (classes_view classes.now)) result }
+fn print_said(out: &mut String, line: &Line<'_>) -> Result<(), AllocError>
+    ensures { Adds out.old out.new (said_text (said_view line.now.class)) result }
 {
-    'classes: for class in classes {
-        print_class(out, class)?;
+    match line.class {
+        None => print_word(out, "=\n"),
+        Some(class) => print_both_lines(out, class),
+    }
+}
+
+// The match of a line, and what is said of its packets.
+fn print_line(out: &mut String, line: &Line<'_>) -> Result<(), AllocError>
+    ensures { Adds out.old out.new (line_text (line_view line.now)) result }
+{
+    print_match_line(out, &line.cube)?;
+    print_said(out, line)
+}
+
+fn print_lines(out: &mut String, lines: &[Line<'_>]) -> Result<(), AllocError>
+    ensures { Adds out.old out.new (flat_map line_text (lines_view lines.now)) result }
+{
+    'lines: for line in lines {
+        print_line(out, line)?;
     }
     Ok(())
 }
 
 // What both versions do.
 fn print_both(out: &mut String, class: &Class) -> Result<(), AllocError>
-    ensures { Adds out.old out.new (done_text (class_view class.now)) result }
+    ensures { Adds out.old out.new (done_text (kind_view class.now)) result }
 {
     print_deed(out, &class.old)?;
     print_word(out, " -> ")?;
@@ -85,7 +102,7 @@ fn print_both(out: &mut String, class: &Class) -> Result<(), AllocError>
 }
 
 fn print_counted_kind(out: &mut String, count: usize, class: &Class) -> Result<(), AllocError>
-    ensures { Adds out.old out.new (kind_text count (class_view class.now)) result }
+    ensures { Adds out.old out.new (kind_text count (kind_view class.now)) result }
 {
     print_decimal(out, count as u128)?;
     print_word(out, ": ")?;
@@ -93,35 +110,39 @@ fn print_counted_kind(out: &mut String, count: usize, class: &Class) -> Result<(
 }
 
 // The line of the kind of a class among others.
-fn print_kind_line(out: &mut String, classes: &[Class], class: &Class) -> Result<(), AllocError>
-    ensures { Adds out.old out.new (kind_line (classes_view classes.now) (class_view class.now)) result }
+fn print_kind_line(out: &mut String, lines: &[Line<'_>], class: &Class) -> Result<(), AllocError>
+    ensures { Adds out.old out.new (kind_line (kinds_in (lines_view lines.now)) (kind_view class.now)) result }
 {
-    print_counted_kind(out, count_kind(class, classes), class)?;
+    print_counted_kind(out, count_kind(class, lines), class)?;
     print_word(out, "\n")
 }
 
-// The same, if no class of those that follow has the kind.
-fn print_kind(
+// The same of a line, if it is a class, and none of those that follow has the kind.
+fn print_last_kind(
     out: &mut String,
-    classes: &[Class],
-    class: &Class,
-    later: &[Class],
+    lines: &[Line<'_>],
+    line: &Line<'_>,
+    later: &[Line<'_>],
 ) -> Result<(), AllocError>
-    ensures { Adds out.old out.new
-        (kind_part (classes_view classes.now) (class_view class.now) (classes_view later.now)) result }
+    ensures { Adds out.old out.new (last_kind_text (kinds_in (lines_view lines.now))
+        (kind_of (said_view line.now.class)) (kinds_in (lines_view later.now))) result }
 {
-    if has_kind(class, later) {
-        return Ok(());
+    match line.class {
+        None => Ok(()),
+        Some(class) => {
+            if has_kind(class, later) {
+                return Ok(());
+            }
+            print_kind_line(out, lines, class)
+        }
     }
-    print_kind_line(out, classes, class)
 }
 
-fn print_kinds(out: &mut String, classes: &[Class]) -> Result<(), AllocError>
-    ensures { Adds out.old out.new
-        (flat_map (kind_line (classes_view classes.now)) (kinds_of (classes_view classes.now))) result }
+fn print_kinds(out: &mut String, lines: &[Line<'_>]) -> Result<(), AllocError>
+    ensures { Adds out.old out.new (kinds_text (kinds_in (lines_view lines.now))) result }
 {
-    'classes: for i in 0..classes.len() {
-        print_kind(out, classes, &classes[i], &classes[i + 1..])?;
+    'lines: for i in 0..lines.len() {
+        print_last_kind(out, lines, &lines[i], &lines[i + 1..])?;
     }
     Ok(())
 }
@@ -135,34 +156,35 @@ fn print_counts(out: &mut String, classes: usize, kinds: usize) -> Result<(), Al
     print_word(out, " kinds")
 }
 
-fn print_count_line(out: &mut String, classes: &[Class]) -> Result<(), AllocError>
-    ensures { Adds out.old out.new (count_line (classes_view classes.now)) result }
+fn print_count_line(out: &mut String, lines: &[Line<'_>]) -> Result<(), AllocError>
+    ensures { Adds out.old out.new (count_line (kinds_in (lines_view lines.now))) result }
 {
-    print_counts(out, classes.len(), count_kinds(classes))?;
+    print_counts(out, count_classes(lines), count_kinds(lines))?;
     print_word(out, "\n")
 }
 
-// All lines but the last one.
-fn print_body(out: &mut String, classes: &[Class], brief: bool) -> Result<(), AllocError>
-    ensures { Adds out.old out.new (body_text brief (classes_view classes.now)) result }
+// All but the last line of the text.
+fn print_body(out: &mut String, lines: &[Line<'_>], brief: bool) -> Result<(), AllocError>
+    ensures { Adds out.old out.new (body_text brief (lines_view lines.now)) result }
 {
     if brief {
-        print_kinds(out, classes)
+        print_kinds(out, lines)
     } else {
-        print_classes(out, classes)
+        print_lines(out, lines)
     }
 }
 
-/// Adds the text of a difference: that of each class, or, in brief, of each pair of actions, and how many there are.
+/// Adds the text of a difference: that of each line, or, in brief, of each pair of actions, and how many classes and
+/// pairs there are.
 ///
-/// Nothing is added where there is no class. The only error is out of memory, and then the string has what it had,
-/// and perhaps a part of the text.
-pub fn print_difference(out: &mut String, classes: &[Class], brief: bool) -> Result<(), AllocError>
-    ensures { Adds out.old out.new (text_of_classes brief (classes_view classes.now)) result }
+/// Nothing is added where there is no line. The only error is out of memory, and then the string has what it had, and
+/// perhaps a part of the text.
+pub fn print_difference(out: &mut String, lines: &[Line<'_>], brief: bool) -> Result<(), AllocError>
+    ensures { Adds out.old out.new (text_of_lines brief (lines_view lines.now)) result }
 {
-    if classes.is_empty() {
+    if lines.is_empty() {
         return Ok(());
     }
-    print_body(out, classes, brief)?;
-    print_count_line(out, classes)
+    print_body(out, lines, brief)?;
+    print_count_line(out, lines)
 }

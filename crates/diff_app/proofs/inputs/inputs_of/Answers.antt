@@ -1,4 +1,4 @@
-use Rattle.std.proofs.Common.{◌≡◌, ℕ, List, ap₂}
+use Rattle.std.proofs.Common.{List, ap₂}
 use Rattle.spec_tables.specs.Rules.{Rule}
 use Rattle.spec_diff.specs.Verdict.{Accepted}
 use Rattle.diff_app.proofs.Stages.{of_edits, live-rules, runnable}

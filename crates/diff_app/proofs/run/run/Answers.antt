@@ -71,4 +71,4 @@ returns-clause-ok g c =
     }
 
 pub returns-clause-status : goal.returns-clause-status
-returns-clause-status g c = found c.in_ok-told.ensures.ok.classes c.in_ok-told.told.status c.in_ok-told.ensures.ok.is_status
+returns-clause-status g c = found c.in_ok-told.ensures.ok.lines c.in_ok-told.told.status c.in_ok-told.ensures.ok.is_status

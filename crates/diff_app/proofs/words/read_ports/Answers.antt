@@ -1,4 +1,4 @@
-use Rattle.std.proofs.Common.{rules, ◌≡◌, ◌++◌, ℕ, List, [], ◌∷◌, sym}
+use Rattle.std.proofs.Common.{rules, ◌≡◌, ◌++◌, [], ◌∷◌, sym}
 use Rattle.diff_app.proofs.PortLaws.{many, step_none, step_some, all_words}
 use Rattle.diff_app.proofs.words.read_ports.Goals as goal
 

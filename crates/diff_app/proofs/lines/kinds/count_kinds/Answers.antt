@@ -1,24 +1,25 @@
-use Rattle.std.proofs.Common.{◌≡◌, ℕ, ◌+◌, ◌≤◌, List, length, ap, sym, ◌∙◌, arith}
-use Rattle.std.specs.List.{list_any}
+use Rattle.std.proofs.Common.{◌≡◌, ◌+◌, List, length, ap, ◌∙◌, arith}
 use Rattle.std.proofs.lemmas.List.{take_rest}
-use Rattle.table_diff.specs.declared.class.Class.{Class}
-use Rattle.table_diff.specs.Cubes.{class_view, classes_view}
-use Rattle.spec_diff.specs.Texts.{is_same_kind, kinds_of}
-use Rattle.diff_app.proofs.lines.KindLaws.{count_step, no_kinds, at_most}
+use Rattle.spec_diff.specs.Texts.{kinds_in, kinds_of}
+use Rattle.class_list.specs.declared.line.Line.{Line}
+use Rattle.class_list.specs.LineViews.{said_view, lines_view}
+use Rattle.diff_app.specs.Pieces.{last_kind}
+use Rattle.diff_app.proofs.lines.KindLaws.{own_kind, later_kinds, count_step, no_kinds, at_most}
 use Rattle.diff_app.proofs.lines.kinds.count_kinds.Goals as goal
 
-pub classes-preserved : goal.classes-preserved
-classes-preserved c = record {
-  counted = count_step c.args.classes.now c.classes.i c.index-classes-i.result c.has_kind.result c.classes.count c.one_if-count.result
-      (length (kinds_of (classes_view c.args.classes.now))) c.classes-test.true c.index-classes-i.is
-      (c.has_kind.ensures ∙ ap (λ (z : List Class). list_any (is_same_kind (class_view c.index-classes-i.result)) (classes_view z)) (take_rest c.args.classes.now (c.classes.i + 1)))
-      c.one_if-count.ensures
-      c.classes.invariant.counted;
-  few = let few = c.classes.invariant.few in let one = at_most _ c.one_if-count.result c.one_if-count.ensures in omega arith;
-}
+pub lines-preserved : goal.lines-preserved
+lines-preserved c =
+    let lines = c.args.lines.now in
+    let x = c.index-lines-i.result in
+    let one : c.count_last-count.result ≡ length (last_kind (own_kind x) (later_kinds lines (c.lines.i + 1))) =
+    c.count_last-count.ensures ∙ ap (λ (z : List Line). length (last_kind (own_kind x) (kinds_in (lines_view z)))) (take_rest lines (c.lines.i + 1)) in
+    record {
+      counted = count_step lines c.lines.i x c.lines.count c.count_last-count.result (length (kinds_of (kinds_in (lines_view lines)))) c.lines-test.true c.index-lines-i.is one c.lines.invariant.counted;
+      few = let few = c.lines.invariant.few in let small = at_most (said_view x.class) (later_kinds lines (c.lines.i + 1)) in omega (arith, few, small, one);
+    }
 
 pub returns : goal.returns
 returns c =
-    let none = no_kinds c.args.classes.now c.classes.i c.classes-test.false in
-    let counted = c.classes.invariant.counted in
-    omega arith
+    let none = ap length (no_kinds c.args.lines.now c.lines.i c.lines-test.false) in
+    let counted = c.lines.invariant.counted in
+    omega (arith, none, counted)

@@ -1,11 +1,12 @@
-use Rattle.std.proofs.Common.{◌≡◌, ◌+◌, ◌≤◌, drop, length}
-use Rattle.table_diff.specs.Cubes.{classes_view}
-use Rattle.spec_diff.specs.Texts.{kinds_of}
+use Rattle.std.proofs.Common.{◌≡◌, ◌+◌, ◌≤◌, length}
+use Rattle.spec_diff.specs.Texts.{kinds_in, kinds_of}
+use Rattle.class_list.specs.LineViews.{lines_view}
+use Rattle.diff_app.proofs.lines.KindLaws.{later_kinds}
 use Rattle.diff_app.proofs.lines.kinds.count_kinds.Given as goal
 
--- with those of the classes that are left, all are counted
-abbrev pub invariant-classes : goal.invariant-classes
-invariant-classes l = record {
-  counted : l.count + length (kinds_of (classes_view (drop l.i l.classes))) ≡ length (kinds_of (classes_view l.classes));
+-- with those of the lines that are left, all are counted
+abbrev pub invariant-lines : goal.invariant-lines
+invariant-lines l = record {
+  counted : l.count + length (kinds_of (later_kinds l.lines l.i)) ≡ length (kinds_of (kinds_in (lines_view l.lines)));
   few : l.count ≤ l.i;
 }

@@ -1,8 +1,8 @@
 use Rattle.std.proofs.Common.{sym, ◌∙◌}
-use Rattle.table_diff.specs.Cubes.{class_view}
 use Rattle.spec_diff.specs.Texts.{is_same_kind}
-use Rattle.diff_app.proofs.lines.KindLaws.{list_any-map}
+use Rattle.diff_app.specs.Pieces.{kind_view}
+use Rattle.diff_app.proofs.lines.KindLaws.{any_in}
 use Rattle.diff_app.proofs.lines.kinds.has_kind.Goals as goal
 
 pub returns : goal.returns
-returns c = c.any_has_kind.ensures ∙ sym (list_any-map (is_same_kind (class_view c.args.class.now)) class_view c.args.others.now)
+returns c = c.any_has_kind.ensures ∙ sym (any_in (is_same_kind (kind_view c.args.class.now)) c.args.others.now)

@@ -1,0 +1,4 @@
+pub mod SaidLaws
+pub mod HoldLaws
+pub mod ListLaws
+pub mod ClassLaws

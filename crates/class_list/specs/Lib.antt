@@ -1,0 +1,4 @@
+pub mod LineViews
+pub mod Agreeing
+pub mod Listing
+pub mod Meetings

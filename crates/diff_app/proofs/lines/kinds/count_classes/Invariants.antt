@@ -1,0 +1,12 @@
+use Rattle.std.proofs.Common.{◌≡◌, ◌+◌, ◌≤◌, length}
+use Rattle.spec_diff.specs.Texts.{kinds_in}
+use Rattle.class_list.specs.LineViews.{lines_view}
+use Rattle.diff_app.proofs.lines.KindLaws.{later_kinds}
+use Rattle.diff_app.proofs.lines.kinds.count_classes.Given as goal
+
+-- with those of the lines that are left, all are counted
+abbrev pub invariant-lines : goal.invariant-lines
+invariant-lines l = record {
+  counted : l.count + length (later_kinds l.lines l.line-index) ≡ length (kinds_in (lines_view l.lines));
+  few : l.count ≤ l.line-index;
+}
