@@ -25,8 +25,9 @@ pub fn answer(rt: &HostRuntime, words: &[String]) -> Result<String> {
     let tables = tables_of(rt.alloc(), &script.edits)?;
     let trace = read_capture(rt, command.trace)?;
     let keys = keys_of(rt.alloc(), command.port, &trace)?;
+    let rounds = command.rounds;
     let ports = command.ports.as_slice();
-    let Some(rounds) = command.rounds else {
+    let Some(rounds) = rounds else {
         return Ok(text_of(rt.alloc(), &tables, ports, &keys)?);
     };
     let visits = visits_in_rounds(rt.alloc(), &tables, ports, &keys, rounds)?;
