@@ -62,3 +62,8 @@ pub record IsAsTold (ports key : List ℕ) (old new : List DpAction) (by_old by_
 abbrev pub IsTreated : List ℕ → List ℕ → List DpAction → List DpAction → Said → Type 0
 IsTreated ports key old new Alike = old ≡ new
 IsTreated ports key old new (Differ by_old by_new) = IsAsTold ports key old new by_old by_new
+
+-- So a frame of a run is treated, by its port and its place, where this is decided of each, as lines say.
+abbrev pub IsTreatedAt : Run → List Line → (ℕ → ℕ → List DpAction) → (ℕ → ℕ → List DpAction) → ℕ → ℕ → Type 0
+IsTreatedAt run lines old new port place =
+    IsTreated run.ports (key_at run port place) (old port place) (new port place) (said_of lines (key_at run port place))

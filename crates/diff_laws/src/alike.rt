@@ -6,8 +6,8 @@ ghost use Rattle.spec_run.specs.Mirrored.{mirror_file};
 ghost use Rattle.spec_run.specs.Outputs.{frames_out, port_file};
 ghost use Rattle.diff_laws.specs.Compared.{OfUntouched, OfAlike};
 
-/// Where of none of the frames a difference is told, both runs decide the same for each of them. So the same goes out at each
-/// port, and the files of the ports, those of mirrors, and that of the flows are the same.
+/// Where of none of the frames a difference is told, both runs decide the same for each of them. So the same goes out
+/// at each port, and the files of the ports, those of mirrors, and that of the flows are the same.
 pub fn runs_without_such_frames_are_alike()
     ensures actions { OfUntouched (λ o n a b.
         (port place : ℕ) → actions_for o a port place ≡ actions_for n b port place) }

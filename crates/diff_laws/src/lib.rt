@@ -12,10 +12,10 @@
 //! (`AreCompared`), and of whole journals of both that decide each frame under the tables that all edits make
 //! (`AreByAllEdits`):
 //!
-//! - *Of a frame both runs decide what the first line says that has it; where that tells no difference, or none has it,
-//!   they decide the same* (`frames_are_treated_as_lines_say`).
-//! - *Where of none of the frames a difference is told, both runs send the same* (`runs_without_such_frames_are_alike`): the
-//!   files of the ports are the same, what mirrors copy, and the flows.
+//! - *Of a frame both runs decide what the first line says that has it; where that tells no difference, or none has
+//!   it, they decide the same* (`frames_are_treated_as_lines_say`).
+//! - *Where of none of the frames a difference is told, both runs send the same*
+//!   (`runs_without_such_frames_are_alike`): the files of the ports are the same, what mirrors copy, and the flows.
 //! - *So it is where nothing is listed* (`nothing_listed_changes_nothing`), whatever the traces are.
 //!
 //! Workers, steps that are given, flow limits and sync points may differ.
