@@ -17,8 +17,8 @@ import kit
 # The last of Rattle's stages that read the crate and the interfaces below it. Then proofs are checked.
 LAST_OF_READING = "batches"
 CHECKED = re.compile(r"checked \w+::(\S+), \d+ of \d+")
-# The seconds of what has a line of its own.
-TOLD = 0.1
+# The seconds of what has a line of its own, and those of what has its dearest modules told, so many at most.
+TOLD, PARTS_TOLD, MOST_PARTS = 0.1, 5, 3
 
 
 class Timed:
@@ -75,33 +75,44 @@ def peak_in(path):
 
 
 def source_of(module, name, functions):
-    """What a module of the crate of this name is made of: a function, a file of its own, or something else."""
+    """What a module of the crate of this name is made of, a function, a file of its own or something else, and which
+    part of it the module is."""
     library, _, path = module.removeprefix(f"Rattle-{name}").partition(".")
     words = path.removeprefix("contracts.").split(".")
     for length in range(len(words), 0, -1):
         if ".".join(words[:length]) in functions:
-            return "::".join(words[:length])
+            return "::".join(words[:length]), ".".join(words[length:]) or "contract"
     file = f"{library.lstrip('-')}/{path.replace('.', '/')}.antt"
     if os.path.exists(f"crates/{name}/{file}"):
-        return file
+        return file, ""
     is_of_type = library and any(word.startswith("The") for word in words)
-    return "what is made of types" if is_of_type else "what others are handed, and the rest"
+    return "what is made of types" if is_of_type else "what others are handed, and the rest", path
 
 
-def timed_check(rtlib, crate):
-    """A check of a crate from nothing: the check, the seconds by what is checked, and its most memory in MB."""
+def timed_check(rtlib, crate, tests):
+    """A check of a crate, or of its tests, from nothing: the check, the seconds by what is checked and by parts of that, and its most
+    memory in MB."""
     with tempfile.NamedTemporaryFile() as stages, tempfile.TemporaryDirectory() as modules:
-        words = ["check", *crate.words(["--jobs", "1"], keeps=False), "--progress", "--incremental", modules]
+        words = ["check", *crate.words(["--jobs", "1"], tests=tests, keeps=False), "--progress", "--incremental", modules]
         words = [*rtlib.guarded(), rtlib.RATTLE, *words, "--stage-times", stages.name]
         timed, seconds = Timed(words, crate.folder, stages.name), {}
         for module, used in timed.modules(modules):
-            source = source_of(module, crate.name, timed.functions)
-            seconds[source] = seconds.get(source, 0) + used
+            source, part = source_of(module, crate.name, timed.functions)
+            parts = seconds.setdefault(source, {})
+            parts[part] = parts.get(part, 0) + used
         return timed, seconds, peak_in(stages.name)
 
 
-def tell_functions(name):
-    """Checks a crate from nothing over built libraries, and tells what that is spent on, dearest first: the status, 0
+def dearest(parts):
+    """The dearest parts of what takes long."""
+    if sum(parts.values()) < PARTS_TOLD or len(parts) == 1:
+        return ""
+    told = sorted(parts.items(), key=lambda it: -it[1])[:MOST_PARTS]
+    return ": " + ", ".join(f"{part} {used:.1f}" for part, used in told if used >= 1)
+
+
+def tell_functions(name, tests):
+    """Checks a crate, or its tests, from nothing over built libraries, and tells what that is spent on, dearest first: the status, 0
     where it is proved."""
     rtlib = kit.load()
     crate = rtlib.Crate(os.path.abspath(f"crates/{name}"), os.getcwd(), {})
@@ -109,14 +120,15 @@ def tell_functions(name):
     if missing:
         print(f"{name}: {len(missing)} libraries below it aren't built, {missing[0]} first: tools/prove builds them")
         return 2
-    timed, seconds, peak = timed_check(rtlib, crate)
+    timed, seconds, peak = timed_check(rtlib, crate, tests)
     if timed.status:
         print(*timed.lines[-5:], f"{name}: not proved", sep="\n")
         return 1
     print(f"{name}: {timed.used[-1]:.1f} s for {len(timed.functions)} functions, and {peak:,.0f} MB at most")
     print(f"{timed.reading or 0:7.1f}  to read the crate and the interfaces below it")
-    for source, used in sorted(seconds.items(), key=lambda it: -it[1]):
+    sums = {source: sum(parts.values()) for source, parts in seconds.items()}
+    for source, used in sorted(sums.items(), key=lambda it: -it[1]):
         if used >= TOLD:
-            print(f"{used:7.1f}  {source}")
-    print(f"{sum(used for used in seconds.values() if used < TOLD):7.1f}  others")
+            print(f"{used:7.1f}  {source}{dearest(seconds[source])}")
+    print(f"{sum(used for used in sums.values() if used < TOLD):7.1f}  others")
     return 0
