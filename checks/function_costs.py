@@ -1,5 +1,5 @@
 """What a check of one crate is spent on: each of its functions, each of its own files of definitions and lemmas, and
-what is made of its types, as `checks/costs --functions CRATE` tells."""
+what is made of its types, as `checks/costs --functions CRATE` tells, and `--functions-of-tests` of its tests."""
 import bisect
 import os
 import re
@@ -90,11 +90,11 @@ def source_of(module, name, functions):
 
 
 def timed_check(rtlib, crate, tests):
-    """A check of a crate, or of its tests, from nothing: the check, the seconds by what is checked and by parts of that, and its most
-    memory in MB."""
+    """A check of a crate, or of its tests, from nothing: the check, the seconds by what is checked and by parts of it,
+    and its most memory in MB."""
     with tempfile.NamedTemporaryFile() as stages, tempfile.TemporaryDirectory() as modules:
-        words = ["check", *crate.words(["--jobs", "1"], tests=tests, keeps=False), "--progress", "--incremental", modules]
-        words = [*rtlib.guarded(), rtlib.RATTLE, *words, "--stage-times", stages.name]
+        words = ["check", *crate.words(["--jobs", "1"], tests=tests, keeps=False), "--progress"]
+        words = [*rtlib.guarded(), rtlib.RATTLE, *words, "--incremental", modules, "--stage-times", stages.name]
         timed, seconds = Timed(words, crate.folder, stages.name), {}
         for module, used in timed.modules(modules):
             source, part = source_of(module, crate.name, timed.functions)
@@ -112,8 +112,8 @@ def dearest(parts):
 
 
 def tell_functions(name, tests):
-    """Checks a crate, or its tests, from nothing over built libraries, and tells what that is spent on, dearest first: the status, 0
-    where it is proved."""
+    """Checks a crate, or its tests, from nothing over built libraries, and tells what that is spent on, the dearest
+    first: the status, 0 where it is proved."""
     rtlib = kit.load()
     crate = rtlib.Crate(os.path.abspath(f"crates/{name}"), os.getcwd(), {})
     missing = [library.name for library in crate.below() if not library.is_built()]

@@ -15,8 +15,8 @@ traces_are_as_made() {
         done
 }
 
-# Whether a program gives the expected files of the example of this name, and its summary, as its README.md has it run. With
-# workers only what doesn't depend on them is expected.
+# Whether a program gives the expected files of the example of this name, and its summary, as its README.md has it run.
+# With workers only what doesn't depend on them is expected.
 gives_expected() {
     local program=$1 name=$2 made=$room/$3/$2 words
     mkdir -p "$made" && mapfile -t words < <(python3 checks/examples.py "$name" "$made/out") \
@@ -49,7 +49,8 @@ layers_are_as_stored() {
 # Whether the tracer gives the expected text of its stored example, and of each example that is traced.
 traces_are_as_expected() {
     local words name
-    (cd crates/megatrace/data && mapfile -t words <../args && "$top/megatrace" "${words[@]}" | cmp - ../stdout) || return 1
+    (cd crates/megatrace/data && mapfile -t words <../args && "$top/megatrace" "${words[@]}" | cmp - ../stdout) \
+        || return 1
     while read -r name words; do
         # The words of these examples have no blanks.
         "$top/megatrace" $words | cmp - "examples/$name/expected/trace" || return 1
