@@ -23,9 +23,4 @@
 
 mod real;
 
-pub use real::{RealShelf, StdoutSink};
-
-// These tests stand here and not in `file_tests`. One more (`real`) is of private functions, since no file of the system is
-// interrupted at will, and a crate with one test is proved twice anyway.
-#[cfg(test)]
-mod tests;
+pub use real::{RealShelf, StdoutSink, TRIES, read_patiently, write_patiently};

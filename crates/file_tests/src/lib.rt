@@ -3,7 +3,6 @@
 //!
 //! A contract says what is read and printed where there is memory, so a body that always says that there is none would
 //! meet it. Such a body fails here. The tests stand in a crate of their own, since a crate with tests is proved twice.
-//! Those of the system's files stand in `edge_io::real`.
 #![tactic(auto)]
 
 #[cfg(test)]
@@ -36,5 +35,7 @@ mod rewriting;
 mod scripts;
 #[cfg(test)]
 mod steps;
+#[cfg(test)]
+mod system;
 #[cfg(test)]
 mod values;

@@ -13,10 +13,10 @@ use std::{fs, mem};
 const BUFFER: usize = 64 * 1024;
 
 /// How often a call that a signal interrupts is made, before it is an error.
-const TRIES: usize = 1000;
+pub const TRIES: usize = 1000;
 
-// Reads, and again where a signal interrupts it.
-fn read_patiently<F: Read>(file: &mut F, into: &mut [u8]) -> io::Result<usize>
+/// Reads, and again where a signal interrupts it, up to `TRIES` times.
+pub fn read_patiently<F: Read>(file: &mut F, into: &mut [u8]) -> io::Result<usize>
     ensures { IfOk result (λ n. n ≤ length into.new) }
 {
     for _ in 1..TRIES {
@@ -28,8 +28,8 @@ fn read_patiently<F: Read>(file: &mut F, into: &mut [u8]) -> io::Result<usize>
     file.read(into)
 }
 
-// Writes, and again where a signal interrupts it. One that takes none of the bytes is an error.
-fn write_patiently<F: Write>(file: &mut F, bytes: &[u8]) -> io::Result<usize>
+/// Writes, and again where a signal interrupts it, up to `TRIES` times. One that takes none of the bytes is an error.
+pub fn write_patiently<F: Write>(file: &mut F, bytes: &[u8]) -> io::Result<usize>
     ensures bound { IfOk result (λ n. n ≤ length bytes.now) }
     ensures some { IfOk result (λ n. 0 < length bytes.now → 0 < n) }
 {
@@ -177,52 +177,5 @@ impl<R: Print> Sink for StdoutSink<'_, R> {
             }
         }
         Err(counted_fault(&mut self.faults))
-    }
-}
-
-#[cfg(test)]
-mod tests {
-    use super::*;
-    use std::test::Fail;
-
-    // A file whose first calls are interrupted. It is read as ended, and takes one byte at a time.
-    #[derive(Drop)]
-    struct Interrupted(usize);
-
-    impl Interrupted {
-        fn call(&mut self) -> io::Result<()> {
-            if self.0 == 0 {
-                return Ok(());
-            }
-            self.0 -= 1;
-            Err(io::Error::from(ErrorKind::Interrupted))
-        }
-    }
-
-    impl Read for Interrupted {
-        fn read(&mut self, _into: &mut [u8]) -> io::Result<usize> {
-            self.call()?;
-            Ok(0)
-        }
-    }
-
-    impl Write for Interrupted {
-        fn write(&mut self, bytes: &[u8]) -> io::Result<usize> {
-            self.call()?;
-            Ok(bytes.len().min(1))
-        }
-
-        fn flush(&mut self) -> io::Result<()> {
-            Ok(())
-        }
-    }
-
-    #[test]
-    fn interrupted_call_is_made_again(rt: HostRuntime) -> Result<(), Fail> {
-        assert_eq!(rt; read_patiently(&mut Interrupted(TRIES - 1), &mut [0])?, 0);
-        assert_eq!(rt; write_patiently(&mut Interrupted(TRIES - 1), b"text")?, 1);
-        assert!(rt; read_patiently(&mut Interrupted(TRIES), &mut [0]).is_err());
-        assert!(rt; write_patiently(&mut Interrupted(TRIES), b"text").is_err());
-        Ok(())
     }
 }

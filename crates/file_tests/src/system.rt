@@ -1,12 +1,13 @@
+//! The system's files and standard output.
 ghost use Rattle.std.specs.Prelude.{◌≡◌, OnOk};
 ghost use Rattle.edge_io.specs.declared.outside.InUse.TheVariants.{Nothing};
 
-use super::*;
-use crate::{Failed, Shelf, read_all, say_all, write_all};
+use edge_io::real::{RealShelf, StdoutSink, TRIES, read_patiently, write_patiently};
+use edge_io::{Failed, Shelf, read_all, say_all, write_all};
 use std::cell::Cell;
 use std::fmt::Display;
 use std::fs;
-use std::io::{self, ErrorKind};
+use std::io::{self, ErrorKind, Read, Write};
 use std::test::Fail;
 
 // Writes one file and closes it.
@@ -87,5 +88,46 @@ fn standard_output_gets_each_byte_of_a_text_once(rt: HostRuntime) -> Result<(), 
     let said = u64::from_be_bytes([0, 0, 0, b's', b'a', b'i', b'd', b'\n']);
     assert_eq!(rt; printer.text.get(), said);
     assert_eq!(rt; printer.calls.get(), 6);
+    Ok(())
+}
+
+// A file whose first calls are interrupted. It is read as ended, and takes one byte at a time.
+#[derive(Drop)]
+struct Interrupted(usize);
+
+impl Interrupted {
+    fn call(&mut self) -> io::Result<()> {
+        if self.0 == 0 {
+            return Ok(());
+        }
+        self.0 -= 1;
+        Err(io::Error::from(ErrorKind::Interrupted))
+    }
+}
+
+impl Read for Interrupted {
+    fn read(&mut self, _into: &mut [u8]) -> io::Result<usize> {
+        self.call()?;
+        Ok(0)
+    }
+}
+
+impl Write for Interrupted {
+    fn write(&mut self, bytes: &[u8]) -> io::Result<usize> {
+        self.call()?;
+        Ok(bytes.len().min(1))
+    }
+
+    fn flush(&mut self) -> io::Result<()> {
+        Ok(())
+    }
+}
+
+#[test]
+fn interrupted_call_is_made_again(rt: HostRuntime) -> Result<(), Fail> {
+    assert_eq!(rt; read_patiently(&mut Interrupted(TRIES - 1), &mut [0])?, 0);
+    assert_eq!(rt; write_patiently(&mut Interrupted(TRIES - 1), b"text")?, 1);
+    assert!(rt; read_patiently(&mut Interrupted(TRIES), &mut [0]).is_err());
+    assert!(rt; write_patiently(&mut Interrupted(TRIES), b"text").is_err());
     Ok(())
 }
