@@ -1,5 +1,6 @@
 pub mod Prefixes
 mod Sends
+mod Skipped
 mod Written
 mod First
 mod Filters

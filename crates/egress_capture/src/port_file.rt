@@ -3,12 +3,11 @@ ghost use Rattle.std.specs.List.{flat_map};
 ghost use Rattle.spec_pcap.specs.Pcap.{record_of, file_of};
 ghost use Rattle.spec_case.specs.Run.{is_nanos};
 ghost use Rattle.spec_case.specs.Arrivals.{in_order, arrivals as came_in};
-ghost use Rattle.spec_run.specs.Journals.{actions_for};
 ghost use Rattle.spec_run.specs.Outputs.{frames_out, sent_to};
 ghost use Rattle.edge_io.specs.declared.outside.InUse.TheVariants.{Nothing, Created};
 ghost use Rattle.edge_io.specs.Written.{WritesAll, WritesFile};
 ghost use Rattle.run_boards.specs.Arrivals.{IsArrival};
-ghost use Rattle.egress_capture.specs.Filters.{PassesAll, AreFilters};
+ghost use Rattle.egress_capture.specs.Filters.{AreFilters};
 
 use crate::batch::{batch_at, send_batch};
 use crate::port_filter::PortFilter;
@@ -21,28 +20,22 @@ use run_case::{Case, RunData};
 use spec_case::Arrival;
 use std::alloc::Global;
 
-// Writes an arrived frame as often as what was decided of it sends it out at the port. Where its filter has no bit of the
-// port, nothing of it is looked at.
+// Writes an arrived frame as often as what was decided of it sends it out at the port.
 fn send_decided<C: Case, S: Shelf>(
     shelf: &mut S,
     writer: &mut PcapWriter,
     run: &RunData<C>,
     finished: &Finished<C>,
     arrival: Arrival,
-    filter: PortFilter,
     port: u16,
     buffer: &mut FrameBuffer,
 ) -> Result<(), Failed>
     requires in_use { S.in_use shelf.old ≡ Created }
     requires there { IsArrival C.run arrival }
-    requires filter { PassesAll (actions_for C.run finished.now arrival.port arrival.place) filter }
     ensures nanos { writer.new ≡ writer.old }
     ensures writes { let frames = sent_to C.run finished.now port arrival in
         WritesAll S.Shelf shelf.old shelf.new (flat_map (record_of writer.old) frames) result }
 {
-    if !filter.may_send_to(port) {
-        return Ok(());
-    }
     let frame = finished.frame(run, arrival);
     send(
         shelf,
@@ -75,6 +68,11 @@ fn write_frames<C: Case, S: Shelf>(
     let mut writer = PcapWriter::begin(shelf, nanos)?;
     let mut at = 0;
     'arrivals: while at < came.len() {
+        // Of what the port doesn't get this bit is all that is looked at.
+        if !filters[at].may_send_to(port) {
+            at += 1;
+            continue;
+        }
         let count = batch_at(came, filters, at, port);
         if count > 0 {
             send_batch(
@@ -97,7 +95,6 @@ fn write_frames<C: Case, S: Shelf>(
             run,
             finished,
             came[at],
-            filters[at],
             port,
             &mut buffer,
         )?;

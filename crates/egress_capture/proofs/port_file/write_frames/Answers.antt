@@ -4,9 +4,12 @@ use Rattle.std.proofs.lemmas.Result.{err_from_is_err_and}
 use Rattle.spec_pcap.specs.Pcap.{record_of, header}
 use Rattle.spec_case.specs.Run.{is_nanos}
 use Rattle.spec_run.specs.Outputs.{sent_to}
-use Rattle.edge_io.proofs.InTurn.{has_written, first_cut, cut_within, more}
+use Rattle.edge_io.proofs.InTurn.{none_yet, has_written, first_cut, cut_within, more}
+use Rattle.egress_capture.specs.Filters.{AreFilters}
+use Rattle.egress_capture.specs.Batches.{no_arrival}
 use Rattle.egress_capture.proofs.Prefixes.{around_pieces, pieces_more}
 use Rattle.egress_capture.proofs.Batches.{around_batch, batch_more}
+use Rattle.egress_capture.proofs.Skipped.{unsent}
 use Rattle.egress_capture.proofs.port_file.write_frames.Goals as goal
 
 pub returns-in_err-writer : goal.returns-in_err-writer
@@ -22,6 +25,22 @@ arrivals-init g c = record {
   wrote =
       let begun = rw c.nanos-nanos.ensures at c.in_ok-writer.ensures.writes in
       rw (append-nil (header (is_nanos g.C.Case.run))) (has_written g.S.Shelf _ _ _ _ begun);
+}
+
+pub arrivals-preserved-then-not-may_send_to : goal.arrivals-preserved-then-not-may_send_to
+arrivals-preserved-then-not-may_send_to g c = record {
+  within = omega (arith, c.arrivals-test.true);
+  nanos = c.arrivals.invariant.nanos;
+  wrote =
+      let run = g.C.Case.run in
+      let journals = c.args.finished.now in
+      let filters = c.args.filters.now in
+      let came = c.arrivals-came.result.now in
+      let at = c.arrivals.at in
+      let are : AreFilters run journals came filters = rw c.arrivals-came.ensures.list c.requires.filters in
+      let nothing = unsent run journals filters c.args.port (record_of (is_nanos run)) came at no_arrival _ are c.arrivals-test.true (c.may_send_to.ensures c.if-not-may_send_to.true) in
+      let all = pieces_more (sent_to run journals c.args.port) (record_of (is_nanos run)) (header (is_nanos run)) came at no_arrival c.arrivals-test.true in
+      more g.S.Shelf _ _ _ _ _ _ all c.arrivals.invariant.wrote (tt {0}) (rw nothing (none_yet g.S.Shelf c.arrivals.shelf c.arrivals.invariant.wrote.in_use));
 }
 
 pub returns-in_err-send_decided : goal.returns-in_err-send_decided
