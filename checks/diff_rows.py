@@ -5,10 +5,10 @@
     python3 diff_rows.py PROGRAM OLD NEW PORT..
 
 Of a made-up pair NEW is OLD with some lines left out, moved, or with actions and matches of others; the second command
-takes two files that are there. Packets are tried of each match, beside each match by one bit, of frames, and of no frame at
-all. The first match that has it says what the simulation does to it under both files, or that this is the same; where none
-has it, it is the same too. Round n is the same at each call. It prints the first packet that is told otherwise, and ends
-with 1; else it tells how many rounds ended with which status, and how many packets were tried.
+takes two files that are there. Packets are tried of each match, beside each match by one bit, of frames, and of no
+frame at all. The first match that has it says what the simulation does to it under both files, or that this is the
+same; where none has it, it is the same too. Round n is the same at each call. It prints the first packet that is told
+otherwise, and ends with 1; else it tells how many rounds ended with which status, and how many packets were tried.
 """
 import ipaddress
 import os

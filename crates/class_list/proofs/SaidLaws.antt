@@ -1,9 +1,9 @@
 -- What lines say of the packets of a cube, line by line.
-use Rattle.std.proofs.Common.{◌≡◌, ℕ, zero, suc, ◌+◌, ◌<◌, ◌≤◌, Bool, true, false, not, ◌||◌, if◌then◌else◌, List, [], ◌∷◌, length, get_or, drop, refl, sym, ap, ◌∙◌, subst, arith}
+use Rattle.std.proofs.Common.{◌≡◌, ℕ, zero, suc, ◌+◌, ◌<◌, ◌≤◌, Bool, true, false, if◌then◌else◌, List, [], ◌∷◌, length, get_or, drop, refl, sym, ap, ◌∙◌, arith}
 use Rattle.std.proofs.lemmas.List.{drop_more}
-use Rattle.spec_keys.specs.Keys.{masked, same, covers, overlap}
+use Rattle.spec_keys.specs.Keys.{masked}
 use Rattle.spec_tables.specs.Rules.{Match, is_matched}
-use Rattle.translation_laws.proofs.KeyLaws.{same_refl, agree-masked, same-eq, joined-right, length_from-masked}
+use Rattle.translation_laws.proofs.KeyLaws.{same_refl, agree-masked}
 use Rattle.spec_diff.specs.Lines as spec
 use Rattle.spec_diff.specs.Lines.{Said, said_of}
 use Rattle.spec_diff.specs.Lines.Said.{Alike}
@@ -11,41 +11,10 @@ use Rattle.ovs_fields.specs.Packed.{numbers, bits}
 use Rattle.table_diff.specs.declared.cube.Cube.{Cube}
 use Rattle.table_diff.specs.Cubes.{cube_view}
 use Rattle.table_diff.specs.Deciding.{is_told}
-use Rattle.rule_changes.proofs.MaskLaws.{masked-common, matched-overlaps}
+use Rattle.table_diff.proofs.TellLaws.{told-matched}
 use Rattle.class_list.specs.declared.line.Line.{Line}
 use Rattle.class_list.specs.LineViews.{said_view, line_view, lines_view}
 use Rattle.class_list.specs.Agreeing.{IsEven}
-
--- ---- COPY
--- keys that agree on a mask which decides it are both ones that a match speaks of, or neither
-told-matched : (k x mask : List ℕ) (m : Match) → is_told mask k m ≡ true → masked k mask ≡ masked x mask → is_matched x m ≡ is_matched k m
-told-matched k x mask m told e = at (covers mask m.mask) refl told
-  where
-    whole_match : covers mask m.mask ≡ true → is_matched x m ≡ is_matched k m
-    whole_match c =
-        ap (λ (z : List ℕ). same z (masked m.key m.mask))
-        (sym (joined-right k x mask m.mask (subst (λ (z : List ℕ). masked k z ≡ masked x z) (sym (same-eq _ mask c)) e)))
-
-    both_false : (s t : Bool) → s ≡ false → t ≡ false → s ≡ t
-    both_false s t p q = p ∙ sym q
-
-    unmatched : (y : List ℕ) (t : Bool) → is_matched y m ≡ t → overlap y mask m.key m.mask ≡ false → t ≡ false
-    unmatched y true h o = absurd (let g : true ≡ false = sym (matched-overlaps y mask m h) ∙ o in cc)
-    unmatched y false h o = refl
-
-    apart : overlap k mask m.key m.mask ≡ false → is_matched x m ≡ is_matched k m
-    apart o =
-        let there : overlap x mask m.key m.mask ≡ false =
-        ap (λ (z : List ℕ). same z (masked m.key (masked mask m.mask))) (sym (masked-common k x mask m.mask (length_from-masked k x mask e) e)) ∙ o in
-        both_false _ _ (unmatched x _ refl there) (unmatched k _ refl o)
-
-    not_true : (t : Bool) → not t ≡ true → t ≡ false
-    not_true true h = absurd (cc h)
-    not_true false h = refl
-
-    at : (c : Bool) → covers mask m.mask ≡ c → (c || not (overlap k mask m.key m.mask)) ≡ true → is_matched x m ≡ is_matched k m
-    at true c h = whole_match c
-    at false c h = apart (not_true _ h)
 
 -- ---- from a place on
 

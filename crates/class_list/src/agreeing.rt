@@ -65,8 +65,8 @@ fn open_bits(a: &[Line<'_>], b: &[Line<'_>], cube: &Cube) -> Option<Mask>
     }
 }
 
-/// Settles a cube: where each list says one thing of all its packets, it is answered whether that is the same, and else
-/// its halves are put with others.
+/// Settles a cube: where each list says one thing of all its packets, it is answered whether that is the same, and
+/// else its halves are put with others.
 pub(crate) fn settle(
     work: &mut Vec<Cube>,
     cube: Cube,
@@ -115,7 +115,8 @@ fn settle_all(
 
 /// Puts the cube of a line with others, if it tells a difference.
 fn add_cube(work: &mut Vec<Cube>, line: &Line<'_>) -> Result<(), AllocError>
-    ensures { OnOk result (cubes_view work.new.items ≡ cubes_view work.old.items ++ differing (line_view line.now ∷ [])) }
+    ensures { OnOk result
+        (cubes_view work.new.items ≡ cubes_view work.old.items ++ differing (line_view line.now ∷ [])) }
 {
     match line.class {
         None => Ok(()),

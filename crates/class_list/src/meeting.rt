@@ -10,7 +10,7 @@ use pipe_model::{Found, Lookups, SpareLists, translate_by};
 use rule_tables::{OfAction, VersionedRules};
 use std::alloc::{AllocError, Global};
 use std::cmp::Ordering;
-use table_diff::add_written;
+use table_diff::{add_written, found};
 use xlate_pipeline::consult;
 
 /// The bits of a TTL of which one is set where the TTL is not 0 or 1.
@@ -197,16 +197,9 @@ impl Lookups for Meeting<'_> {
     }
 
     fn find<'a>(&'a self, _depth: u32, table: u8, key: &Key, way: &mut Way) -> Option<Found<'a>> {
-        let version = self.rules.version();
-        let won = self.rules.scan(version, table, key);
+        let won = self.rules.scan(self.rules.version(), table, key);
         way.meet(self.rules, won);
-        match won {
-            None => None,
-            Some(number) => Some(Found {
-                number,
-                actions: self.rules.actions(version, number),
-            }),
-        }
+        found(self.rules, table, key, won)
     }
 
     fn note(&self, action: OfAction, key: &Key, way: &mut Way) {

@@ -1,7 +1,8 @@
-//! Lines that may say the same as others, and may be fewer. Whether they do is checked, so nothing is proved of the choice.
+//! Lines that may say the same as others, and may be fewer. Whether they do is checked, so nothing is proved of the
+//! choice.
 ghost use Rattle.class_list.specs.Meetings.{CanMeet};
 
-use crate::agreeing::{add_cubes, settle};
+use crate::agreeing::{Agreement, add_cubes, compare_lists, settle};
 use crate::budget::Budget;
 use crate::line::Line;
 use crate::meeting::{Meeting, Way, way_of};
@@ -14,6 +15,9 @@ use xlate_pipeline::without_registers;
 
 /// In how many cubes at most packets are looked at.
 const STEP_LIMIT: u32 = 1 << 20;
+
+/// All bits of `in_port`.
+const IN_PORT_BITS: u128 = 0xffff;
 
 /// A line, and the ways of a packet of it by both versions.
 #[derive(Drop)]
@@ -60,7 +64,7 @@ fn compare_drafts(a: &Draft<'_>, b: &Draft<'_>) -> Ordering {
 /// All packets that come the ways of the packet of a cube's key by both versions.
 fn wide_cube(cube: &Cube, old: &Way, new: &Way) -> Cube {
     let mut mask = without_registers(&or(old.stated(), new.stated()));
-    mask.add(FieldId::InPort, 0xffff);
+    mask.add(FieldId::InPort, IN_PORT_BITS);
     Cube {
         key: cube.key,
         mask,
@@ -134,6 +138,7 @@ fn lines_in<'a>(alloc: Global, drafts: &[Draft<'a>]) -> Result<Vec<Line<'a>>, Al
 }
 
 /// Lines that may say the same as those that are told: one for each way on which they say otherwise than those so far.
+/// There are none where they would be no fewer, or that takes too long.
 pub(crate) fn propose<'a>(
     alloc: Global,
     old: &Meeting<'_>,
@@ -151,7 +156,7 @@ pub(crate) fn propose<'a>(
     for _ in 0..STEP_LIMIT {
         let within = budget.take(lines.len().saturating_add(told.len()));
         if lines.len() >= told.len() || !within {
-            return Ok(lines);
+            return Ok(Vec::new(alloc));
         }
         match work.pop() {
             None => return Ok(lines),
@@ -166,5 +171,38 @@ pub(crate) fn propose<'a>(
             }
         }
     }
-    Ok(lines)
+    Ok(Vec::new(alloc))
+}
+
+/// Lines but the one at a place.
+fn without<'a>(
+    alloc: Global,
+    lines: &[Line<'a>],
+    place: usize,
+) -> Result<Vec<Line<'a>>, AllocError> {
+    let mut others = Vec::new(alloc);
+    for (at, line) in lines.iter().enumerate() {
+        if at != place {
+            others.push(*line)?;
+        }
+    }
+    Ok(others)
+}
+
+/// Lines but for those, the last ones first, without which the others say the same as what is told.
+pub(crate) fn trim<'a>(
+    alloc: Global,
+    lines: Vec<Line<'a>>,
+    told: &[Line<'a>],
+    budget: &mut Budget,
+) -> Result<Vec<Line<'a>>, AllocError> {
+    let mut left = lines;
+    let count = left.len();
+    for behind in 0..count {
+        let fewer = without(alloc, left.as_slice(), count - 1 - behind)?;
+        if let Agreement::Same = compare_lists(alloc, budget, fewer.as_slice(), told)? {
+            left = fewer;
+        }
+    }
+    Ok(left)
 }

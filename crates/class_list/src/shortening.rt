@@ -12,13 +12,13 @@ use crate::budget::Budget;
 use crate::line::{Line, class_lines};
 use crate::listing::are_listed;
 use crate::meeting::Meeting;
-use crate::proposing::propose;
+use crate::proposing::{propose, trim};
 use rule_tables::VersionedRules;
 use std::alloc::{AllocError, Global};
 use table_diff::Class;
 
-/// How many lines are looked at in proposing, and how many in checking.
-const LINES_LOOKED_AT: u64 = 1 << 25;
+/// How many lines are looked at in proposing, how many in leaving lines out, and how many in checking.
+const LINES_LOOKED_AT: u64 = 1 << 24;
 
 /// Lines, if they say the same as those that are told and are fewer, and else these.
 fn shorter<'a>(
@@ -62,5 +62,7 @@ pub fn lines_of<'a>(
     let new = Meeting { rules: new, ports };
     let mut budget = Budget::new(LINES_LOOKED_AT);
     let lines = propose(alloc, &old, &new, &told, &mut budget)?;
+    let mut budget = Budget::new(LINES_LOOKED_AT);
+    let lines = trim(alloc, lines, told.as_slice(), &mut budget)?;
     shorter(alloc, lines, told, ports)
 }

@@ -28,8 +28,8 @@
 //!
 //! # What is left to others
 //!
-//! Edits to `switch_input`, the comparison to `table_diff`, its lines to `class_list` and their text to `lines`, texts and statuses that the
-//! switch has too to `switch_input::refusals`, and all that touches the system to `edge_io`.
+//! Edits to `switch_input`, the comparison to `table_diff`, its lines to `class_list` and their text to `lines`, texts
+//! and statuses that the switch has too to `switch_input::refusals`, and all that touches the system to `edge_io`.
 //!
 //! The lines of a difference stand in `lines`.
 #![tactic(auto)]

@@ -116,10 +116,11 @@ fn end<S: Shelf, K: Sink>(alloc: Global, words: &[String], shelf: &mut S, say: &
 /// The words are those after the program's name: `[--brief] OLD NEW PORT..`. OLD and NEW name the files, whose lines
 /// are as `megaswitch` reads them; sync lines say nothing here. The ports of the switch are 1 to 32 numbers.
 ///
-/// For each class of packets three lines are printed: the match, and what the old tables and the new ones do, where no
-/// match before has the packet; of packets that both treat alike, and that are to be taken out of those that follow, the
-/// match and a line with `=`. With `--brief` one line is printed for each pair of actions. A last line counts classes
-/// and pairs. Nothing is printed where no packet is treated differently, and nothing is written to the shelf.
+/// For each class of packets three lines are printed: the match, and what the old tables and the new ones do, where
+/// no match before has the packet; of packets that both treat alike, and that are to be taken out of those that
+/// follow, the match and a line with `=`. With `--brief` one line is printed for each pair of actions. A last line
+/// counts classes and pairs. Nothing is printed where no packet is treated differently, and nothing is written to the
+/// shelf.
 ///
 /// The answer is the exit status: 0 where no packet is treated differently, 1 where some is. `spec_diff::run` has the
 /// others, and the text that is printed with each. Of a text a prefix may be missing its end where the sink fails.

@@ -30,7 +30,7 @@ use Rattle.table_diff.specs.Deciding.{is_told, tells_winner, tells, tells_too, t
 -- ---- one match
 
 -- keys that agree on a mask which decides it are both ones that a match speaks of, or neither
-told-matched : (k x mask : List ℕ) (m : Match) → is_told mask k m ≡ true → masked k mask ≡ masked x mask → is_matched x m ≡ is_matched k m
+pub told-matched : (k x mask : List ℕ) (m : Match) → is_told mask k m ≡ true → masked k mask ≡ masked x mask → is_matched x m ≡ is_matched k m
 told-matched k x mask m told e = at (covers mask m.mask) refl told
   where
     whole_match : covers mask m.mask ≡ true → is_matched x m ≡ is_matched k m

@@ -10,6 +10,7 @@ ghost use Rattle.pipe_model.specs.Runnable.{AreRunnable};
 ghost use Rattle.pipe_model.specs.Plains.{translation_in};
 ghost use Rattle.table_diff.specs.Deciding.{tells_all};
 
+use crate::finding::found;
 use crate::telling::tells_winner;
 use ovs_fields::{FieldId, Key, Mask, covers};
 use pipe_model::{Found, Lookups, Plain, SpareLists, translate_by};
@@ -57,17 +58,10 @@ impl Lookups for Checking<'_> {
         key: &Key,
         notes: &mut Checked,
     ) -> Option<Found<'a>> {
-        let version = self.rules.version();
-        let won = self.rules.scan(version, table, key);
+        let won = self.rules.scan(self.rules.version(), table, key);
         let told = tells_winner(self.rules, table, key, won, &notes.mask);
         notes.fine = notes.fine & told;
-        match won {
-            None => None,
-            Some(number) => Some(Found {
-                number,
-                actions: self.rules.actions(version, number),
-            }),
-        }
+        found(self.rules, table, key, won)
     }
 
     fn note(&self, action: OfAction, key: &Key, notes: &mut Checked) {

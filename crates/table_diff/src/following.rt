@@ -8,6 +8,7 @@ ghost use Rattle.dump_lines.specs.Live.{IsOfEdits, live_in};
 ghost use Rattle.pipe_model.specs.Runnable.{AreRunnable};
 ghost use Rattle.table_diff.specs.Following.{way_of, sent_bits};
 
+use crate::finding::found;
 use crate::path::Path;
 use crate::telling::tells_winner;
 use ovs_fields::{Key, Mask};
@@ -51,17 +52,10 @@ impl<'a> Lookups for Following<'a> {
         key: &Key,
         path: &mut Path<'a>,
     ) -> Option<Found<'b>> {
-        let version = self.rules.version();
-        let won = self.rules.scan(version, table, key);
+        let won = self.rules.scan(self.rules.version(), table, key);
         let told = tells_winner(self.rules, table, key, won, path.known());
         path.look(told);
-        match won {
-            None => None,
-            Some(number) => Some(Found {
-                number,
-                actions: self.rules.actions(version, number),
-            }),
-        }
+        found(self.rules, table, key, won)
     }
 
     fn note(&self, action: OfAction, key: &Key, path: &mut Path<'a>) {

@@ -7,6 +7,7 @@ ghost use Rattle.ovs_fields.specs.Packed.{numbers};
 ghost use Rattle.dump_lines.specs.Live.{IsOfEdits, live_in};
 ghost use Rattle.pipe_model.specs.Runnable.{AreRunnable};
 
+use crate::finding::found;
 use crate::path::Path;
 use crate::telling::to_beat;
 use ovs_fields::{Key, Mask};
@@ -62,8 +63,7 @@ impl<'a> Lookups for Leading<'a> {
         key: &Key,
         path: &mut Path<'a>,
     ) -> Option<Found<'b>> {
-        let version = self.rules.version();
-        let won = self.rules.scan(version, table, key);
+        let won = self.rules.scan(self.rules.version(), table, key);
         state_winner(
             path,
             self.rules,
@@ -71,13 +71,7 @@ impl<'a> Lookups for Leading<'a> {
             key,
             to_beat(self.rules, table, key, won),
         );
-        match won {
-            None => None,
-            Some(number) => Some(Found {
-                number,
-                actions: self.rules.actions(version, number),
-            }),
-        }
+        found(self.rules, table, key, won)
     }
 
     fn note(&self, action: OfAction, key: &Key, path: &mut Path<'a>) {

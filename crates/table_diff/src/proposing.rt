@@ -7,6 +7,7 @@ ghost use Rattle.dump_lines.specs.Live.{IsOfEdits, live_in};
 ghost use Rattle.pipe_model.specs.Runnable.{AreRunnable};
 
 use crate::choosing::add_match;
+use crate::finding::found;
 use crate::telling::to_beat;
 use ovs_fields::{Key, Mask};
 use pipe_model::{Found, Lookups, SpareLists, translate_by};
@@ -56,8 +57,7 @@ impl Lookups for Proposing<'_> {
     }
 
     fn find<'a>(&'a self, _depth: u32, table: u8, key: &Key, mask: &mut Mask) -> Option<Found<'a>> {
-        let version = self.rules.version();
-        let won = self.rules.scan(version, table, key);
+        let won = self.rules.scan(self.rules.version(), table, key);
         add_winner(
             mask,
             self.rules,
@@ -65,13 +65,7 @@ impl Lookups for Proposing<'_> {
             key,
             to_beat(self.rules, table, key, won),
         );
-        match won {
-            None => None,
-            Some(number) => Some(Found {
-                number,
-                actions: self.rules.actions(version, number),
-            }),
-        }
+        found(self.rules, table, key, won)
     }
 
     fn note(&self, action: OfAction, key: &Key, mask: &mut Mask) {

@@ -1,40 +1,14 @@
-use Rattle.std.proofs.Common.{◌≡◌, ℕ, List, Some, sym, ap, ◌∙◌, subst}
-use Rattle.std.specs.Option.{option_map}
-use Rattle.spec_actions.specs.Sound.{AreSound}
-use Rattle.spec_tables.specs.Rules.{Rule, rules_in}
+use Rattle.std.proofs.Common.{ℕ, List, ap, ◌∙◌}
+use Rattle.spec_tables.specs.Rules.{rules_in}
 use Rattle.dump_lines.specs.Live.{live_in}
 use Rattle.ovs_fields.specs.Packed.{numbers}
 use Rattle.table_diff.specs.Deciding.{tells_winner}
 use Rattle.table_diff.specs.Following.{looked}
 use Rattle.table_diff.specs.Paths.{path_view}
-use Rattle.table_diff.proofs.OpenLaws.{won_in}
 use Rattle.table_diff.proofs.following.FollowingLookups.find.Goals as goal
 
-pub actions-requires-clause-live : goal.actions-requires-clause-live
-actions-requires-clause-live c =
-    (won_in c.args.self.now.rules.now c.version-version.result c.version-version.ensures c.requires.runnable c.args.table (numbers c.args.key.now) c.in-Some.number c.in-Some.ensures).live
-
-pub returns-in-Some-clause-winner : goal.returns-in-Some-clause-winner
-returns-in-Some-clause-winner c =
-    let won = won_in c.args.self.now.rules.now c.version-version.result c.version-version.ensures c.requires.runnable c.args.table (numbers c.args.key.now) c.in-Some.number c.in-Some.ensures in
-    let found : Some won.rule.actions ≡ Some c.actions.result.now = sym (ap (option_map (λ (r : Rule). r.actions)) won.numbered) ∙ c.actions.ensures in
-    let same : won.rule.actions ≡ c.actions.result.now = cc found in record {
-      rule = won.rule;
-      wins = won.wins;
-      its_number = won.its_number;
-      its_actions = same;
-      sound = subst AreSound same won.sound;
-    }
-
-pub returns-in-None-clause-noted : goal.returns-in-None-clause-noted
-returns-in-None-clause-noted c =
-    let path = path_view c.args.path.now in
-    let rules = rules_in c.args.table (live_in c.args.self.now.rules.now) in
-    c.look.ensures
-    ∙ ap (looked path) (c.tells_winner-told.ensures ∙ ap (λ (m : List ℕ). tells_winner m rules (numbers c.args.key.now)) c.known.ensures)
-
-pub returns-in-Some-clause-noted : goal.returns-in-Some-clause-noted
-returns-in-Some-clause-noted c =
+pub returns-clause-noted : goal.returns-clause-noted
+returns-clause-noted c =
     let path = path_view c.args.path.now in
     let rules = rules_in c.args.table (live_in c.args.self.now.rules.now) in
     c.look.ensures
