@@ -19,10 +19,8 @@ use pmd_board::{
 };
 use port_caches::stats::Counts;
 use run_case::{Case, RunData};
-use run_tables::ClassifierTables;
 use std::alloc::{AllocError, Global};
-use table_versions::Tables;
-use table_versions::edits::RunEdits;
+use table_versions::{RunTables, Tables};
 
 /// A call of a board, with what it is to answer.
 #[derive(Clone, Copy)]
@@ -61,15 +59,15 @@ pub enum Call {
 pub enum Done {
     Present(u32),
     Full,
-    /// The number of the new entry, and those of the entries that were dropped.
-    Installed(u32, &'static [u32]),
+    /// The number of the new entry, and that of the entry that was dropped, if one was.
+    Installed(u32, Option<u32>),
 }
 
 /// The translation of a packet of a key under a version.
-fn translation<C: Case>(
+fn translation<C: Case, T: RunTables<C>>(
     alloc: Global,
     run: &RunData<C>,
-    edits: &RunEdits<C>,
+    store: T::Store,
     version: u32,
     key: &Key,
 ) -> Result<Xlated<C>, AllocError>
@@ -77,8 +75,8 @@ fn translation<C: Case>(
     requires made { version ≤ last_version C.run }
     ensures { IfOk result (λ x. x.key ≡ numbers key.now) }
 {
-    let mut tables = Tables::<C, ClassifierTables<C>>::new(alloc);
-    tables.follow(edits, version)?;
+    let mut tables = Tables::<C, T>::new(alloc, store);
+    tables.follow(version)?;
     tables.translate(run, key, SpareLists::new(alloc))
 }
 
@@ -107,17 +105,17 @@ fn did<C: Case>(board: &Board<C>, done: Done) -> bool {
     match (board.last_settled(), done) {
         (Some(Settled::Present(entry)), Done::Present(number)) => *entry == number,
         (Some(Settled::Full), Done::Full) => true,
-        (Some(Settled::Installed { no, dropped }), Done::Installed(number, numbers)) => {
-            *no == number && dropped.as_slice() == numbers
+        (Some(Settled::Installed { no, dropped }), Done::Installed(number, gone)) => {
+            *no == number && dropped.as_slice() == gone.as_slice()
         }
         _ => false,
     }
 }
 
-fn settles<C: Case>(
+fn settles<C: Case, T: RunTables<C>>(
     alloc: Global,
     run: &RunData<C>,
-    edits: &RunEdits<C>,
+    store: T::Store,
     board: &mut Board<C>,
     place: u32,
     version: u32,
@@ -130,7 +128,7 @@ fn settles<C: Case>(
         return Ok(false);
     }
     let at = run.keyed(port, place);
-    let made = translation(alloc, run, edits, version, &at.key)?;
+    let made = translation::<C, T>(alloc, run, store, version, &at.key)?;
     Ok(match (board.settle(&at, made), answer) {
         (Ok(()), Ok(done)) => did(board, done),
         (Err(fault), Err(expected)) => fault == expected,
@@ -148,10 +146,10 @@ fn key_of<C: Case>(board: &Board<C>, number: u32) -> Key
     }
 }
 
-fn puts<C: Case>(
+fn puts<C: Case, T: RunTables<C>>(
     alloc: Global,
     run: &RunData<C>,
-    edits: &RunEdits<C>,
+    store: T::Store,
     board: &mut Board<C>,
     number: u32,
     version: u32,
@@ -163,7 +161,7 @@ fn puts<C: Case>(
         return Ok(false);
     }
     let key = key_of(board, number);
-    let made = translation(alloc, run, edits, version, &key)?;
+    let made = translation::<C, T>(alloc, run, store, version, &key)?;
     Ok(match board.put(number, made) {
         Ok(revalidated) => answer == Ok(revalidated.done),
         Err(fault) => answer == Err(fault),
@@ -209,10 +207,10 @@ fn has_rank<C: Case>(board: &Board<C>, at: u32, expected: Option<(u32, u64)>) ->
 }
 
 /// Whether a call answers as it says.
-fn answers<C: Case>(
+fn answers<C: Case, T: RunTables<C>>(
     alloc: Global,
     run: &RunData<C>,
-    edits: &RunEdits<C>,
+    store: T::Store,
     board: &mut Board<C>,
     flow_limit: u32,
     call: Call,
@@ -224,11 +222,11 @@ fn answers<C: Case>(
         Call::Open(block, answer) => Ok(board.open_block(block) == answer),
         Call::Look(place, answer) => Ok(looks(run, board, place, answer)),
         Call::Settle(place, version, answer) => {
-            settles(alloc, run, edits, board, place, version, answer)
+            settles::<C, T>(alloc, run, store, board, place, version, answer)
         }
         Call::Begin(version, answer) => Ok(board.begin(version) == answer),
         Call::Put(entry, version, answer) => {
-            puts(alloc, run, edits, board, entry, version, answer)
+            puts::<C, T>(alloc, run, store, board, entry, version, answer)
         }
         Call::End(answer) => Ok(board.end() == answer),
         Call::Entry(number, decided, owed) => Ok(has_entry(board, number, decided, owed)),
@@ -240,15 +238,17 @@ fn answers<C: Case>(
             *board = Board::new(alloc, run, board.port(), limit)?;
             Ok(true)
         }
-        Call::Close(block, fits) => closes(alloc, run, edits, board, block, flow_limit, fits),
+        Call::Close(block, fits) => closes::<C, T>(
+            alloc, run, store, board, block, flow_limit, fits,
+        ),
     }
 }
 
 /// The place of the first call, from 0, that doesn't answer as it says. The calls are those of a new board.
-pub fn first_wrong<C: Case>(
+pub fn first_wrong<C: Case, T: RunTables<C>>(
     alloc: Global,
     run: &RunData<C>,
-    edits: &RunEdits<C>,
+    store: T::Store,
     flow_limit: u32,
     calls: &[Call],
 ) -> Result<Option<usize>, AllocError>
@@ -258,7 +258,7 @@ pub fn first_wrong<C: Case>(
 {
     let mut board = Board::new(alloc, run, PORT, flow_limit)?;
     for (place, call) in calls.iter().enumerate() {
-        if !answers(alloc, run, edits, &mut board, flow_limit, *call)? {
+        if !answers::<C, T>(alloc, run, store, &mut board, flow_limit, *call)? {
             return Ok(Some(place));
         }
     }

@@ -8,20 +8,18 @@ use crate::flows::{HIGH_TO_9, LOW_TO_ANY};
 use crate::rows::{AMPLE, NO_FRAMES, ONE_FRAME, Row, TWO_FRAMES, are_as_shown};
 use pmd_board::{Board, LookFault, Looked, OpenFault};
 use run_case::{Case, RunData};
-use run_tables::ClassifierTables;
 use std::alloc::{AllocError, Global};
 use std::mem;
 use std::test::Fail;
 use step_runner::close_phase;
-use table_versions::Tables;
-use table_versions::edits::RunEdits;
+use table_versions::{RunTables, Tables};
 
 /// Whether the end of a phase says so whether a board fits, and leaves one board, which takes the board's place. A
 /// block after the last stands for the last.
-pub fn closes<C: Case>(
+pub fn closes<C: Case, T: RunTables<C>>(
     alloc: Global,
     run: &RunData<C>,
-    edits: &RunEdits<C>,
+    store: T::Store,
     board: &mut Board<C>,
     block: u32,
     flow_limit: u32,
@@ -31,11 +29,11 @@ pub fn closes<C: Case>(
     requires limit { flow_limit ≡ C.run.flow_limit }
 {
     let block = block.min(run.last_block());
-    let mut tables = Tables::<C, ClassifierTables<C>>::new(alloc);
-    tables.follow(edits, run.hi(block))?;
+    let mut tables = Tables::<C, T>::new(alloc, store);
+    tables.follow(run.hi(block))?;
     let other = Board::new(alloc, run, board.port(), flow_limit)?;
     let boards = vec![in alloc; mem::replace(board, other)]?;
-    let (left, fitted) = close_phase(alloc, run, edits, boards, &mut tables, block, flow_limit)?;
+    let (left, fitted) = close_phase(alloc, run, store, boards, &mut tables, block, flow_limit)?;
     let mut left = left.into_vec();
     if let Some(only) = left.pop() {
         *board = only;
@@ -89,7 +87,7 @@ const ROWS: [Row; 4] = [
         flow_limit: AMPLE,
         calls: &[
             Call::Look(1, Ok(Looked::Miss)),
-            Call::Settle(1, 0, Ok(Done::Installed(1, &[]))),
+            Call::Settle(1, 0, Ok(Done::Installed(1, None))),
             Call::Look(2, Ok(Looked::Mega(1))),
             Call::Close(1, false),
             Call::NoEntry(1),

@@ -13,9 +13,9 @@ const ROWS: [Row; 1] = [Row {
     flow_limit: AMPLE,
     calls: &[
         Call::Look(1, Ok(Looked::Miss)),
-        Call::Settle(1, 2, Ok(Done::Installed(1, &[]))),
+        Call::Settle(1, 2, Ok(Done::Installed(1, None))),
         Call::Look(2, Ok(Looked::Miss)),
-        Call::Settle(2, 2, Ok(Done::Installed(2, &[]))),
+        Call::Settle(2, 2, Ok(Done::Installed(2, None))),
         Call::Rank(0, Some((1, 0))),
         Call::Rank(1, Some((2, 0))),
         Call::Look(3, Ok(Looked::Mega(2))),

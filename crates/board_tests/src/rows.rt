@@ -6,19 +6,22 @@ ghost use Rattle.spec_tables.specs.Edits.{has_sound_actions};
 ghost use Rattle.run_case.specs.Places.{HasPort, IsCounted, AreCounted};
 ghost use Rattle.spec_case.specs.Blocks.{AreInOrder};
 ghost use Rattle.spec_case.specs.Run.{edit_count, last_version};
+ghost use Rattle.rule_tables.specs.History.{history_of};
 
 use crate::calls::{Call, first_wrong};
 use crate::flows::{Flow, edits_of};
 use pcap_files::reader::{Trace, read_trace};
 use port_caches::stats::Counts;
-use rule_tables::Edit;
+use rule_tables::{Edit, VersionedRules};
 use run_case::{Case, Ports, RunData};
+use run_tables::ClassifierTables;
 use spec_tables::SyncPoint;
 use std::alloc::{AllocError, Global};
 use std::marker::Brand;
 use std::process::Abort;
+use std::slice;
 use std::test::Fail;
-use table_versions::edits::RunEdits;
+use table_versions::rules::RunRules;
 
 /// A flow limit that no row reaches.
 pub const AMPLE: u32 = 8;
@@ -104,17 +107,20 @@ fn trace_of(alloc: Global, frames: &[(u8, u8)]) -> Result<Trace, Fail>
     Ok(read_trace(alloc, file, MANY)?)
 }
 
-/// How many edits stand through each bundle, where each edit is one by itself.
-fn each_alone(alloc: Global, edits: u32) -> Result<Vec<u32>, AllocError>
-    requires { edits < MANY }
-    ensures whole { IfOk result (λ bundles. AreBundles bundles.items edits) }
-    ensures count { IfOk result (λ bundles. length bundles.items ≡ edits) }
+/// The rules that edits make where each of them is a bundle by itself, and how many edits stand through each bundle.
+fn each_alone(alloc: Global, edits: &[Edit]) -> Result<(VersionedRules, Vec<u32>), AllocError>
+    requires { length edits.now < MANY }
+    ensures rules { IfOk result (λ r. r.0 ≡ history_of edits.now r.1.items) }
+    ensures whole { IfOk result (λ r. AreBundles r.1.items (length edits.now)) }
+    ensures count { IfOk result (λ r. length r.1.items ≡ length edits.now) }
 {
+    let mut rules = VersionedRules::new(alloc);
     let mut bundles = Vec::new(alloc);
-    'edits: for before in 0..edits {
-        bundles.push(before + 1)?;
+    'edits: for edit in edits {
+        rules.apply(slice::from_ref(edit))?;
+        bundles.push(rules.edits())?;
     }
-    Ok(bundles)
+    Ok((rules, bundles))
 }
 
 fn syncs_of(
@@ -152,18 +158,19 @@ fn first_wrong_of(alloc: Global, row: &Row) -> Result<Option<usize>, Fail>
     list.push(PORT)?;
     let ports = Ports::new(list);
     let edits = edits_of(alloc, row.flows)?;
-    let bundles = each_alone(alloc, edits.len() as u32)?;
+    let (rules, bundles) = each_alone(alloc, &edits)?;
     let syncs = syncs_of(alloc, row.sync, bundles.len() as u32)?;
     let mut traces = Vec::new(alloc);
     traces.push(trace_of(alloc, row.frames)?)?;
-    Ok(in_run::<Brand>(alloc, ports, edits, bundles, syncs, traces, row)?)
+    Ok(in_run::<Brand>(alloc, ports, edits, bundles, rules, syncs, traces, row)?)
 }
 
-fn in_run<C: Case>(
+fn in_run<C: Case + Send + Sync>(
     alloc: Global,
     ports: Ports,
     edits: Vec<Edit>,
     bundles: Vec<u32>,
+    rules: VersionedRules,
     syncs: Vec<SyncPoint>,
     traces: Vec<Trace>,
     row: &Row,
@@ -171,6 +178,7 @@ fn in_run<C: Case>(
     requires ports { ports ≡ C.run.ports }
     requires edits { edits.items ≡ C.run.edits }
     requires bundles { bundles.items ≡ C.run.bundles }
+    requires rules { rules ≡ history_of C.run.edits C.run.bundles }
     requires whole { AreBundles C.run.bundles (edit_count C.run) }
     requires syncs { syncs.items ≡ C.run.syncs }
     requires traces { traces.items ≡ C.run.traces }
@@ -192,6 +200,6 @@ fn in_run<C: Case>(
         syncs,
         traces,
     )?;
-    let edits = RunEdits::new(edits, bundles);
-    first_wrong(alloc, &run, &edits, row.flow_limit, row.calls)
+    let rules = RunRules::new(rules);
+    first_wrong::<C, ClassifierTables<'_, C>>(alloc, &run, &rules, row.flow_limit, row.calls)
 }

@@ -17,7 +17,6 @@ use spec_case::RunStep;
 use spec_dumps::Ran;
 use std::alloc::{AllocError, Global};
 use step_runner::finish;
-use table_versions::edits::RunEdits;
 use table_versions::{RunTables, Tables};
 
 /// Carries out given steps on the boards of a run, one after the other, and answers the boards, how many steps there were
@@ -28,7 +27,6 @@ use table_versions::{RunTables, Tables};
 pub fn run_steps<C: Case, T: RunTables<C>>(
     alloc: Global,
     run: &RunData<C>,
-    edits: &RunEdits<C>,
     boards: Boards<C>,
     tables: &mut Tables<C, T>,
     steps: &[RunStep],
@@ -47,7 +45,7 @@ pub fn run_steps<C: Case, T: RunTables<C>>(
     let mut list = scheduled_boards(alloc, boards)?;
     let mut unmet = 0;
     'steps: for step in steps {
-        let met = take_given(alloc, run, edits, tables, &mut list, step)?;
+        let met = take_given(alloc, run, tables, &mut list, step)?;
         if !met {
             unmet += 1;
         }
@@ -67,7 +65,7 @@ pub fn run_steps<C: Case, T: RunTables<C>>(
 pub fn run_schedule<C: Case, T: RunTables<C>>(
     alloc: Global,
     run: &RunData<C>,
-    edits: &RunEdits<C>,
+    store: T::Store,
     flow_limit: u32,
     steps: &[RunStep],
 ) -> Result<(Finished<C>, Ran), AllocError>
@@ -80,11 +78,11 @@ pub fn run_schedule<C: Case, T: RunTables<C>>(
     ensures unmet { IfOk result (λ r. r.1.unmet ≡ (whole_runs.scheduled C.run).unmet) }
 {
     let boards = Boards::new(alloc, run, flow_limit)?;
-    let mut tables = Tables::<C, T>::new(alloc);
-    let (left, ran) = run_steps(alloc, run, edits, boards, &mut tables, steps)?;
+    let mut tables = Tables::<C, T>::new(alloc, store);
+    let (left, ran) = run_steps(alloc, run, boards, &mut tables, steps)?;
     // There is one board for each port, with the run's flow limit.
     let _ = left.as_slice();
-    let done = finish(alloc, run, edits, left, &mut tables)?;
+    let done = finish(alloc, run, left, &mut tables)?;
     // The journals are whole.
     let _ = done.boards();
     Ok((done, ran))

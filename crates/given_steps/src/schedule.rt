@@ -14,7 +14,6 @@ use run_boards::Boards;
 use run_case::{Case, RunData};
 use spec_case::RunStep;
 use std::alloc::{AllocError, Global};
-use table_versions::edits::RunEdits;
 use table_versions::{RunTables, Tables};
 
 // ---- boards that begin and end
@@ -101,10 +100,9 @@ fn least_block<C: Case>(run: &RunData<C>, boards: &[ScheduledBoard<C>]) -> u32
     least
 }
 
-// Publishes the next bundle, if one of the least block of the boards is left, and answers whether it did.
+// Goes on to the next version, if one of the least block of the boards is left, and answers whether it did.
 fn publish<C: Case, T: RunTables<C>>(
     run: &RunData<C>,
-    edits: &RunEdits<C>,
     boards: &[ScheduledBoard<C>],
     tables: &mut Tables<C, T>,
 ) -> Result<bool, AllocError>
@@ -114,7 +112,7 @@ fn publish<C: Case, T: RunTables<C>>(
         (λ met. tables.new ≡ (if met then tables.old + 1 else tables.old)) }
 {
     if tables.version() < run.hi(least_block(run, boards)) {
-        tables.publish_next(edits)?;
+        tables.advance()?;
         return Ok(true);
     }
     Ok(false)
@@ -154,7 +152,6 @@ fn take_port_step<C: Case, T: RunTables<C>>(
 pub(crate) fn take_given<C: Case, T: RunTables<C>>(
     alloc: Global,
     run: &RunData<C>,
-    edits: &RunEdits<C>,
     tables: &mut Tables<C, T>,
     boards: &mut Vec<ScheduledBoard<C>>,
     step: &RunStep,
@@ -168,7 +165,7 @@ pub(crate) fn take_given<C: Case, T: RunTables<C>>(
 {
     let _ = run.last_block();
     match port_in(step) {
-        None => Ok(publish(run, edits, boards, tables)?),
+        None => Ok(publish(run, boards, tables)?),
         Some(port) => Ok(take_port_step(alloc, run, tables, boards, port, step)?),
     }
 }

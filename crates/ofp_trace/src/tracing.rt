@@ -32,7 +32,12 @@ pub struct Traced {
 /// lookup more than 64 deep, a 513th lookup, a 129th datapath action. The lookups that it made before are told.
 ///
 /// The only error is out of memory, and then nothing is left behind.
-pub fn trace(alloc: Global, tables: &Tables, ports: &[u16], key: &Key) -> Result<Traced, AllocError>
+pub fn trace(
+    alloc: Global,
+    tables: &Tables<'_>,
+    ports: &[u16],
+    key: &Key,
+) -> Result<Traced, AllocError>
     requires { AreRunnable tables.now.rules }
     ensures path { IfOk result (λ t.
         t.path.items ≡ path_of (switch_of tables.now.rules ports.now) (numbers key.now)) }

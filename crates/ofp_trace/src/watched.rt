@@ -8,7 +8,7 @@ use tuple_classifier::Tables;
 /// The tables of a version, and the ports. Each lookup is noted.
 #[derive(Clone, Copy)]
 pub(crate) struct Watched<'a> {
-    pub(crate) tables: &'a Tables,
+    pub(crate) tables: &'a Tables<'a>,
     pub(crate) ports: &'a [u16],
 }
 

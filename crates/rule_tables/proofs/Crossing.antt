@@ -2,6 +2,7 @@
 -- come to an end.
 use denote.Param.Send.{IsSend, IsSync, sendable}
 use Rattle.std.proofs.Crossing.{crosses}
+use Rattle.std.proofs.MapsCrossing.{HashMap-send, HashMap-sync}
 use Rattle.ovs_fields.proofs.Crossing.{key_send, key_sync, mask_send, mask_sync}
 use Rattle.spec_keys.specs.contracts.field_id.FieldId as field_id
 use Rattle.spec_actions.specs.contracts.named_field.NamedField as name
@@ -10,6 +11,16 @@ use Rattle.spec_actions.specs.contracts.action.OfAction as action
 use Rattle.rule_tables.specs.contracts.actions.Actions as actions
 use Rattle.rule_tables.specs.contracts.edit.Edit as edit
 use Rattle.rule_tables.specs.contracts.matching.Match as matching
+use Rattle.rule_tables.specs.contracts.rule.Rule as rule
+use Rattle.rule_tables.specs.contracts.identity.RuleIdentity as identity
+use Rattle.rule_tables.specs.contracts.stored.Modification as modification
+use Rattle.rule_tables.specs.contracts.stored.StoredRule as stored
+use Rattle.rule_tables.specs.contracts.givings.Giving as giving
+use Rattle.rule_tables.specs.contracts.givings.GivingLog as log
+use Rattle.rule_tables.specs.contracts.ending.Ending as ending
+use Rattle.rule_tables.specs.contracts.signatures.signature.Signature as signature
+use Rattle.rule_tables.specs.contracts.edited.EditedRules as edited
+use Rattle.rule_tables.specs.contracts.versions.VersionedRules as versions
 
 pub field_id_send : IsSend (field_id.the_field).row
 field_id_send = search (sendable, crosses) depth 100 fits 20000
@@ -52,3 +63,69 @@ edit_send = search (sendable, crosses, actions_send, matching_send) depth 100 fi
 
 pub edit_sync : IsSync edit.the_row
 edit_sync = search (sendable, crosses, actions_sync, matching_sync) depth 100 fits 20000
+
+rule_send : IsSend (rule.the_field).row
+rule_send = search (sendable, crosses, matching_send) depth 100 fits 20000
+
+rule_sync : IsSync (rule.the_field).row
+rule_sync = search (sendable, crosses, matching_sync) depth 100 fits 20000
+
+identity_send : IsSend (identity.the_field).row
+identity_send = search (sendable, crosses, matching_send) depth 100 fits 20000
+
+identity_sync : IsSync (identity.the_field).row
+identity_sync = search (sendable, crosses, matching_sync) depth 100 fits 20000
+
+edit_field_send : IsSend (edit.the_field).row
+edit_field_send = search (sendable, crosses, actions_send, matching_send) depth 100 fits 20000
+
+edit_field_sync : IsSync (edit.the_field).row
+edit_field_sync = search (sendable, crosses, actions_sync, matching_sync) depth 100 fits 20000
+
+modification_send : IsSend (modification.the_field).row
+modification_send = search (sendable, crosses, edit_field_send) depth 100 fits 20000
+
+modification_sync : IsSync (modification.the_field).row
+modification_sync = search (sendable, crosses, edit_field_sync) depth 100 fits 20000
+
+stored_send : IsSend (stored.the_field).row
+stored_send = search (sendable, crosses, rule_send, actions_send) depth 100 fits 20000
+
+stored_sync : IsSync (stored.the_field).row
+stored_sync = search (sendable, crosses, rule_sync, actions_sync) depth 100 fits 20000
+
+giving_send : IsSend (giving.the_field).row
+giving_send = search (sendable, crosses) depth 100 fits 20000
+
+giving_sync : IsSync (giving.the_field).row
+giving_sync = search (sendable, crosses) depth 100 fits 20000
+
+log_send : IsSend (log.the_field).row
+log_send = search (sendable, crosses, giving_send) depth 100 fits 20000
+
+log_sync : IsSync (log.the_field).row
+log_sync = search (sendable, crosses, giving_sync) depth 100 fits 20000
+
+ending_send : IsSend (ending.the_field).row
+ending_send = search (sendable, crosses) depth 100 fits 20000
+
+ending_sync : IsSync (ending.the_field).row
+ending_sync = search (sendable, crosses) depth 100 fits 20000
+
+signature_send : IsSend (signature.the_field).row
+signature_send = search (sendable, crosses) depth 100 fits 20000
+
+signature_sync : IsSync (signature.the_field).row
+signature_sync = search (sendable, crosses) depth 100 fits 20000
+
+edited_send : IsSend (edited.the_field).row
+edited_send = search (sendable, crosses, HashMap-send, stored_send, modification_send, log_send, identity_send, ending_send, signature_send) depth 100 fits 20000
+
+edited_sync : IsSync (edited.the_field).row
+edited_sync = search (sendable, crosses, HashMap-sync, stored_sync, modification_sync, log_sync, identity_sync, ending_sync, signature_sync) depth 100 fits 20000
+
+pub versions_send : IsSend (versions.the_field).row
+versions_send = search (sendable, crosses, edited_send) depth 100 fits 20000
+
+pub versions_sync : IsSync (versions.the_field).row
+versions_sync = search (sendable, crosses, edited_sync) depth 100 fits 20000

@@ -1,7 +1,10 @@
 mod Adding
 mod Applying
+mod Between
+mod Changing
 mod Counts
 pub mod Crossing
+mod EndLaws
 mod EndingSteps
 mod Endings
 mod Ends
@@ -16,6 +19,8 @@ mod Lives
 mod Logged
 mod Modified
 mod Numbered
+mod Orders
+mod Reordered
 mod Rows
 mod Seen
 mod SeenVersions

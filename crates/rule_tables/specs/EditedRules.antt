@@ -1,8 +1,9 @@
 -- The rules after each edit, as they are stored, and the room for more.
-use Rattle.std.specs.Prelude.{◌≡◌, ◌-◌, min, vec_len, vec_capacity}
+use Rattle.std.specs.Prelude.{◌≡◌, ◌-◌, ◌≤◌, min, vec_len, vec_capacity}
 use Rattle.std.specs.HashMap.{get, spare}
 use Rattle.rule_tables.specs.declared.edited.EditedRules.TheInside.{Inside}
 use Rattle.rule_tables.specs.Edited.{Edited}
+use Rattle.rule_tables.specs.Ends.{AreEnds}
 use Rattle.rule_tables.specs.Givings.{IsLog}
 use Rattle.rule_tables.specs.History.{EditHistory, states_to}
 use Rattle.rule_tables.specs.Stored.{rules_at, is_same_identity, signatures_in, AreConsistent}
@@ -13,12 +14,17 @@ history_in a = record { states = states_to a.last (λ n. rules_at a.modification
 abbrev pub edited_in : Inside → Edited
 edited_in a = record {
   history = history_in a;
-  adds = min (min (vec_capacity a.rules - vec_len a.rules) (spare a.places)) (vec_capacity a.signatures - vec_len a.signatures);
+  adds =
+      min (min (min (vec_capacity a.rules - vec_len a.rules) (spare a.places)) (vec_capacity a.signatures - vec_len a.signatures))
+      (vec_capacity a.ends - vec_len a.rules);
   modifies = vec_capacity a.modifications - vec_len a.modifications;
 }
 
--- What is stored is consistent, the log is one of it, and the signatures are those of its rules.
+-- What is stored is consistent, the log is one of it, the signatures are those of its rules, and the ends those of their lives;
+-- and there is room for the end of each.
 pub record IsConsistent (a : Inside) : Type 0 where
   pub consistent : AreConsistent a.modifications.items a.rules.items (λ identity. get is_same_identity a.places identity) a.last a.changes
   pub log : IsLog a.log a.modifications.items a.rules.items
   pub signed : a.signatures.items ≡ signatures_in a.rules.items
+  pub ends : AreEnds a.ends.items a.rules.items a.last
+  pub room : vec_len a.rules ≤ vec_capacity a.ends

@@ -1,7 +1,10 @@
 pub mod Added
+pub mod Bare
 pub mod Candidates
+pub mod Changes
 pub mod Edited
 pub mod EditedRules
+pub mod Ends
 pub mod Givings
 pub mod History
 pub mod Included

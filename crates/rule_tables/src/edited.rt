@@ -1,15 +1,18 @@
 //! The rules after each edit, edit by edit.
-ghost use Rattle.std.specs.Prelude.{◌≡◌, ◌+◌, ◌<◌, ◌≤◌, ◌^◌, ◌↔◌, IsTrue, IsNone, IfSome, OnOk, Some, None, length, is_some, if◌then◌else◌};
+ghost use Rattle.std.specs.Prelude.{◌≡◌, ◌+◌, ◌<◌, ◌≤◌, ◌^◌, ◌↔◌, IsTrue, IsNone, IfSome, OnOk, Some, None, [], ◌++◌, length, map, is_some, if◌then◌else◌, IsPermutation};
 ghost use Rattle.std.specs.Option.{option_map};
 ghost use Rattle.spec_tables.specs.declared.edit_word.EditWord.TheVariants.{Add, Delete, DeleteStrict};
 ghost use Rattle.spec_tables.specs.Rules.{rules_in, winner};
 ghost use Rattle.spec_tables.specs.Live.{is_live, rule_numbered};
 ghost use Rattle.ovs_fields.specs.Packed.{numbers};
 ghost use Rattle.rule_tables.specs.Added.{IsAdded};
+ghost use Rattle.rule_tables.specs.Bare.{bare, apart_from, told, IsChangedTo, AreRising};
 ghost use Rattle.rule_tables.specs.Edited.{is_add, adds_in, modifies_in};
 ghost use Rattle.rule_tables.specs.History.{applied, rules_after, added_as, edited_by, edited_by_all};
 
+use crate::changes::Change;
 use crate::edit::Edit;
+use crate::ending::Ending;
 use crate::givings::{GivingLog, actions_in, cookie_in};
 use crate::identity::RuleIdentity;
 use crate::rule::Rule;
@@ -34,6 +37,8 @@ pub(crate) struct EditedRules {
     log: GivingLog,
     /// The place among the rules of the live rule of each identity.
     places: HashMap<RuleIdentity, u32>,
+    /// The lives that ended, in the order of the edits that ended them.
+    ends: Vec<Ending>,
     /// The signature of each rule's match, in the same order, by which loose words pass most rules over.
     signatures: Vec<Signature>,
     /// The number of the last edit: how many were applied.
@@ -69,6 +74,7 @@ impl EditedRules {
             modifications: Vec::new(alloc),
             log: GivingLog::new(alloc),
             places: HashMap::new(alloc),
+            ends: Vec::new(alloc),
             signatures: Vec::new(alloc),
             last: 0,
             changes: 0,
@@ -101,6 +107,7 @@ impl EditedRules {
         self.places.reserve(adds)?;
         self.modifications.reserve(modifies)?;
         self.signatures.reserve(adds)?;
+        self.ends.reserve(self.rules.capacity() - self.ends.len())?;
         Ok(())
     }
 
@@ -169,6 +176,41 @@ impl EditedRules {
         }
     }
 
+    /// What the edits past `before` changed, up to `after`.
+    pub(crate) fn change(&self, before: u32, after: u32) -> Change<'_>
+        requires order { before ≤ after }
+        requires made { after ≤ applied self.now.history }
+        ensures came { told result.came
+            ≡ apart_from (rules_after self.now.history before) (rules_after self.now.history after) }
+        ensures went { IsPermutation
+            (apart_from (rules_after self.now.history after) (rules_after self.now.history before))
+            (told result.went) }
+    {
+        Change::between(&self.rules, &self.ends, before, after)
+    }
+
+    /// How the rules after so many edits lead to those after more, but for what modifies give.
+    pub(crate) fn change_laws(&self, before: u32, after: u32)
+        requires order { before ≤ after }
+        requires made { after ≤ applied self.now.history }
+        ensures bare { IsChangedTo (rules_after self.now.history before)
+            (rules_after self.now.history after) }
+        ensures rising { AreRising (map bare (rules_after self.now.history before)
+            ++ apart_from (rules_after self.now.history before) (rules_after self.now.history after)) }
+        ensures few { length (map bare (rules_after self.now.history before)
+            ++ apart_from (rules_after self.now.history before) (rules_after self.now.history after))
+            < 2 ^ 32 }
+    {
+        let _ = &self.rules;
+    }
+
+    /// Before the first edit there are no rules.
+    pub(crate) fn first_law(&self)
+        ensures { rules_after self.now.history 0 ≡ [] }
+    {
+        let _ = &self.rules;
+    }
+
     /// Applies the next edit. There is memory for it.
     fn apply(&mut self, edit: Edit)
         requires few { applied self.old.history + 1 < 2 ^ 32 }
@@ -204,7 +246,7 @@ impl EditedRules {
         };
         self.rules.push_reserved(stored);
         self.signatures.push_reserved(signature);
-        end_rule(&mut self.rules, replaced, number);
+        end_rule(&mut self.rules, &mut self.ends, replaced, number);
         self.last = number;
         self.changes += count_changes(replaced);
     }
@@ -250,6 +292,7 @@ impl EditedRules {
         let count = end_rules(
             &mut self.rules,
             &mut self.places,
+            &mut self.ends,
             edit,
             number,
             &self.signatures,
@@ -268,7 +311,7 @@ impl EditedRules {
     {
         let number = self.last + 1;
         let place = self.places.remove(&RuleIdentity::named_by(edit));
-        end_rule(&mut self.rules, place, number);
+        end_rule(&mut self.rules, &mut self.ends, place, number);
         self.last = number;
         self.changes += u64::from(place.is_some());
     }

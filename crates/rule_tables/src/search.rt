@@ -5,16 +5,29 @@ ghost use Rattle.spec_tables.specs.Live.{rule_numbered};
 ghost use Rattle.ovs_fields.specs.Packed.{numbers};
 ghost use Rattle.rule_tables.specs.declared.stored.Modification.{Modification};
 ghost use Rattle.rule_tables.specs.Candidates.{is_candidate};
+ghost use Rattle.rule_tables.specs.Ends.{IsBetween};
 ghost use Rattle.rule_tables.specs.Stored.{stored_in, stored_numbered, rules_at, is_alive, AreInOrder};
 
 use crate::stored::StoredRule;
 use ovs_fields::{Key, agree};
 
 /// The stored rule at a place, if there is one.
-fn rule_at(rules: &[StoredRule], place: usize) -> Option<&StoredRule>
+pub(crate) fn rule_at(rules: &[StoredRule], place: usize) -> Option<&StoredRule>
     ensures { option_map (λ s. s.now) result ≡ slice_get rules.now place }
 {
     rules.get(place)
+}
+
+/// The stored rules that the edits past `before` added, up to `after`. They stand in the order of their numbers.
+pub(crate) fn added_between(rules: &[StoredRule], before: u32, after: u32) -> &[StoredRule]
+    requires { AreInOrder rules.now }
+    ensures { IsBetween (λ s. s.rule.number) before after rules.now result.now }
+{
+    let first = rules.partition_point(|stored| stored.rule.number <= before);
+    let (_, later) = rules.split_at(first);
+    let count = later.partition_point(|stored| stored.rule.number <= after);
+    let (added, _) = later.split_at(count);
+    added
 }
 
 /// The stored rule of a number. They stand in the order of their numbers.

@@ -1,11 +1,13 @@
-ghost use Rattle.std.specs.Prelude.{◌≡◌, ◌<◌, ◌≤◌, length, map, count_by, None};
+ghost use Rattle.std.specs.Prelude.{◌≡◌, ◌<◌, ◌≤◌, ◌^◌, length, map, count_by, None, vec_len, vec_capacity};
 ghost use Rattle.std.specs.Option.{ForSome};
 ghost use Rattle.std.specs.HashMap.{get, spare};
+ghost use Rattle.rule_tables.specs.Ends.{with_ending, AreEnds};
 ghost use Rattle.rule_tables.specs.Signed.{signature_in};
 ghost use Rattle.rule_tables.specs.Stored.{acts_on, ended_by, with_end, is_same_identity, signatures_in, AreFound, IsWanted};
 
 use crate::actions::Actions;
 use crate::edit::Edit;
+use crate::ending::Ending;
 use crate::identity::RuleIdentity;
 use crate::rule::Rule;
 use crate::signatures::Signature;
@@ -110,27 +112,43 @@ pub(crate) fn count_acted_on(rules: &[StoredRule], edit: &Edit, signatures: &[Si
     count
 }
 
-/// Ends the life of the rule at a place, if there is one.
-pub(crate) fn end_rule(rules: &mut [StoredRule], place: Option<u32>, gone: u32)
-    requires { ForSome place (λ i. i < length rules.old) }
-    ensures { rules.new ≡ with_end place gone rules.old }
+/// Ends the life of the rule at a place, if there is one, and logs it. There is room for that.
+pub(crate) fn end_rule(
+    rules: &mut [StoredRule],
+    ends: &mut Vec<Ending>,
+    place: Option<u32>,
+    gone: u32,
+)
+    requires within { ForSome place (λ i. i < length rules.old) }
+    requires room { ForSome place (λ i. vec_len ends.old < vec_capacity ends.old) }
+    ensures rules { rules.new ≡ with_end place gone rules.old }
+    ensures ends { ends.new.items ≡ with_ending place gone ends.old.items }
+    ensures capacity { vec_capacity ends.new ≡ vec_capacity ends.old }
 {
     if let Some(place) = place {
         rules[place as usize].gone = Some(gone);
+        ends.push_reserved(Ending { place, edit: gone });
     }
 }
 
-/// Ends the lives of the rules that an edit acts on, takes their identities out of the map, and answers how many they are.
+/// Ends the lives of the rules that an edit acts on, logs that, takes their identities out of the map, and answers how
+/// many they are. There is room for the ends of all lives.
 pub(crate) fn end_rules(
     rules: &mut [StoredRule],
     places: &mut HashMap<RuleIdentity, u32>,
+    ends: &mut Vec<Ending>,
     edit: &Edit,
     gone: u32,
     signatures: &[Signature],
 ) -> usize
     requires found { AreFound rules.old (λ q. get is_same_identity places.old q) }
     requires signed { signatures.now ≡ signatures_in rules.old }
+    requires ended { AreEnds ends.old.items rules.old gone }
+    requires few { length rules.old < 2 ^ 32 }
+    requires room { length rules.old ≤ vec_capacity ends.old }
     ensures rules { rules.new ≡ map (ended_by edit.now gone) rules.old }
+    ensures ended { AreEnds ends.new.items rules.new gone }
+    ensures capacity { vec_capacity ends.new ≡ vec_capacity ends.old }
     ensures found { AreFound rules.new (λ q. get is_same_identity places.new q) }
     ensures spare { spare places.old ≤ spare places.new }
     ensures count { result ≡ count_by (acts_on edit.now) rules.old }
@@ -142,6 +160,10 @@ pub(crate) fn end_rules(
         if stored.is_found(&signatures[place], edit, &wanted) {
             places.remove(&RuleIdentity::of(&stored.rule));
             stored.gone = Some(gone);
+            ends.push_reserved(Ending {
+                place: place as u32,
+                edit: gone,
+            });
             count += 1;
         }
         place += 1;

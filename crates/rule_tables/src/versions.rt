@@ -1,12 +1,16 @@
-ghost use Rattle.std.specs.Prelude.{◌≡◌, ◌+◌, ◌<◌, ◌≤◌, ◌^◌, ◌↔◌, IsTrue, IsNone, IfSome, IfOk, OnOk, OnErr, Some, None, length};
+ghost use Rattle.std.specs.Prelude.{◌≡◌, ◌+◌, ◌<◌, ◌≤◌, ◌^◌, ◌↔◌, IsTrue, IsNone, IfSome, IfOk, OnOk, OnErr, Some, None, [], ◌++◌, length, map, IsPermutation};
 ghost use Rattle.std.specs.Option.{option_map};
 ghost use Rattle.spec_tables.specs.Rules.{rules_in, winner};
+ghost use Rattle.spec_tables.specs.Edits.{without};
 ghost use Rattle.spec_tables.specs.Live.{is_live, rule_numbered};
 ghost use Rattle.ovs_fields.specs.Packed.{numbers};
 ghost use Rattle.rule_tables.specs.Added.{IsAdded};
+ghost use Rattle.rule_tables.specs.Bare.{bare, told, AreRising};
+ghost use Rattle.rule_tables.specs.Changes.{came, went};
 ghost use Rattle.rule_tables.specs.Edited.{adds_in, modifies_in};
 ghost use Rattle.rule_tables.specs.History.{applied, newest, rules_of, added_as, bundled_by};
 
+use crate::changes::Change;
 use crate::edit::{Edit, copies, count_adds, count_modifies};
 use crate::edited::EditedRules;
 use crate::rule::Rule;
@@ -142,6 +146,44 @@ impl VersionedRules {
     {
         let edits = self.edits_through(v);
         self.edited.actions(edits, number)
+    }
+
+    /// What the bundle after a version changed, which makes the next one.
+    pub fn change(&self, v: u32) -> Change<'_>
+        requires { v < newest self.now }
+        ensures came { told result.came ≡ came self.now v }
+        ensures went { IsPermutation (went self.now v) (told result.went) }
+    {
+        // That the next version is a `u32`.
+        let _ = self.version();
+        let before = self.edits_through(v);
+        let next = v + 1;
+        let after = self.edits_through(next);
+        self.edited.change(before, after)
+    }
+
+    /// How the rules of a version lead to those of the next one. Those that come have greater numbers.
+    pub fn change_laws(&self, v: u32)
+        requires { v < newest self.now }
+        ensures bare { map bare (rules_of self.now (v + 1))
+            ≡ without (λ r. is_live r.number (went self.now v)) (map bare (rules_of self.now v))
+            ++ came self.now v }
+        ensures rising { AreRising (map bare (rules_of self.now v) ++ came self.now v) }
+        ensures few { length (map bare (rules_of self.now v) ++ came self.now v) < 2 ^ 32 }
+    {
+        // That the next version is a `u32`.
+        let _ = self.version();
+        let before = self.edits_through(v);
+        let next = v + 1;
+        let after = self.edits_through(next);
+        self.edited.change_laws(before, after);
+    }
+
+    /// Version 0 has no rules.
+    pub fn first_law(&self)
+        ensures { rules_of self.now 0 ≡ [] }
+    {
+        self.edited.first_law();
     }
 
     /// How many edits stand through a bundle.

@@ -3,7 +3,7 @@
 //! # What?
 //!
 //! What a run is given is known only once it has been read: the ports of the words, the edits and the sync points of
-//! their file, and a trace of each port. `RunData` holds it, but for the edits themselves, which `table_versions::edits` holds.
+//! their file, and a trace of each port. `RunData` holds it, but for what the edits make, which `table_versions::rules` holds.
 //! Boards, tables and threads each keep a part of the run, and all must speak of the same one. A `Case` is the name by
 //! which they do: `RunData<C>`, `Keyed<C>` and the types of the crates above are of the run `C.run`, and a contract
 //! tells what they hold without another word.

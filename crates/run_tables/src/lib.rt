@@ -13,12 +13,14 @@
 //! # How
 //!
 //! The rules are kept by their masks (`tuple_classifier`), packets are translated over them (`xlate_pipeline`), and the
-//! ports are those of the run. A bundle changes the tables in place, so no older version is kept. A translation is made in
-//! lists that its caller hands in, whose memory it uses again.
+//! ports are those of the run. The classifier is an index of the run's rules, which all tables of the run share, and goes
+//! on from version to version in place. A translation is made in lists that its caller hands in, whose memory it uses
+//! again.
 //!
 //! # What is left to others
 //!
-//! Going on from version to version by the run's own bundles: `table_versions`.
+//! What the edits make, and what a bundle changed: the store of the run's rules (`rule_tables`, under the name of the run
+//! in `table_versions`).
 #![tactic(auto)]
 
 mod tables;

@@ -1,30 +1,29 @@
-ghost use Rattle.std.specs.Prelude.{◌≡◌, ◌+◌, ◌≤◌, IsTrue, IfOk, OnOk, OnErr};
+ghost use Rattle.std.specs.Prelude.{◌≡◌, ◌+◌, ◌<◌, ◌≤◌, IsTrue, IfOk, OnOk, OnErr};
 ghost use Rattle.std.specs.List.{list_all};
 ghost use Rattle.spec_case.specs.Run.{last_version};
 ghost use Rattle.ovs_fields.specs.Packed.{numbers};
 ghost use Rattle.spec_tables.specs.Edits.{has_sound_actions};
-ghost use Rattle.table_versions.specs.NextBundle.{IsBundleOf};
 
 use ovs_fields::Key;
 use pipe_model::SpareLists;
-use rule_tables::Edit;
 use run_case::{Case, RunData};
 use run_xlate::Xlated;
 use std::alloc::{AllocError, Global};
 use std::marker::{Model, PhantomData};
 use table_versions::RunTables;
+use table_versions::rules::RunRules;
 use xlate_pipeline::translate;
 
-/// The tables of one version of a run, kept in a classifier: the rules that so many bundles of it make.
+/// The tables of one version of a run, kept in a classifier over its rules.
 ///
-/// Its type keeps that the rules are those, and that the edits' actions can be run.
+/// Its type keeps that the rules are those of the run, and that the edits' actions can be run.
 #[derive(Drop)]
-pub struct ClassifierTables<C: Case> {
-    rules: tuple_classifier::Tables,
+pub struct ClassifierTables<'s, C: Case> {
+    rules: tuple_classifier::Tables<'s>,
     of: PhantomData<C>,
 }
 
-impl<C: Case> Model for ClassifierTables<C> {
+impl<'s, C: Case> Model for ClassifierTables<'s, C> {
     ghost use Rattle.std.specs.Prelude.{ℕ};
     ghost use Rattle.run_tables.specs.OfRun.{AreOfRun};
 
@@ -35,12 +34,14 @@ impl<C: Case> Model for ClassifierTables<C> {
     ghost invariant = { λ t. AreOfRun C.run t.rules };
 }
 
-impl<C: Case> RunTables<C> for ClassifierTables<C> {
+impl<'s, C: Case + Send + Sync + 's> RunTables<C> for ClassifierTables<'s, C> {
     ghost bundles = { λ t. t };
 
-    fn new(alloc: Global) -> ClassifierTables<C> {
+    type Store = &'s RunRules<C>;
+
+    fn new(alloc: Global, store: &'s RunRules<C>) -> ClassifierTables<'s, C> {
         ClassifierTables {
-            rules: tuple_classifier::Tables::new(alloc),
+            rules: tuple_classifier::Tables::new(alloc, store.store()),
             of: PhantomData,
         }
     }
@@ -49,8 +50,8 @@ impl<C: Case> RunTables<C> for ClassifierTables<C> {
         self.rules.version()
     }
 
-    fn apply(&mut self, bundle: &[Edit]) -> Result<u32, AllocError> {
-        self.rules.apply(bundle)
+    fn advance(&mut self) -> Result<u32, AllocError> {
+        self.rules.advance()
     }
 
     fn translate(

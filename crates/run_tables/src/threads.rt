@@ -3,6 +3,6 @@ use crate::tables::ClassifierTables;
 use run_case::Case;
 use thread_bounds::crosses_threads;
 
-fn tables_cross_threads<C: Case + Send + Sync>(tables: &ClassifierTables<C>) {
+fn tables_cross_threads<C: Case + Send + Sync>(tables: &ClassifierTables<'_, C>) {
     crosses_threads(tables)
 }

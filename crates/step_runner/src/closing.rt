@@ -14,14 +14,13 @@ use pmd_board::Board;
 use run_boards::Boards;
 use run_case::{Case, RunData};
 use std::alloc::{AllocError, Global};
-use table_versions::edits::RunEdits;
 use table_versions::{RunTables, Tables};
 
 // All blocks are finished from new boards and new tables.
 fn start_over<C: Case, T: RunTables<C>>(
     alloc: Global,
     run: &RunData<C>,
-    edits: &RunEdits<C>,
+    store: T::Store,
     tables: &mut Tables<C, T>,
     flow_limit: u32,
 ) -> Result<Boards<C>, AllocError>
@@ -32,8 +31,8 @@ fn start_over<C: Case, T: RunTables<C>>(
         ≡ schedules.finish C.run (schedules.new_schedule C.run)) }
 {
     let boards = Boards::new(alloc, run, flow_limit)?;
-    *tables = Tables::new(alloc);
-    finish_blocks(alloc, run, edits, boards, tables)
+    *tables = Tables::new(alloc, store);
+    finish_blocks(alloc, run, boards, tables)
 }
 
 /// Ends a phase of workers: the boards that they leave finish the phase's block. It answers the boards, and whether those
@@ -47,7 +46,7 @@ fn start_over<C: Case, T: RunTables<C>>(
 pub fn close_phase<C: Case, T: RunTables<C>>(
     alloc: Global,
     run: &RunData<C>,
-    edits: &RunEdits<C>,
+    store: T::Store,
     boards: Vec<Board<C>>,
     tables: &mut Tables<C, T>,
     block: u32,
@@ -72,11 +71,11 @@ pub fn close_phase<C: Case, T: RunTables<C>>(
     let _ = run.last_block();
     match Boards::of_phase(run, boards, block, flow_limit) {
         Some(fitting) => {
-            let left = finish_block(alloc, run, edits, fitting, tables)?;
+            let left = finish_block(alloc, run, fitting, tables)?;
             Ok((left, true))
         }
         None => {
-            let left = start_over(alloc, run, edits, tables, flow_limit)?;
+            let left = start_over(alloc, run, store, tables, flow_limit)?;
             Ok((left, false))
         }
     }

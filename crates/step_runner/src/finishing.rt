@@ -16,7 +16,6 @@ use pmd_board::Board;
 use run_boards::{Boards, Finished, recall_laws};
 use run_case::{Case, RunData};
 use std::alloc::{AllocError, Global};
-use table_versions::edits::RunEdits;
 use table_versions::{RunTables, Tables};
 
 // ---- one board
@@ -126,7 +125,6 @@ fn least_block<C: Case>(run: &RunData<C>, boards: &[Board<C>]) -> u32
 pub fn finish_block<C: Case, T: RunTables<C>>(
     alloc: Global,
     run: &RunData<C>,
-    edits: &RunEdits<C>,
     boards: Boards<C>,
     tables: &mut Tables<C, T>,
 ) -> Result<Boards<C>, AllocError>
@@ -141,7 +139,7 @@ pub fn finish_block<C: Case, T: RunTables<C>>(
 {
     let mut left = boards.into_vec();
     let block = least_block(run, &left);
-    tables.follow(edits, run.hi(block))?;
+    tables.follow(run.hi(block))?;
     finish_boards(alloc, run, tables, &mut left, block)?;
     Ok(Boards::from_vec(left))
 }
@@ -150,7 +148,6 @@ pub fn finish_block<C: Case, T: RunTables<C>>(
 pub(crate) fn finish_blocks<C: Case, T: RunTables<C>>(
     alloc: Global,
     run: &RunData<C>,
-    edits: &RunEdits<C>,
     boards: Boards<C>,
     tables: &mut Tables<C, T>,
 ) -> Result<Boards<C>, AllocError>
@@ -163,7 +160,7 @@ pub(crate) fn finish_blocks<C: Case, T: RunTables<C>>(
     let last = run.last_block();
     let mut left = boards;
     'rounds: for round in 0..last + 1 {
-        left = finish_block(alloc, run, edits, left, tables)?;
+        left = finish_block(alloc, run, left, tables)?;
     }
     Ok(left)
 }
@@ -178,7 +175,6 @@ pub(crate) fn finish_blocks<C: Case, T: RunTables<C>>(
 pub fn finish<C: Case, T: RunTables<C>>(
     alloc: Global,
     run: &RunData<C>,
-    edits: &RunEdits<C>,
     boards: Boards<C>,
     tables: &mut Tables<C, T>,
 ) -> Result<Finished<C>, AllocError>
@@ -188,7 +184,7 @@ pub fn finish<C: Case, T: RunTables<C>>(
     ensures by_last_version { IfOk result (λ done.
         All (IsNew C.run.flow_limit) boards → All (IsByLastVersion C.run) done) }
 {
-    let left = finish_blocks(alloc, run, edits, boards, tables)?;
+    let left = finish_blocks(alloc, run, boards, tables)?;
     recall_laws(left.as_slice());
     let done = Finished::new(alloc, run, left)?;
     Ok(done)

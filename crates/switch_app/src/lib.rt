@@ -60,7 +60,7 @@
 //!
 //! # What is left to others
 //!
-//! Words, files and the rules of the edits to `switch_input`, the edits under the run's name to `table_versions::edits`, the run
+//! Words, files and the rules of the edits to `switch_input`, the rules under the run's name to `table_versions::rules`, the run
 //! and its blocks to `run_case`, deciding to `decider`, what is written to
 //! `switch_output`, texts and statuses to `switch_input::refusals`, and all that touches the system to `edge_io`.
 //!

@@ -14,7 +14,7 @@ ghost use Rattle.switch_input.specs.InputViews.{run_view, IsWithinLimits};
 ghost use Rattle.switch_output.specs.OutletViews.{outlets_in};
 ghost use Rattle.switch_output.specs.declared.refusal.OutputRefusal.TheVariants.{Files};
 ghost use Rattle.switch_output.specs.declared.refusal.WriteRefusal.TheVariants.{OutOfMemory};
-ghost use Rattle.switch_output.specs.Put.{NamesNoFile, CutsOut};
+ghost use Rattle.switch_output.specs.Put.{NamesNoFile, PutsWhole, CutsOut};
 ghost use Rattle.switch_app.specs.Ends.{Ends, IsAllDone};
 ghost use Rattle.switch_app.specs.Statuses.{IsStatusOfRefused, EndsAccepted};
 ghost use Rattle.switch_app.specs.RunViews.{told_if, ByJournals, PutsRun, IsUntouched, Leaves};
@@ -35,7 +35,7 @@ use std::thread::Threads;
 use switch_input::refusals::DONE;
 use switch_input::{Command, Input, Inputs, Mirror, read_inputs};
 use switch_output::{Outlets, OutputRefusal, put_out};
-use table_versions::edits::RunEdits;
+use table_versions::rules::RunRules;
 
 // What is written, where something is.
 fn outlets_of<'m>(input: &'m Input<'_>, mirrors: &'m [Mirror]) -> Option<Outlets<'m>>
@@ -63,10 +63,10 @@ fn told_of(input: &Input<'_>, ran: Ran) -> Option<Ran>
 
 // Decides all frames of a run without workers, as its schedule has it. Its bounds leave nothing to wait for, so that it
 // returns is part of its proof.
-fn decide_alone<C: Case>(
+fn decide_alone<C: Case + Send + Sync>(
     alloc: Global,
     run: &RunData<C>,
-    edits: &RunEdits<C>,
+    rules: &RunRules<C>,
     command: &Command<'_>,
     steps: &[RunStep],
 ) -> Result<(Finished<C>, Option<Ran>), AllocError>
@@ -77,7 +77,7 @@ fn decide_alone<C: Case>(
     ensures journals { IfOk result (λ r. AreJournals 0 C.run r.0) }
     ensures told { IfOk result (λ r. r.1 ≡ ran_of (has_steps (input_view command.now.input)) C.run) }
 {
-    let (finished, ran) = run_schedule(alloc, run, edits, command.flow_limit, steps)?;
+    let (finished, ran) = run_schedule(alloc, run, rules, command.flow_limit, steps)?;
     Ok((finished, told_of(&command.input, ran)))
 }
 
@@ -86,7 +86,7 @@ fn decide<C: Case + Send + Sync, R: Threads + Wait + Sync, G: Gate + Sync>(
     rt: &R,
     alloc: Global,
     run: &RunData<C>,
-    edits: &RunEdits<C>,
+    rules: &RunRules<C>,
     command: &Command<'_>,
     steps: &[RunStep],
     gate: &G,
@@ -100,16 +100,71 @@ fn decide<C: Case + Send + Sync, R: Threads + Wait + Sync, G: Gate + Sync>(
     ensures told { IfOk result (λ r. r.1 ≡ ran_of (has_steps (input_view command.now.input)) C.run) }
 {
     if command.workers == 0 {
-        return decide_alone(alloc, run, edits, command, steps);
+        return decide_alone(alloc, run, rules, command, steps);
     }
     let limit = command.flow_limit;
-    let finished = decide_by_workers(rt, alloc, run, edits, limit, command.workers, gate)?;
+    let finished = decide_by_workers(rt, alloc, run, rules, limit, command.workers, gate)?;
     // The journals are whole.
     let _ = finished.boards();
     Ok((finished, None))
 }
 
 // Decides all frames of a run, and then tells what became of it: writes its files, where it has some, and prints its summary.
+fn decide_and_put<
+    C: Case + Send + Sync,
+    R: Threads + Wait + Sync,
+    S: Shelf,
+    K: Sink,
+    G: Gate + Sync,
+>(
+    rt: &R,
+    alloc: Global,
+    shelf: &mut S,
+    say: &mut K,
+    run: &RunData<C>,
+    rules: &RunRules<C>,
+    command: &Command<'_>,
+    steps: &[RunStep],
+    mirrors: &Vec<Mirror>,
+    gate: &G,
+) -> Result<(), OutputRefusal>
+    requires in_use { S.in_use shelf.old ≡ Nothing }
+    requires sound { IsTrue (list_all has_sound_actions C.run.edits) }
+    requires limit { command.now.flow_limit ≡ C.run.flow_limit }
+    requires steps { steps.now ≡ C.run.steps }
+    requires few { length steps.now ≤ most_steps }
+    requires workers { HasWorkers command.now }
+    ensures ok { let input = input_view command.now.input in
+        OnOk result (ByJournals command.now.workers C.run (λ journals.
+        PutsWhole S.Shelf K.Sink shelf.old shelf.new say.old say.new
+        (output_of (outlets_of input mirrors.now.items) C.run journals)
+        (summary C.run journals (ran_of (has_steps input) C.run)))) }
+    ensures err { let input = input_view command.now.input in
+        IfErr result (λ r. (r ≡ Files OutOfMemory)
+        × IsUntouched S.Shelf K.Sink shelf.old shelf.new say.old say.new
+        ⊎ ByJournals command.now.workers C.run (λ journals.
+        CutsOut S.Shelf K.Sink shelf.old shelf.new say.old say.new
+        (output_of (outlets_of input mirrors.now.items) C.run journals)
+        (summary C.run journals (ran_of (has_steps input) C.run)) r)) }
+    ensures opened { IsTrue S.tells → (S.told shelf.new).opened ≡ (S.told shelf.old).opened }
+    ensures untouched { outlets_of (input_view command.now.input) mirrors.now.items ≡ None
+        → (shelf.new ≡ shelf.old) × IfErr result NamesNoFile }
+{
+    let (finished, told) = decide(rt, alloc, run, rules, command, steps, gate)?;
+    let outlets = outlets_of(&command.input, mirrors);
+    put_out(
+        alloc,
+        shelf,
+        say,
+        outlets,
+        run,
+        rules.store(),
+        &finished,
+        told,
+    )
+}
+
+// Gives the inputs of a run its name, decides its frames, and tells what became of it.
 fn decide_and_tell<
     C: Case + Send + Sync,
     R: Threads + Wait + Sync,
@@ -151,18 +206,20 @@ fn decide_and_tell<
         mirrors,
         traces,
     } = inputs;
-    let edits = RunEdits::<C>::new(script.edits, script.bundles);
+    // The store has what they made.
+    drop(script.edits);
+    let rules = RunRules::<C>::new(rules);
     let run = RunData::<C>::new(
         alloc,
         ports,
-        edits.edits(),
-        edits.versions(),
+        rules.edits(),
+        rules.versions(),
         script.syncs,
         traces,
     )?;
-    let (finished, told) = decide(rt, alloc, &run, &edits, &command, &steps, gate)?;
-    let outlets = outlets_of(&command.input, &mirrors);
-    put_out(alloc, shelf, say, outlets, &run, &rules, &finished, told)
+    decide_and_put(
+        rt, alloc, shelf, say, &run, &rules, &command, &steps, &mirrors, gate,
+    )
 }
 
 fn run<'a, R: Threads + Wait + Sync, S: Shelf, K: Sink, G: Gate + Sync>(

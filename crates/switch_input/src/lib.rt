@@ -39,8 +39,8 @@
 //! as files. So whatever limits files limits that too, and it takes the memory for its bytes twice while it is read.
 //!
 //! How many rules the edits change is limited, so they are applied here, bundle by bundle, before anything else is read,
-//! up to the first bundle by which they change too many: changes take memory and time. The store that they make is
-//! kept for whoever prints rules; whoever decides frames makes the tables of each version anew as it comes to it.
+//! up to the first bundle by which they change too many: changes take memory and time. The store that they make is the
+//! one of the run: frames are decided by it, and rules are printed from it.
 //!
 //! # What is left to others
 //!

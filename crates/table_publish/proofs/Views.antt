@@ -5,7 +5,8 @@ use mathlib.Core.Option.{some}
 use lib.ListN.{get_elem?}
 use Rattle.crossbeam_utils.specs.Register.{Admits, TurnsAt, Forks, Merges}
 use Rattle.atomic_table.proofs.Lists.{at_set, at_snoc}
-use Rattle.table_publish.specs.Views.{NoneAbove, Comes, version_after, IsNextOrNone}
+use Rattle.table_versions.specs.Next.{version_after}
+use Rattle.table_publish.specs.Views.{NoneAbove, Comes, IsNextOrNone}
 
 -- one view is changed, to one that is not above the published version
 set_below : (n : ℕ) (views : List ℕ) (seat v : ℕ) → NoneAbove n views → v ≤ n → NoneAbove n (set views seat v)
@@ -15,16 +16,16 @@ set_below n views seat v h low j u e =
 after_le : (v n : ℕ) → v ≤ version_after v n
 after_le v n = elim (n == v + 1) as (λ b. v ≤ (if b then v + 1 else v)) [ true ↦ omega arith | false ↦ le_refl v ]
 
--- no bundle lowers the version
+-- no step lowers the version
 pub le_fold : (v : ℕ) (numbers : List ℕ) → v ≤ fold version_after v numbers
 le_fold v [] = le_refl v
 le_fold v (n ∷ ns) = le_trans (after_le v n) (le_fold (version_after v n) ns)
 
--- the next bundle alone makes the next version
+-- the next version alone leads to it
 after-next : (v : ℕ) → fold version_after v ((v + 1) ∷ []) ≡ v + 1
 after-next v = ap (λ (b : Bool). if b then v + 1 else v) (eq-eqb (v + 1) (v + 1) refl)
 
--- the next bundle was pending, and what was pending was published
+-- the next version was pending, and what was pending was published
 pub shows-next : {A B : Type 0} (result : Result A B) (x : A) (v last seen shown seen' shown' : ℕ) (pending pending' : List ℕ) (P Q : B → Type 0) → result ≡ Ok x
     → shown ≡ v → v < last → pending ≡ (v + 1) ∷ []
     → MatchResult result (λ _. (shown' ≡ fold version_after shown pending) × (pending' ≡ [])) P

@@ -6,19 +6,17 @@ ghost use Rattle.spec_case.specs.Run.{last_version};
 ghost use Rattle.table_publish.specs.Views.{IsNextOrNone};
 ghost use Rattle.table_publish.specs.declared.editor.PublishFault.TheVariants.{NoneLeft, OutOfMemory};
 
-use crate::next_bundle::NextBundle;
 use crate::rule::{Grows, Learns, Sees, Tells};
 use crate::seer::{News, Seer};
 use left_right::Absorb;
 use left_right::reader::Factory;
 use left_right::writer::Writer;
-use run_case::Case;
+use run_case::{Case, RunData};
 use std::alloc::{AllocError, Global};
 use std::marker::Model;
 use std::sync::Wait;
 use std::thread::yield_now;
-use table_versions::edits::RunEdits;
-use table_versions::{RunTables, Tables};
+use table_versions::{NextVersion, RunTables, Tables};
 
 /// Why no version was published.
 #[derive(Clone, Copy, PartialEq, Eq)]
@@ -32,19 +30,18 @@ pub enum PublishFault {
 /// Publishes the bundles of a run. Contracts see the version that it published last, and its places. End it by `end`.
 pub struct Editor<C: Case, T: RunTables<C>>
 where
-    Tables<C, T>: Absorb<NextBundle<C>, State = u64>,
+    Tables<C, T>: Absorb<NextVersion<C>, State = u64>,
 {
-    writer: Writer<Tables<C, T>, NextBundle<C>, u64, Grows<C>>,
+    writer: Writer<Tables<C, T>, NextVersion<C>, u64, Grows<C>>,
     /// Tells of which publication it is.
     home: Factory<Tables<C, T>, u64, Grows<C>>,
-    alloc: Global,
     version: u32,
     places: usize,
 }
 
 impl<C: Case, T: RunTables<C>> Model for Editor<C, T>
 where
-    Tables<C, T>: Absorb<NextBundle<C>, State = u64>,
+    Tables<C, T>: Absorb<NextVersion<C>, State = u64>,
 {
     ghost use Rattle.std.specs.Prelude.{◌≡◌, ◌≤◌, drop};
     ghost use Rattle.std.specs.Arc.{arc_value};
@@ -61,18 +58,16 @@ where
       places = e.places;
     } };
 
-    // Its view and the shown tables are of its version, and nothing but the next bundle is pending.
+    // Its view and the shown tables are of its version, and nothing but the next version is pending.
     ghost invariant = { λ e. (sides.view e.writer.desk.place ≡ e.version)
         × (e.writer.desk.shown.value ≡ e.version)
         × (e.version ≤ last_version C.run)
         × IsNextOrNone e.version (drop e.writer.behind e.writer.log.items) };
 }
 
-// Sees to it that exactly the bundle after a version is pending. The only error is out of memory.
+// Sees to it that exactly the version after one is pending. The only error is out of memory.
 fn prepare<C: Case, T: RunTables<C>>(
-    writer: &mut Writer<Tables<C, T>, NextBundle<C>, u64, Grows<C>>,
-    alloc: Global,
-    edits: &RunEdits<C>,
+    writer: &mut Writer<Tables<C, T>, NextVersion<C>, u64, Grows<C>>,
     version: u32,
 ) -> Result<(), AllocError>
     requires next { IsNextOrNone version (drop writer.old.behind writer.old.log.items) }
@@ -85,8 +80,7 @@ fn prepare<C: Case, T: RunTables<C>>(
     if writer.has_pending_operations() {
         return Ok(());
     }
-    let bundle = NextBundle::after(alloc, edits, version)?;
-    match writer.append(bundle) {
+    match writer.append(NextVersion::after(version)) {
         Ok(()) => Ok(()),
         Err(_) => Err(AllocError),
     }
@@ -122,7 +116,7 @@ impl<C: Case, T: RunTables<C>> Editor<C, T> {
     pub fn publish_next<R: Wait>(
         self,
         rt: &R,
-        edits: &RunEdits<C>,
+        run: &RunData<C>,
     ) -> (Editor<C, T>, Result<u32, PublishFault>)
         ensures publication { result.0.publication ≡ self.publication }
         ensures places { result.0.places ≡ self.places }
@@ -133,21 +127,19 @@ impl<C: Case, T: RunTables<C>> Editor<C, T> {
         ensures causes { IfErr result.1 (λ fault. (fault ≡ NoneLeft self.version) ⊎ (fault ≡ OutOfMemory)) }
     {
         let version = self.version;
-        if version == edits.versions() {
+        if version == run.last_version() {
             return (self, Err(PublishFault::NoneLeft { version }));
         }
         let Editor {
             mut writer,
             home,
-            alloc,
             version,
             places,
         } = self;
-        let Ok(()) = prepare(&mut writer, alloc, edits, version) else {
+        let Ok(()) = prepare(&mut writer, version) else {
             let editor = Editor {
                 writer,
                 home,
-                alloc,
                 version,
                 places,
             };
@@ -158,7 +150,6 @@ impl<C: Case, T: RunTables<C>> Editor<C, T> {
             let editor = Editor {
                 writer,
                 home,
-                alloc,
                 version,
                 places,
             };
@@ -168,7 +159,6 @@ impl<C: Case, T: RunTables<C>> Editor<C, T> {
         let editor = Editor {
             writer,
             home,
-            alloc,
             version,
             places,
         };
@@ -209,7 +199,6 @@ impl<C: Case, T: RunTables<C>> Editor<C, T> {
         let Editor {
             writer,
             home: _home,
-            alloc: _,
             version: _,
             places: _,
         } = self;
@@ -220,6 +209,7 @@ impl<C: Case, T: RunTables<C>> Editor<C, T> {
     pub(crate) fn new<R: Wait>(
         rt: &R,
         alloc: Global,
+        store: T::Store,
         places: usize,
     ) -> Result<Editor<C, T>, AllocError>
         requires sound { IsTrue (list_all has_sound_actions C.run.edits) }
@@ -227,12 +217,16 @@ impl<C: Case, T: RunTables<C>> Editor<C, T> {
         ensures version { IfOk result (λ e. e.version ≡ 0) }
         ensures places { IfOk result (λ e. e.places ≡ places) }
     {
-        let writer = Writer::new(alloc, Tables::new(alloc), Tables::new(alloc), places)?;
+        let writer = Writer::new(
+            alloc,
+            Tables::new(alloc, store),
+            Tables::new(alloc, store),
+            places,
+        )?;
         match writer.factory().another() {
             Ok(home) => Ok(Editor {
                 writer,
                 home,
-                alloc,
                 version: 0,
                 places,
             }),

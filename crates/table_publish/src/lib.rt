@@ -2,8 +2,8 @@
 //!
 //! # What?
 //!
-//! While one thread applies edits to the tables, others translate packets through them. None of them may see half a
-//! bundle of edits, and a packet in translation shouldn't wait for one. So the tables are *published*: one `Editor` makes the
+//! While one thread leads the tables from version to version, others translate packets through them. None of them may see
+//! half a bundle of edits, and a packet in translation shouldn't wait for one. So the tables are *published*: one `Editor` makes the
 //! next version beside the one that is read, and then shows it all at once. Each `Seer` reads through a `Guard`, under
 //! which the version that it entered stays as it is.
 //!
@@ -34,9 +34,10 @@
 //!
 //! # How
 //!
-//! There are two copies of the tables (`left_right`). Readers read one, the editor applies the bundle to the other, and
-//! then one atomic step turns the readers to it. The copy that was read before lacks a bundle then; it gets it at the next
-//! turn, once the last reader of it has left. Reading takes two atomic steps and no lock.
+//! There are two copies of the tables (`left_right`), over one store of the run's rules. Readers read one, the editor has
+//! the other go on to the next version, and then one atomic step turns the readers to it. The copy that was read before is
+//! a version behind then; it goes on at the next turn, once the last reader of it has left. What is kept for that turn is a
+//! number. Reading takes two atomic steps and no lock.
 //!
 //! What a thread knows of versions is its *view*, which exists in proofs alone. The rule over the views is that none is
 //! above the published version (`rule`). There are five kinds of step, and each keeps it (`proofs/Views`): making the copies and
@@ -59,7 +60,6 @@
 #![tactic(auto)]
 
 mod editor;
-mod next_bundle;
 mod publication;
 mod rule;
 mod seer;

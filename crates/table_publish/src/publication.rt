@@ -21,14 +21,15 @@ fn places_for(seers: usize) -> usize
     2 * seers + 1
 }
 
-/// Publishes the tables of a run: an editor that has published version 0, and so many seers of it. Places are asked for
-/// twice as many readers, and one more.
+/// Publishes the tables of a run, kept over its rules: an editor that has published version 0, and so many seers of it.
+/// Places are asked for twice as many readers, and one more.
 ///
 /// The only error is out of memory, which is also answered where a seer finds no place among the readers. The handle is
 /// for ending an editor that was made, where there is no memory for its seers.
 pub fn publish<C: Case, T: RunTables<C>, R: Wait>(
     rt: &R,
     alloc: Global,
+    store: T::Store,
     seers: usize,
 ) -> Result<(Editor<C, T>, Vec<Seer<C, T>>), AllocError>
     requires sound { IsTrue (list_all has_sound_actions C.run.edits) }
@@ -39,7 +40,7 @@ pub fn publish<C: Case, T: RunTables<C>, R: Wait>(
     ensures new { IfOk result (λ p. All (λ s. s.version ≡ 0) p.1.items) }
     ensures count { IfOk result (λ p. vec_len p.1 ≡ seers) }
 {
-    let editor = Editor::new(rt, alloc, places_for(seers))?;
+    let editor = Editor::new(rt, alloc, store, places_for(seers))?;
     match seers_of(alloc, &editor, seers) {
         Ok(seers) => Ok((editor, seers)),
         Err(error) => {

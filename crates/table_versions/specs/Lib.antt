@@ -1,1 +1,1 @@
-pub mod NextBundle
+pub mod Next

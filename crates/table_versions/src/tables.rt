@@ -3,12 +3,9 @@ ghost use Rattle.std.specs.List.{list_all};
 ghost use Rattle.spec_case.specs.Run.{last_version};
 ghost use Rattle.ovs_fields.specs.Packed.{numbers};
 ghost use Rattle.spec_tables.specs.Edits.{has_sound_actions};
-ghost use Rattle.table_versions.specs.NextBundle.{IsBundleOf};
 
-use crate::edits::RunEdits;
 use ovs_fields::Key;
 use pipe_model::SpareLists;
-use rule_tables::Edit;
 use run_case::{Case, RunData};
 use run_xlate::Xlated;
 use std::alloc::{AllocError, Global};
@@ -19,8 +16,11 @@ pub trait RunTables<C: Case>: Drop {
     /// How many bundles of the run they have, which is their version.
     ghost bundles: { Self → ℕ };
 
+    /// The rules of all versions of the run, over which the tables are kept.
+    type Store: Copy + Send + Sync;
+
     /// Version 0, before the first bundle: no rules. It takes no memory; what the tables take later is of `alloc`.
-    fn new(alloc: Global) -> Self
+    fn new(alloc: Global, store: Self::Store) -> Self
         requires sound { IsTrue (list_all has_sound_actions C.run.edits) }
         ensures { bundles result ≡ 0 };
 
@@ -29,11 +29,11 @@ pub trait RunTables<C: Case>: Drop {
         ensures number { result ≡ bundles self.now }
         ensures made { result ≤ last_version C.run };
 
-    /// Applies the edits of a bundle, which is the next one of the run, and answers the version that it makes.
+    /// Goes on to the next version, which the next bundle of the run makes, and answers it.
     ///
     /// The only error is out of memory, and then the version stays.
-    fn apply(&mut self, bundle: &[Edit]) -> Result<u32, AllocError>
-        requires { IsBundleOf C.run (bundles self.old + 1) bundle.now }
+    fn advance(&mut self) -> Result<u32, AllocError>
+        requires { bundles self.old < last_version C.run }
         ensures next { OnOk result (bundles self.new ≡ bundles self.old + 1) }
         ensures version { IfOk result (λ v. v ≡ bundles self.new) }
         ensures err { OnErr result (bundles self.new ≡ bundles self.old) };
@@ -57,7 +57,7 @@ pub trait RunTables<C: Case>: Drop {
 /// The tables of one version of a run: the rules that so many bundles of it make, as `T` keeps them.
 #[derive(Drop)]
 pub struct Tables<C: Case, T: RunTables<C>> {
-    kept: T,
+    pub(crate) kept: T,
     of: PhantomData<C>,
 }
 
@@ -71,17 +71,17 @@ impl<C: Case, T: RunTables<C>> Model for Tables<C, T> {
 
 impl<C: Case, T: RunTables<C>> Tables<C, T> {
     /// Version 0, before the first bundle: no rules. It takes no memory; what the tables take later is of `alloc`.
-    pub fn new(alloc: Global) -> Tables<C, T>
+    pub fn new(alloc: Global, store: T::Store) -> Tables<C, T>
         requires sound { IsTrue (list_all has_sound_actions C.run.edits) }
         ensures { result ≡ 0 }
     {
         Tables {
-            kept: T::new(alloc),
+            kept: T::new(alloc, store),
             of: PhantomData,
         }
     }
 
-    /// The version, which is how many bundles of the run were applied.
+    /// The version, which is how many bundles of the run led to it.
     pub fn version(&self) -> u32
         ensures number { result ≡ self.now }
         ensures made { result ≤ last_version C.run }
@@ -89,44 +89,31 @@ impl<C: Case, T: RunTables<C>> Tables<C, T> {
         self.kept.version()
     }
 
-    /// Applies the next bundle of the run, and answers the version that it makes.
+    /// Goes on to the next version, and answers it.
     ///
     /// The only error is out of memory, and then the version stays.
-    pub fn publish_next(&mut self, edits: &RunEdits<C>) -> Result<u32, AllocError>
+    pub fn advance(&mut self) -> Result<u32, AllocError>
         requires { self.old < last_version C.run }
         ensures next { OnOk result (self.new ≡ self.old + 1) }
         ensures version { IfOk result (λ v. v ≡ self.new) }
         ensures err { OnErr result (self.new ≡ self.old) }
     {
-        let next = edits.bundle(self.version() + 1);
-        self.apply(next)
+        self.kept.advance()
     }
 
-    /// Applies the edits of a bundle, which is the next one of the run, and answers the version that it makes.
-    ///
-    /// The only error is out of memory, and then the version stays.
-    pub fn apply(&mut self, bundle: &[Edit]) -> Result<u32, AllocError>
-        requires { IsBundleOf C.run (self.old + 1) bundle.now }
-        ensures next { OnOk result (self.new ≡ self.old + 1) }
-        ensures version { IfOk result (λ v. v ≡ self.new) }
-        ensures err { OnErr result (self.new ≡ self.old) }
-    {
-        self.kept.apply(bundle)
-    }
-
-    /// Applies the bundles of the run up to a version, that of the tables or a later one.
+    /// Goes on to a version, that of the tables or a later one.
     ///
     /// The only error is out of memory, and then the tables are left at an earlier version than that, which is the one
     /// that they had or a later one.
-    pub fn follow(&mut self, edits: &RunEdits<C>, to: u32) -> Result<(), AllocError>
+    pub fn follow(&mut self, to: u32) -> Result<(), AllocError>
         requires order { self.old ≤ to }
         requires last { to ≤ last_version C.run }
         ensures there { OnOk result (self.new ≡ to) }
         ensures kept { OnErr result (self.old ≤ self.new) }
         ensures short { OnErr result (self.new < to) }
     {
-        'edits: while self.version() < to {
-            self.publish_next(edits)?;
+        'versions: while self.version() < to {
+            self.advance()?;
         }
         Ok(())
     }

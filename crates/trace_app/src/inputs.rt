@@ -4,12 +4,10 @@ ghost use Rattle.std.specs.List.{list_all};
 ghost use Rattle.edge_io.specs.declared.outside.InUse.TheVariants.{Nothing};
 ghost use Rattle.spec_tables.specs.Bundles.{AreBundles};
 ghost use Rattle.spec_tables.specs.Edits.{has_sound_actions};
-ghost use Rattle.spec_script.specs.Script.{most_edits};
 ghost use Rattle.spec_xlate.specs.Translation.{in_port_of};
 ghost use Rattle.ovs_fields.specs.Packed.{numbers};
 ghost use Rattle.command_words.specs.CommandViews.{texts};
 ghost use Rattle.rule_tables.specs.History.{history_of};
-ghost use Rattle.tuple_classifier.specs.Versions.{version_of};
 ghost use Rattle.edit_script.specs.ScriptViews.{script_view};
 ghost use Rattle.spec_trace.specs.Verdict.{Usage as UsageOf, command_in, case_of, verdict_of, verdict, opened_for, files_opened};
 ghost use Rattle.trace_app.specs.Known.{IsKnown};
@@ -23,38 +21,19 @@ use crate::refusal::Refusal;
 use crate::words::{Command, names_port, read_command};
 use edge_io::Shelf;
 use ovs_fields::{FieldId, Key};
-use rule_tables::{Edit, VersionedRules};
+use rule_tables::VersionedRules;
 use std::alloc::{AllocError, Global};
 use switch_input::{EditsFile, read_edits};
-use tuple_classifier::Tables;
 
 /// What is traced.
 #[derive(Drop)]
 pub struct Inputs {
     /// The rules of all versions that the edits make.
     pub rules: VersionedRules,
-    /// The tables of the last of these.
-    pub tables: Tables,
     /// The ports of the switch, in the order of the words.
     pub ports: Vec<u16>,
     /// The key of the packet.
     pub key: Key,
-}
-
-// The tables after all edits, of which so many stand through each bundle.
-fn tables_of(alloc: Global, edits: &[Edit], bundles: &[u32]) -> Result<Tables, AllocError>
-    requires few { length edits.now ≤ most_edits }
-    requires whole { AreBundles bundles.now (length edits.now) }
-    ensures { IfOk result (λ tables. tables ≡ version_of edits.now bundles.now (length bundles.now)) }
-{
-    let mut tables = Tables::new(alloc);
-    let mut before = 0;
-    'bundles: for end in bundles {
-        let through = *end as usize;
-        tables.apply(&edits[before..through])?;
-        before = through;
-    }
-    Ok(tables)
 }
 
 // The port by which a packet comes in.
@@ -64,7 +43,7 @@ fn in_port(key: &Key) -> u16
     key.get(FieldId::InPort) as u16
 }
 
-// What is traced, after the edits: the flow, whose port has to be one of the switch, and the tables.
+// What is traced, after the edits: the flow, whose port has to be one of the switch.
 fn inputs_of<'a>(
     alloc: Global,
     edits: EditsFile,
@@ -74,7 +53,6 @@ fn inputs_of<'a>(
     requires rules { edits.rules ≡ history_of edits.script.edits.items edits.script.bundles.items }
     requires bundles { AreBundles edits.script.bundles.items (length edits.script.edits.items) }
     requires sound { IsTrue (list_all has_sound_actions edits.script.edits.items) }
-    requires few { length edits.script.edits.items ≤ most_edits }
     ensures ok { IfOk result (λ inputs.
         case_of flow.now ports.items (script_view edits.script) ≡ Ok (accepted_view inputs)) }
     ensures within { IfOk result IsTraceable }
@@ -89,10 +67,8 @@ fn inputs_of<'a>(
     if !names_port(&ports, port) {
         return Err(Refusal::NoPort { port });
     }
-    let tables = tables_of(alloc, &edits.script.edits, &edits.script.bundles)?;
     Ok(Inputs {
         rules: edits.rules,
-        tables,
         ports,
         key,
     })

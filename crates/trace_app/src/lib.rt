@@ -25,9 +25,10 @@
 //! # How
 //!
 //! The words come first (`words`), then the edits, which are read and refused as the switch does it (`switch_input`), then
-//! the flow (`flow`) and its port (`inputs`). The rules stand twice: in the tables, which the packet is traced through, and
-//! in the store of all versions, which has the matches and priorities that are printed. The text is made whole before any
-//! of it is printed, so that memory which runs out in tracing leaves nothing printed but that.
+//! the flow (`flow`) and its port (`inputs`). The rules stand in the store of all versions. The packet is traced through
+//! tables of the last version of it (`run`), which tell which rules win; their matches, priorities and actions are read in
+//! the store. The text is made whole before any of it is printed, so that memory which runs out in tracing leaves nothing
+//! printed but that.
 //!
 //! # What is left to others
 //!

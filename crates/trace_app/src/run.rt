@@ -21,6 +21,7 @@ use ofp_trace::lines::print_trace;
 use ofp_trace::trace;
 use std::alloc::{AllocError, Global};
 use switch_input::refusals::DONE;
+use tuple_classifier::Tables;
 
 // The text of the trace.
 fn text_of(alloc: Global, inputs: &Inputs) -> Result<String, AllocError>
@@ -28,7 +29,8 @@ fn text_of(alloc: Global, inputs: &Inputs) -> Result<String, AllocError>
     ensures { IfOk result (λ text. string_bytes text ≡ text_for (accepted_view inputs.now)) }
 {
     translation_is_within_fields();
-    let traced = trace(alloc, &inputs.tables, &inputs.ports, &inputs.key)?;
+    let tables = Tables::last(alloc, &inputs.rules)?;
+    let traced = trace(alloc, &tables, &inputs.ports, &inputs.key)?;
     let mut text = String::new(alloc);
     print_trace(&mut text, &inputs.rules, &inputs.key, &traced)?;
     Ok(text)

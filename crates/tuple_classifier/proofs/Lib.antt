@@ -1,31 +1,26 @@
-pub mod Boxes
-pub mod BundleLaws
-pub mod CarriedLaws
-pub mod ConsultLaws
-pub mod CountedLaws
+mod AdvanceLaws
+mod ComeLaws
+mod ConsultLaws
+mod CountedLaws
 pub mod Crossing
-pub mod EditLaws
-pub mod GivenLaws
-pub mod HoldLaws
-pub mod KeptLaws
-pub mod Lengths
-pub mod LiveLaws
-pub mod Mapped
-pub mod MatchLaws
-pub mod Members
-pub mod Nearest
-pub mod OrderLaws
-pub mod PartLaws
-pub mod PassLaws
-pub mod PlaceLaws
-pub mod PlacedLaws
-pub mod Places
-pub mod PreparedLaws
-pub mod PriorityLaws
-pub mod Seen
-pub mod SignedLaws
-pub mod TableLaws
-pub mod TablesLaws
-pub mod Times
-pub mod VersionLaws
-pub mod WinnerLaws
+mod GoLaws
+mod HoldLaws
+mod KeptLaws
+mod Lengths
+mod MatchLaws
+mod Members
+mod Nearest
+mod NextVersion
+mod OrderLaws
+mod PartLaws
+mod PassLaws
+mod PlacedLaws
+mod Places
+mod PriorityLaws
+mod Rising
+mod Seen
+mod TableLaws
+mod TablesLaws
+mod Times
+mod Told
+mod WinnerLaws

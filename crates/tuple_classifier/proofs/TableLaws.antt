@@ -1,12 +1,11 @@
 -- The subtables of a table, as rules come and go.
-use Rattle.std.proofs.Common.{◌≡◌, ℕ, ◌-◌, ◌<◌, ◌≤◌, nat_le, Bool, true, false, ◌&&◌, ◌==◌, not, if◌then◌else◌, List, [], ◌∷◌, ◌++◌, append-nil, length, set, filter, slice_get, Option, Some, None, inl, inr, ◌⊎◌, refl, sym, ap, ap₂, ◌∙◌, subst, arith, eqb-true}
-use Rattle.std.specs.List.{find, swap_remove, count_by}
+use Rattle.std.proofs.Common.{◌≡◌, ℕ, ◌-◌, ◌<◌, ◌≤◌, nat_le, Bool, true, false, ◌==◌, not, if◌then◌else◌, List, [], ◌∷◌, ◌++◌, append-nil, length, set, filter, slice_get, Some, inl, inr, ◌⊎◌, refl, sym, ap, ap₂, ◌∙◌, subst, arith, eqb-true}
+use Rattle.std.specs.List.{swap_remove, count_by}
 use Rattle.std.proofs.lemmas.Bool.{cases_eq, cond-true, cond-false, false≢true}
 use Rattle.std.proofs.lemmas.List.Elements.{filter-append}
 use Rattle.std.proofs.lemmas.Option.{slice_get_within, same_Some}
 use Rattle.spec_keys.specs.Keys.{same}
-use Rattle.spec_tables.specs.Rules as tables
-use Rattle.spec_tables.specs.Rules.{Rule, is_same_match}
+use Rattle.spec_tables.specs.Rules.{Rule}
 use Rattle.translation_laws.proofs.MemberLaws.{Among, Among-append, Among-filter, Among_in-filter}
 use Rattle.ovs_fields.specs.Equality.{equal_from_same, same_from_equal}
 use Rattle.rule_tables.specs.declared.matching.Match.{Match}
@@ -66,22 +65,6 @@ distinct_filter q rs distinct n =
     let a = distinct n in
     let b = count-filter (λ (r : Rule). r.number == n) q rs in
     omega (arith, a, b)
-
-pub find_filter : {X : Type 0} (p q : X → Bool) (xs : List X) → find p (filter q xs) ≡ find (λ x. q x && p x) xs
-find_filter p q [] = refl
-find_filter {X} p q (x ∷ xs) = at (q x) (find_filter p q xs)
-  where
-    at : (t : Bool) → find p (filter q xs) ≡ find (λ y. q y && p y) xs → find p (if t then x ∷ filter q xs else filter q xs) ≡ (if t && p x then Some x else find (λ y. q y && p y) xs)
-    at true ih = ap (λ (o : Option X). if p x then Some x else o) ih
-    at false ih = ih
-
-find_alike : {X : Type 0} (p q : X → Bool) (xs : List X) → ((x : X) → p x ≡ q x) → find p xs ≡ find q xs
-find_alike p q [] alike = refl
-find_alike {X} p q (x ∷ xs) alike = ap₂ (λ (t : Bool) (o : Option X). if t then Some x else o) (alike x) (find_alike p q xs alike)
-
-find_none : {X : Type 0} (p : X → Bool) (xs : List X) → ((x : X) → Among x xs → p x ≡ false) → find p xs ≡ None
-find_none p [] none = refl
-find_none p (x ∷ xs) none = cond-false (p x) (Some x) (find p xs) (none x (inl refl)) ∙ find_none p xs (λ y m. none y (inr m))
 
 -- ---- the rules of a mask, with one more and one less
 
@@ -279,43 +262,7 @@ drop_mask ss rs p s d are is none =
         let has : Among r (of_mask (bits s.staged.mask) rs) = Among_in-filter (λ (x : Rule). same x.matching.mask (bits s.staged.mask)) r rs m (ap (λ (x : Subtable). same r.matching.mask (bits x.staged.mask)) (sym is_s) ∙ alike) in
         subst (λ (ys : List Rule). Among r ys) none has) at
 
--- ---- a rule by its match and priority
-
-abbrev pub is_at : ℕ → tables.Match → Rule → Bool
-is_at priority m r = (r.priority == priority) && is_same_match r.matching m
-
-both_ways : (a b c d : Bool) → b ≡ d → (a && (b && c)) ≡ (c && (d && a))
-both_ways a b c d e = ap (λ (t : Bool). a && (t && c)) e ∙ at a d c
-  where
-    at : (a d c : Bool) → (a && (d && c)) ≡ (c && (d && a))
-    at true true true = refl
-    at true true false = refl
-    at true false true = refl
-    at true false false = refl
-    at false true true = refl
-    at false true false = refl
-    at false false true = refl
-    at false false false = refl
-
-pub find_in_part : (mask : List ℕ) (m : tables.Match) (priority : ℕ) (rs : List Rule) → mask ≡ m.mask
-    → find (λ (r : Rule). same m.key r.matching.key && (r.priority == priority)) (of_mask mask rs) ≡ find (is_at priority m) rs
-find_in_part mask m priority rs is =
-    find_filter (λ (r : Rule). same m.key r.matching.key && (r.priority == priority)) (λ (r : Rule). same r.matching.mask mask) rs
-    ∙ find_alike (λ (r : Rule). same r.matching.mask mask && (same m.key r.matching.key && (r.priority == priority))) (is_at priority m) rs
-    (λ r. ap (λ (k : List ℕ). same r.matching.mask k && (same m.key r.matching.key && (r.priority == priority))) is
-    ∙ both_ways (same r.matching.mask m.mask) (same m.key r.matching.key) (r.priority == priority) (same r.matching.key m.key) (sym (turned m.key r.matching.key (same m.key r.matching.key) refl)))
-
-pub find_nowhere : (ss : List Subtable) (m : tables.Match) (priority : ℕ) (rs : List Rule) → AreSubtablesOf ss rs
-    → ((j : ℕ) (s : Subtable) → slice_get ss j ≡ Some s → same (bits s.staged.mask) m.mask ≡ false) → find (is_at priority m) rs ≡ None
-find_nowhere ss m priority rs are new = find_none (is_at priority m) rs (λ r a.
-    let h = are.covered r a in
-    let other : same r.matching.mask m.mask ≡ false = ap (λ (k : List ℕ). same k m.mask) (equal_from_same r.matching.mask (bits h.1.staged.mask) h.3) ∙ new h.0 h.1 h.2 in
-    ap (λ (t : Bool). (r.priority == priority) && (same r.matching.key m.key && t)) other ∙ none (r.priority == priority) (same r.matching.key m.key))
-  where
-    none : (a b : Bool) → (a && (b && false)) ≡ false
-    none true true = refl
-    none true false = refl
-    none false b = refl
+-- ---- a rule of a mask
 
 pub among_part : (mask : List ℕ) (rs : List Rule) (r : Rule) → Among r rs → same r.matching.mask mask ≡ true → Among r (of_mask mask rs)
 among_part mask rs r m is = Among_in-filter (λ (x : Rule). same x.matching.mask mask) r rs m is

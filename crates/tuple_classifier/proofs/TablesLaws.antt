@@ -1,11 +1,9 @@
 -- The rules of all tables, as rules come and go.
-use Rattle.std.proofs.Common.{◌≡◌, ℕ, zero, suc, ◌<◌, true, false, ◌&&◌, ◌==◌, not, List, [], ◌∷◌, ◌++◌, append-nil, length, set, slice_get, Option, Some, None, inl, inr, ◌⊎◌, refl, sym, ap, ◌∙◌, subst, arith, eqb-true, eq-eqb}
-use Rattle.std.specs.List.{find}
+use Rattle.std.proofs.Common.{◌≡◌, ℕ, zero, suc, ◌<◌, true, false, ◌==◌, not, List, [], ◌∷◌, ◌++◌, append-nil, length, set, slice_get, Option, Some, None, inl, inr, ◌⊎◌, refl, sym, ap, ◌∙◌, subst, arith, eqb-true, eq-eqb}
 use Rattle.std.proofs.lemmas.Bool.{cases_eq, cond-true, cond-false, false≢true}
 use Rattle.std.proofs.lemmas.List.Elements.{filter-append}
 use Rattle.std.proofs.lemmas.Option.{same_Some}
-use Rattle.spec_tables.specs.Rules as tables
-use Rattle.spec_tables.specs.Rules.{Rule, rules_in, is_same_match}
+use Rattle.spec_tables.specs.Rules.{Rule, rules_in}
 use Rattle.translation_laws.proofs.MemberLaws.{Among, Among-filter}
 use Rattle.staged_lookup.specs.Numbered.{AreDistinct, without}
 use Rattle.staged_lookup.specs.Subtables.{HasNoRule}
@@ -15,7 +13,7 @@ use Rattle.tuple_classifier.specs.ByTable.{HasRules, AreClassified, HaveNoRule}
 use Rattle.tuple_classifier.specs.Kept.{by_place}
 use Rattle.tuple_classifier.specs.Tables.{IsTableOf}
 use Rattle.tuple_classifier.proofs.Lengths.{not_equal}
-use Rattle.tuple_classifier.proofs.TableLaws.{is_at, filter_swapped, find_filter, untrue}
+use Rattle.tuple_classifier.proofs.TableLaws.{filter_swapped, untrue}
 use Rattle.tuple_classifier.proofs.WinnerLaws.{one_of_number}
 
 -- ---- one table more, and one in the place of another
@@ -115,7 +113,3 @@ module _ (ts : List Table) (table : ℕ) (t : Table) (rules : List Rule) (within
 
   pub same_but : IsTableOf t (rules_in table rules) → AreClassified (set ts table t) rules
   same_but own = changed_in ts (set ts table t) rules rules table are (λ k other. set_others ts table k t other) (λ k other. refl) (written (rules_in table rules) own)
-
-pub found_in : (table priority : ℕ) (m : tables.Match) (rules : List Rule)
-    → find (is_at priority m) (rules_in table rules) ≡ find (λ (r : Rule). (r.table == table) && is_at priority m r) rules
-found_in table priority m rules = find_filter (is_at priority m) (λ (r : Rule). r.table == table) rules

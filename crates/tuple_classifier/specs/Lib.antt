@@ -1,12 +1,9 @@
-pub mod Bundles
 pub mod ByTable
+pub mod Changing
 pub mod Held
 pub mod Indexes
 pub mod Kept
-pub mod Live
-pub mod LiveRules
 pub mod Lookups
-pub mod Named
 pub mod Numbers
 pub mod Order
 pub mod Parts

@@ -1,17 +1,13 @@
 //! The rules of all tables.
 
 ghost use Rattle.std.specs.Prelude.{◌≡◌, ◌+◌, ◌<◌, ◌^◌, ℕ, List, length, OnOk, OnErr};
-ghost use Rattle.std.specs.List.{find};
-ghost use Rattle.std.specs.Option.{option_map};
 ghost use Rattle.spec_tables.specs.Rules.{Rule};
-ghost use Rattle.spec_tables.specs.Edits.{is_named_by};
 ghost use Rattle.rule_tables.specs.Views.{match_view};
 ghost use Rattle.tuple_classifier.specs.ByTable.{AreClassified, HaveNoRule, HaveRuleOf};
-ghost use Rattle.tuple_classifier.specs.Named.{has_match_in};
 ghost use Rattle.tuple_classifier.specs.Updates.{KeepsRules, AddsRuleIn, TakesRuleIn};
 
 use crate::table::Table;
-use rule_tables::{Edit, Match};
+use rule_tables::Match;
 use staged_lookup::Rank;
 use std::alloc::{AllocError, Global};
 
@@ -58,31 +54,5 @@ pub(crate) fn take_from(tables: &mut Vec<Table>, table: u8, matching: &Match, ra
     let table = table as usize;
     if table < tables.len() {
         tables[table].take(matching, rank);
-    }
-}
-
-/// The number of the rule with the table, priority and match of an edit.
-pub(crate) fn find_named(tables: &[Table], edit: &Edit) -> Option<u32>
-    ensures { (rules : List Rule) → AreClassified tables.now rules
-        → result ≡ option_map (λ r. r.number) (find (is_named_by edit.now) rules) }
-{
-    find_in(
-        tables,
-        edit.table.unwrap_or(0),
-        &edit.matching,
-        edit.priority,
-    )
-}
-
-/// The number of the rule of a table with this match and priority.
-fn find_in(tables: &[Table], table: u8, matching: &Match, priority: u16) -> Option<u32>
-    ensures { (rules : List Rule) → AreClassified tables.now rules
-        → result ≡ option_map (λ r. r.number)
-        (find (has_match_in table (match_view matching.now) priority) rules) }
-{
-    if (table as usize) < tables.len() {
-        tables[table as usize].find(matching, priority)
-    } else {
-        None
     }
 }

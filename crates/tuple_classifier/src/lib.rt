@@ -1,11 +1,11 @@
-//! The rules of one version of the flow tables, found by their masks.
+//! The rules of one version of the flow tables, found by their masks: an index of the store of all rules.
 //!
 //! # What?
 //!
-//! A translation looks a key up in one table after another, and a plain scan would test every rule of each. Rules of few
-//! masks are usual, however many they are: 10,000 routes of one length have one. So the rules of a table that have the
-//! same mask stand in one *subtable*, by their keys in a hash map, and a lookup probes each mask instead of each rule.
-//! That is *tuple space search*. `Tables` has all tables of one version so.
+//! A translation looks a key up in one table after another, and a plain scan would test every rule of each. Rules of
+//! few masks are usual, however many they are: 10,000 routes of one length have one. So the rules of a table that have
+//! the same mask stand in one *subtable*, by their keys in a hash map, and a lookup probes each mask instead of each
+//! rule. That is *tuple space search*. `Tables` has all tables of one version so.
 //!
 //! A lookup also tells which bits of the key it *consulted*: every key that is the same on them has the same winner by
 //! the same bits, so that an answer can be kept under them. Too few make such an answer false, and too many make it
@@ -13,25 +13,29 @@
 //!
 //! # What is promised
 //!
-//! Contracts see `Tables` as a `Version`, which is a number, how many edits led to it, and the rules (`specs/Versions`).
+//! `Tables` are over a store (`rule_tables::VersionedRules`), which has the rules of all versions. Contracts see them
+//! as a `Version` of its history: the number and the rules (`specs/Versions`).
 //!
-//! - `new` has no rules, which is version 0.
+//! - `new` is version 0, which has no rules.
 //! - `look` answers the number of the rule that wins for a key in a table, as the definition `winner` finds it by a
-//!   scan, and adds to `consulted` the bits that `consults` has for this table and key, no fewer and no more. It takes no
-//!   memory, so it can't fail.
+//!   scan, and adds to `consulted` the bits that `consults` has for this table and key, no fewer and no more. It takes
+//!   no memory, so it can't fail.
 //! - `actions` are those that a live rule has in this version.
-//! - `apply` makes the next version by the edits of a bundle, of any of the five words, as `after` says from `edited` of
-//!   `spec_tables`. Where it lacks memory all answers stay. Deletes alone take none.
+//! - `advance` leads to the next version. Where it lacks memory the version stays, and so do all answers.
 //!
-//! `after` leads from a version of a list of edits in bundles to the next one, and those are the versions of their history
-//! of `rule_tables` (`proofs/VersionLaws`). So two copies of the tables to which the same bundles were applied are seen
-//! alike, and answer alike, whichever of them is published.
+//! So two copies of the tables over one store that have the same version are seen alike, and answer alike, whichever of
+//! them is published.
 //!
 //! # How
 //!
-//! The rules of one mask are a subtable of `staged_lookup`. Its probe ends at the first stage on which none of them agrees
-//! with the key, and else tells the rule that wins. So a mask whose rules can't match by a first part of it consults that
-//! part alone. Beside it are kept:
+//! What an edit does is the store's to know. Of the rules of its version the index keeps what lookups read, which is
+//! neither cookies nor actions: contracts within see the rules *bare* (`bare` of `rule_tables`), and tables that have
+//! some bare rules have the rules as well (`proofs/Seen`). The actions of a winner are read in the store, at the
+//! version.
+//!
+//! The rules of one mask are a subtable of `staged_lookup`. Its probe ends at the first stage on which none of them
+//! agrees with the key, and else tells the rule that wins. So a mask whose rules can't match by a first part of it
+//! consults that part alone. Beside it are kept:
 //!
 //! - of each mask its *priorities*, sorted, each with how many rules have it;
 //! - of each table the *prefixes* of the addresses that its rules state, in a trie for each address
@@ -50,40 +54,30 @@
 //! (`order`). A mask whose last rule goes leaves the map, where the last subtable takes its place, which then stands in
 //! the order in place of the last one's.
 //!
-//! The live rules stand beside the subtables in the order of their numbers, each in a box of its own, and each has the
-//! place of its actions among the lists of actions that edits gave. The same places stand by number too, so that the
-//! actions of a winner are read without a search for its rule. Looking up which rule an edit names is a probe as well.
-//! Beside its box each live rule has the signature of its match (`rule_tables::signatures`). A loose word goes over
-//! these, and reads only the rules whose signature includes its own.
-//!
-//! Nobody sees the tables within a bundle. So `apply` takes all memory first: it puts the actions of all edits and the
-//! rules of all adds in, behind what is there, and takes them out again where memory lacks. Then it carries the edits
-//! out, each on the rules of less numbers than its own. Those that later edits add have greater ones, so they stay as
-//! if they weren't there yet (`proofs/BundleLaws`). A search for the rule that an edit names finds the least number, so
-//! it tells by that number whether there is an earlier one.
+//! `advance` asks the store which rules its next version brings, and which it takes away. Nobody sees the tables on the
+//! way, so all memory is taken first: what came is put in, and where memory lacks taken out again, the last first. Then
+//! what went is taken out, which takes none. What a modify gives is no part of the index, so that it changes nothing
+//! here.
 //!
 //! # What it costs
 //!
 //! - A lookup takes, for each mask that it goes over, one probe for each stage that has bits of the mask of its own and
-//!   leaves some to later ones, up to the one that ends it, and one for the rules themselves, however many rules have the
-//!   mask. A probe takes no hash where all rules of the mask are alike under the stage, as routes are in the Ethernet type,
-//!   and seldom one where no rule has the key (`masked_map`).
+//!   leaves some to later ones, up to the one that ends it, and one for the rules themselves, however many rules have
+//!   the mask. A probe takes no hash where all rules of the mask are alike under the stage, as routes are in the
+//!   Ethernet type, and seldom one where no rule has the key (`masked_map`).
 //! - The first mask of a lookup that has a prefix of an address takes a walk of its trie, of a step for each node on
 //!   the way. Those after it take none, so the time of a lookup grows by the masks that it goes over, and hardly by the
 //!   prefixes.
-//! - An add or a strict word, also in a bundle, finds the subtable of its mask by one hash, however many masks there
-//!   are, and then takes a few probes and a walk of each trie. The sorted lists are of different priorities, so an add
-//!   moves what stands after its place in one only where no rule of the mask has the priority yet, and a strict delete
-//!   only where no other rule has it. Else they change a count. Where a rule goes by its name, by a strict delete or
-//!   for an added one, the live rules of greater numbers move, of 24 bytes each: a signature, and the address of a box.
+//! - A rule that comes or goes finds the subtable of its mask by one hash, however many masks there are, and then takes
+//!   a few probes and a walk of each trie. The sorted lists are of different priorities, so a rule that comes moves
+//!   what stands after its place in one only where no rule of the mask has the priority yet, and one that goes only
+//!   where no other rule has it. Else they change a count. A rule that comes and goes within one bundle costs nothing
+//!   here.
 //! - Where it brings a new mask, or changes the greatest priority of one, where the mask belongs in the order is found
 //!   by a binary search, and the places behind, of 4 bytes each, move by one. A mask that stood there before, or goes,
 //!   is first found by a pass over these, and a mask that goes takes a second one.
-//! - A loose modify passes once over the signatures of the live rules, and a loose delete twice, of 24 bytes for each
-//!   rule with the address of its box. It tests the matches of the rules that it reaches, and of the few others whose
-//!   signature includes its own.
-//! - The actions of an edit stay until the tables are dropped, even where no live rule has them any more or had them in any
-//!   version, and so do the four bytes that say where those of a number are. The actions of a rule take two reads.
+//! - A modify costs nothing here, and the actions of a rule what `actions` of the store does: a binary search, and what
+//!   the rule was given after the version.
 //!
 //! # What is left to others
 //!
@@ -92,10 +86,8 @@
 #![tactic(auto)]
 
 mod by_table;
-mod entry;
+mod changing;
 mod indexes;
-mod live;
-mod live_rules;
 mod lookup;
 mod order;
 mod sorted;
@@ -105,5 +97,5 @@ mod table;
 mod tables;
 mod threads;
 
-pub use rule_tables::{Edit, EditWord, OfAction};
+pub use rule_tables::{OfAction, VersionedRules};
 pub use tables::Tables;

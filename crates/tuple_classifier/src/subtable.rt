@@ -1,18 +1,16 @@
 ghost use Rattle.std.specs.Prelude.{◌≡◌, [], List, IsTrue, OnOk, OnErr};
-ghost use Rattle.std.specs.List.{find};
-ghost use Rattle.std.specs.Option.{option_map};
 ghost use Rattle.spec_keys.specs.Keys.{same};
 ghost use Rattle.spec_tables.specs.Rules.{Rule};
-ghost use Rattle.ovs_fields.specs.Packed.{numbers, bits};
+ghost use Rattle.ovs_fields.specs.Packed.{bits};
 ghost use Rattle.staged_lookup.specs.Numbered.{without};
 ghost use Rattle.staged_lookup.specs.Ranks.{rank_of};
-ghost use Rattle.staged_lookup.specs.Subtables.{HasNoRule, has_priority};
+ghost use Rattle.staged_lookup.specs.Subtables.{HasNoRule};
 ghost use Rattle.translation_laws.specs.Members.{Among};
 ghost use Rattle.tuple_classifier.specs.Updates.{KeepsRules, AddsRule};
 
 use crate::indexes::Indexes;
 use indexmap::IndexMap;
-use ovs_fields::{Key, Mask};
+use ovs_fields::Mask;
 use rule_tables::Match;
 use staged_lookup::Rank;
 use std::alloc::{AllocError, Global};
@@ -73,14 +71,5 @@ impl Subtable {
         ensures { IsTrue result → (rs : List Rule) → IsSubtableOf self.now rs → rs ≡ [] }
     {
         self.staged.is_empty()
-    }
-
-    /// The number of the rule with this key and priority.
-    pub(crate) fn find(&self, key: &Key, priority: u16) -> Option<u32>
-        ensures { (rs : List Rule) → IsSubtableOf self.now rs
-            → result ≡ option_map (λ r. r.number)
-            (find (has_priority (numbers key.now) priority) rs) }
-    {
-        self.staged.find(key, priority)
     }
 }

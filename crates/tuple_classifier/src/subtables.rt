@@ -1,13 +1,9 @@
 ghost use Rattle.std.specs.Prelude.{◌≡◌, ◌<◌, [], ℕ, List, true, length, slice_get, Some, None, IfSome, IsNone, IfOk, OnOk, OnErr};
-ghost use Rattle.std.specs.List.{find};
-ghost use Rattle.std.specs.Option.{option_map};
 ghost use Rattle.indexmap.specs.IndexMap.{values, index_map_len, get_by};
 ghost use Rattle.spec_keys.specs.Keys.{same};
 ghost use Rattle.spec_tables.specs.Rules.{Rule};
 ghost use Rattle.ovs_fields.specs.Packed.{bits};
-ghost use Rattle.rule_tables.specs.Views.{match_view};
 ghost use Rattle.staged_lookup.specs.Subtables.{HasNoRule};
-ghost use Rattle.tuple_classifier.specs.Named.{has_match};
 ghost use Rattle.tuple_classifier.specs.Order.{IsFallingBut};
 ghost use Rattle.tuple_classifier.specs.Parts.{AreSubtablesOf, IsSubtableOfOne, HasMaskAt, LacksMask, IsEmptyAt};
 ghost use Rattle.tuple_classifier.specs.Placed.{AreKeyed, IsOrderOf};
@@ -150,18 +146,6 @@ impl Subtables {
     {
         leave(&mut self.order, place, self.by_mask.len() - 1);
         self.by_mask.swap_remove_index(place);
-    }
-
-    /// The number of the rule with this match and priority.
-    pub(crate) fn find(&self, matching: &Match, priority: u16) -> Option<u32>
-        ensures { (rs : List Rule) → AreSubtablesOf (by_place self.now) rs
-            → result ≡ option_map (λ r. r.number)
-            (find (has_match (match_view matching.now) priority) rs) }
-    {
-        match place_of_mask(&self.by_mask, &matching.mask) {
-            Some(place) => self.by_mask[place].find(&matching.key, priority),
-            None => None,
-        }
     }
 }
 

@@ -1,5 +1,4 @@
 ghost use Rattle.std.specs.Prelude.{◌≡◌, ◌+◌, ◌<◌, ◌^◌, [], ℕ, List, length, slice_get, Some, OnOk, OnErr};
-ghost use Rattle.std.specs.List.{find};
 ghost use Rattle.std.specs.Option.{option_map};
 ghost use Rattle.spec_tables.specs.Rules.{Rule, winner};
 ghost use Rattle.spec_xlate.specs.Lookup.{added, consults};
@@ -8,7 +7,6 @@ ghost use Rattle.rule_tables.specs.Views.{match_view};
 ghost use Rattle.address_prefixes.specs.Addresses.{AreOf};
 ghost use Rattle.staged_lookup.specs.Numbered.{AreDistinct};
 ghost use Rattle.staged_lookup.specs.Subtables.{HasNoRule};
-ghost use Rattle.tuple_classifier.specs.Named.{has_match};
 ghost use Rattle.tuple_classifier.specs.Updates.{KeepsRules, AddsRule, TakesRule};
 ghost use Rattle.tuple_classifier.specs.declared.subtable.Subtable.{Subtable};
 
@@ -75,15 +73,6 @@ impl Table {
     {
         self.subtables.take(matching, rank);
         self.prefixes.remove(matching);
-    }
-
-    /// The number of the rule with this match and priority.
-    pub(crate) fn find(&self, matching: &Match, priority: u16) -> Option<u32>
-        ensures { (rs : List Rule) → IsTableOf self.now rs
-            → result ≡ option_map (λ r. r.number)
-            (find (has_match (match_view matching.now) priority) rs) }
-    {
-        self.subtables.find(matching, priority)
     }
 
     /// The number of the winner for a key. The bits that the lookup consults are added.

@@ -1,27 +1,31 @@
-ghost use Rattle.std.specs.Prelude.{◌≡◌, ◌+◌, ◌<◌, ◌^◌, IsTrue, IfOk, OnOk, OnErr, Some, length};
+ghost use Rattle.std.specs.Prelude.{◌≡◌, ◌+◌, ◌<◌, ◌≤◌, IsTrue, IfOk, OnOk, OnErr, Some};
 ghost use Rattle.std.specs.Option.{option_map};
 ghost use Rattle.spec_tables.specs.Rules.{rules_in, winner};
 ghost use Rattle.spec_tables.specs.Live.{is_live, rule_numbered};
 ghost use Rattle.spec_xlate.specs.Lookup.{added, consults};
 ghost use Rattle.ovs_fields.specs.Packed.{numbers, bits};
-ghost use Rattle.tuple_classifier.specs.Versions.{no_rules, after};
+ghost use Rattle.rule_tables.specs.History.{newest};
+ghost use Rattle.tuple_classifier.specs.Versions.{version_in};
 
-use crate::live_rules::LiveRules;
+use crate::changing::{put_all, take_all};
+use crate::table::Table;
 use ovs_fields::{Key, Mask};
-use rule_tables::{Edit, OfAction};
+use rule_tables::{OfAction, VersionedRules};
 use std::alloc::{AllocError, Global};
 use std::marker::Model;
 
-/// The rules of one version of the tables, by their masks.
+/// The rules of one version of a store, by their masks.
 #[derive(Drop)]
-pub struct Tables {
+pub struct Tables<'s> {
+    alloc: Global,
+    /// The rules of all versions.
+    store: &'s VersionedRules,
     version: u32,
-    /// How many edits made this version and those before it.
-    edits: u32,
-    rules: LiveRules,
+    /// The rules of each table, by its number.
+    tables: Vec<Table>,
 }
 
-impl Model for Tables {
+impl<'s> Model for Tables<'s> {
     ghost use Rattle.tuple_classifier.specs.Versions.{Version};
 
     ghost Value = { Version };
@@ -33,26 +37,41 @@ impl Model for Tables {
     ghost invariant = { HoldsVersion };
 }
 
-impl Tables {
-    /// No rules: version 0. It takes no memory.
-    pub fn new(alloc: Global) -> Tables
-        ensures { result ≡ no_rules }
+impl<'s> Tables<'s> {
+    /// Version 0 of a store, which has no rules. It takes no memory.
+    pub fn new(alloc: Global, store: &'s VersionedRules) -> Tables<'s>
+        ensures { result ≡ version_in store.now 0 }
     {
+        store.first_law();
         Tables {
+            alloc,
+            store,
             version: 0,
-            edits: 0,
-            rules: LiveRules::new(alloc),
+            tables: Vec::new(alloc),
         }
     }
 
-    /// The version, which is how many bundles were applied.
+    /// The last version of a store. The only error is out of memory.
+    pub fn last(alloc: Global, store: &'s VersionedRules) -> Result<Tables<'s>, AllocError>
+        ensures { IfOk result (λ tables. tables ≡ version_in store.now (newest store.now)) }
+    {
+        let mut tables = Tables::new(alloc, store);
+        'versions: while tables.version() < store.version() {
+            tables.advance()?;
+        }
+        Ok(tables)
+    }
+
+    /// The version, which is how many bundles led to it.
     pub fn version(&self) -> u32
-        ensures { result ≡ self.now.number }
+        ensures number { result ≡ self.now.number }
+        ensures made { result ≤ newest self.now.history }
     {
         self.version
     }
 
-    /// The number of the rule that wins for a key in a table. The bits that the lookup consults are added to `consulted`.
+    /// The number of the rule that wins for a key in a table. The bits that the lookup consults are added to
+    /// `consulted`.
     pub fn look(&self, table: u8, key: &Key, consulted: &mut Mask) -> Option<u32>
         ensures winner { result
             ≡ option_map (λ r. r.number)
@@ -61,9 +80,8 @@ impl Tables {
             ≡ added (bits consulted.old)
             (consults (rules_in table self.now.rules) (numbers key.now)) }
     {
-        let tables = &self.rules.tables;
-        if (table as usize) < tables.len() {
-            tables[table as usize].look(key, consulted)
+        if (table as usize) < self.tables.len() {
+            self.tables[table as usize].look(key, consulted)
         } else {
             None
         }
@@ -75,28 +93,26 @@ impl Tables {
         ensures { option_map (λ r. r.actions) (rule_numbered number self.now.rules)
             ≡ Some result.now }
     {
-        let place = self.rules.places[number as usize - 1];
-        self.rules.lists[place as usize].as_slice()
+        self.store.actions(self.version, number)
     }
 
-    /// Makes the tables of the next version by the edits of a bundle, in their order, and answers its number.
+    /// Makes the tables of the next version, and answers its number.
     ///
-    /// An add puts its rule in place of a live one of the same table, priority and match. A modify gives its actions, and
-    /// its cookie where it has one, to every live rule whose match is the given one or more specific, and a delete removes
-    /// those; the strict words act on the one live rule of the given table, priority and match. A word that finds no rule
-    /// changes none.
-    ///
-    /// The only error is out of memory, and then all answers stay. Deletes alone take no memory.
-    pub fn apply(&mut self, bundle: &[Edit]) -> Result<u32, AllocError>
-        requires some { 0 < length bundle.now }
-        requires room { self.old.edits + length bundle.now < 2 ^ 32 }
-        ensures edited { OnOk result (self.new ≡ after bundle.now self.old) }
+    /// The only error is out of memory, and then the version stays. A bundle that brings no rule takes none.
+    pub fn advance(&mut self) -> Result<u32, AllocError>
+        requires { self.old.number < newest self.old.history }
+        ensures next { OnOk result
+            (self.new ≡ version_in self.old.history (self.old.number + 1)) }
         ensures version { IfOk result (λ v. v ≡ self.new.number) }
         ensures err { OnErr result (self.new ≡ self.old) }
     {
-        self.rules.apply(bundle, self.edits)?;
+        // That the next version is a `u32`.
+        let _ = self.store.version();
+        self.store.change_laws(self.version);
+        let change = self.store.change(self.version);
+        put_all(self.alloc, &mut self.tables, &change)?;
+        take_all(&mut self.tables, &change);
         self.version += 1;
-        self.edits += bundle.len() as u32;
         Ok(self.version)
     }
 }

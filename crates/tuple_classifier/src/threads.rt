@@ -2,6 +2,6 @@
 use crate::tables::Tables;
 use thread_bounds::crosses_threads;
 
-fn tables_cross_threads(tables: &Tables) {
+fn tables_cross_threads(tables: &Tables<'_>) {
     crosses_threads(tables)
 }

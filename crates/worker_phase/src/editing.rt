@@ -32,7 +32,7 @@ fn publish_block<C: Case, T: RunTables<C>, P: Phase, R: Wait>(
         if editor.version() >= shared.last {
             break;
         }
-        let (next, published) = editor.publish_next(rt, shared.edits);
+        let (next, published) = editor.publish_next(rt, shared.run);
         editor = next;
         if published.is_err() {
             break;

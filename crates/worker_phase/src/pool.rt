@@ -30,11 +30,16 @@ pub struct WorkerPool<C: Case, T: RunTables<C>> {
 
 impl<C: Case + Send + Sync, T: RunTables<C> + Send + Sync> WorkerPool<C, T> {
     /// So many workers, and tables without a rule. The only error is out of memory.
-    pub fn new<R: Wait>(rt: &R, alloc: Global, workers: u8) -> Result<WorkerPool<C, T>, AllocError>
+    pub fn new<R: Wait>(
+        rt: &R,
+        alloc: Global,
+        store: T::Store,
+        workers: u8,
+    ) -> Result<WorkerPool<C, T>, AllocError>
         requires sound { IsTrue (list_all has_sound_actions C.run.edits) }
         requires workers { (1 ≤ workers) × (workers ≤ most_workers) }
     {
-        let (editor, seers) = publish(rt, alloc, workers as usize + 1)?;
+        let (editor, seers) = publish(rt, alloc, store, workers as usize + 1)?;
         Ok(WorkerPool {
             editor,
             seers,

@@ -50,59 +50,17 @@ fn begin<T, F: FnOnce() -> T>(spawned: Result<JoinHandle<T>, SpawnError<F>>) -> 
     }
 }
 
-/// A worker of a phase that works in a thread of its own.
-trait InThread<C: Case, T: RunTables<C>, P: Phase, R: Threads + Wait, G: Gate>: Drop {
-    // Works until the phase has ended, and gives the worker back. The only error is out of memory.
-    fn work(
-        self,
-        rt: &R,
-        alloc: Global,
-        shared: &Shared<'_, C, T, P>,
-        gate: &G,
-    ) -> (Self, Result<(), AllocError>);
+// The workers of a phase and its editor, once their work was begun.
+#[derive(Drop)]
+struct AtWork<C: Case, T: RunTables<C>, P: Phase> {
+    receivers: Vec<Begun<(Receiver<C, P>, Result<(), AllocError>)>>,
+    editor: Begun<()>,
+    handlers: Vec<Begun<(Handler<C, T, P>, Result<(), AllocError>)>>,
+    revalidator: Begun<(Revalidator<C, T, P>, Result<(), AllocError>)>,
 }
 
-impl<C: Case, T: RunTables<C>, P: Phase, R: Threads + Wait, G: Gate> InThread<C, T, P, R, G>
-    for Receiver<C, P> {
-    fn work(
-        self,
-        rt: &R,
-        _alloc: Global,
-        shared: &Shared<'_, C, T, P>,
-        gate: &G,
-    ) -> (Receiver<C, P>, Result<(), AllocError>) {
-        (receive(rt, shared, self, gate), Ok(()))
-    }
-}
-
-impl<C: Case, T: RunTables<C>, P: Phase, R: Threads + Wait, G: Gate> InThread<C, T, P, R, G>
-    for Handler<C, T, P> {
-    fn work(
-        self,
-        rt: &R,
-        alloc: Global,
-        shared: &Shared<'_, C, T, P>,
-        gate: &G,
-    ) -> (Handler<C, T, P>, Result<(), AllocError>) {
-        handle(rt, alloc, shared, self, gate)
-    }
-}
-
-impl<C: Case, T: RunTables<C>, P: Phase, R: Threads + Wait, G: Gate> InThread<C, T, P, R, G>
-    for Revalidator<C, T, P> {
-    fn work(
-        self,
-        rt: &R,
-        alloc: Global,
-        shared: &Shared<'_, C, T, P>,
-        gate: &G,
-    ) -> (Revalidator<C, T, P>, Result<(), AllocError>) {
-        revalidate(rt, alloc, shared, self, gate)
-    }
-}
-
-// Begins the work of a worker.
-fn begin_one<
+// Begins the work of the receive workers.
+fn begin_receivers<
     's,
     E,
     C: Case + Send + Sync,
@@ -110,41 +68,84 @@ fn begin_one<
     P: Phase + Send + Sync,
     R: Threads + Wait + Sync,
     G: Gate + Sync,
-    W: InThread<C, T, P, R, G> + Send + 's,
 >(
     scope: &Scope<'s, E>,
     rt: &'s R,
     alloc: Global,
     shared: &'s Shared<'s, C, T, P>,
+    receivers: Vec<Receiver<C, P>>,
     gate: &'s G,
-    worker: W,
-) -> Begun<(W, Result<(), AllocError>)> {
-    begin(scope.spawn(move || worker.work(rt, alloc, shared, gate)))
-}
-
-// Begins the work of each.
-fn begin_each<
-    's,
-    E,
-    C: Case + Send + Sync,
-    T: RunTables<C> + Send + Sync,
-    P: Phase + Send + Sync,
-    R: Threads + Wait + Sync,
-    G: Gate + Sync,
-    W: InThread<C, T, P, R, G> + Send + 's,
->(
-    scope: &Scope<'s, E>,
-    rt: &'s R,
-    alloc: Global,
-    shared: &'s Shared<'s, C, T, P>,
-    gate: &'s G,
-    workers: Vec<W>,
-) -> Result<Vec<Begun<(W, Result<(), AllocError>)>>, AllocError> {
-    let mut begun = Vec::with_capacity(alloc, workers.len())?;
-    'workers: for worker in workers {
-        begun.push(begin_one(scope, rt, alloc, shared, gate, worker))?;
+) -> Result<Vec<Begun<(Receiver<C, P>, Result<(), AllocError>)>>, AllocError> {
+    let mut begun = Vec::with_capacity(alloc, receivers.len())?;
+    'receivers: for receiver in receivers {
+        let spawned = scope.spawn(move || (receive(rt, shared, receiver, gate), Ok(())));
+        begun.push(begin(spawned))?;
     }
     Ok(begun)
+}
+
+// Begins the work of the handlers.
+fn begin_handlers<
+    's,
+    E,
+    C: Case + Send + Sync,
+    T: RunTables<C> + Send + Sync,
+    P: Phase + Send + Sync,
+    R: Threads + Wait + Sync,
+    G: Gate + Sync,
+>(
+    scope: &Scope<'s, E>,
+    rt: &'s R,
+    alloc: Global,
+    shared: &'s Shared<'s, C, T, P>,
+    handlers: Vec<Handler<C, T, P>>,
+    gate: &'s G,
+) -> Result<Vec<Begun<(Handler<C, T, P>, Result<(), AllocError>)>>, AllocError> {
+    let mut begun = Vec::with_capacity(alloc, handlers.len())?;
+    'handlers: for handler in handlers {
+        let spawned = scope.spawn(move || handle(rt, alloc, shared, handler, gate));
+        begun.push(begin(spawned))?;
+    }
+    Ok(begun)
+}
+
+// Begins the work of the revalidator.
+fn begin_revalidator<
+    's,
+    E,
+    C: Case + Send + Sync,
+    T: RunTables<C> + Send + Sync,
+    P: Phase + Send + Sync,
+    R: Threads + Wait + Sync,
+    G: Gate + Sync,
+>(
+    scope: &Scope<'s, E>,
+    rt: &'s R,
+    alloc: Global,
+    shared: &'s Shared<'s, C, T, P>,
+    revalidator: Revalidator<C, T, P>,
+    gate: &'s G,
+) -> Begun<(Revalidator<C, T, P>, Result<(), AllocError>)> {
+    begin(scope.spawn(move || revalidate(rt, alloc, shared, revalidator, gate)))
+}
+
+// Begins the work of the editor that lies in a slot.
+fn begin_editor<
+    's,
+    E,
+    C: Case + Send + Sync,
+    T: RunTables<C> + Send + Sync,
+    P: Phase + Send + Sync,
+    R: Threads + Wait + Sync,
+    G: Gate + Sync,
+>(
+    scope: &Scope<'s, E>,
+    rt: &'s R,
+    shared: &'s Shared<'s, C, T, P>,
+    slot: &'s mut Option<PhaseEditor<C, T, P>>,
+    gate: &'s G,
+) -> Begun<()> {
+    begin(scope.spawn(move || edit(rt, shared, slot, gate)))
 }
 
 // The workers, once all have ended.
@@ -160,6 +161,65 @@ fn join_each<W: Drop, R: Threads>(
         workers.push(worker)?;
     }
     Ok(workers)
+}
+
+// Begins the work of all: of the receive workers and the editor, and then of the handlers and the revalidator.
+fn begin_all<
+    's,
+    E,
+    C: Case + Send + Sync,
+    T: RunTables<C> + Send + Sync,
+    P: Phase + Send + Sync,
+    R: Threads + Wait + Sync,
+    G: Gate + Sync,
+>(
+    scope: &Scope<'s, E>,
+    rt: &'s R,
+    alloc: Global,
+    shared: &'s Shared<'s, C, T, P>,
+    slot: &'s mut Option<PhaseEditor<C, T, P>>,
+    workers: Workers<C, T, P>,
+    gate: &'s G,
+) -> Result<AtWork<C, T, P>, AllocError> {
+    let Workers {
+        receivers,
+        handlers,
+        revalidator,
+    } = workers;
+    let receivers = begin_receivers(scope, rt, alloc, shared, receivers, gate)?;
+    let editor = begin_editor(scope, rt, shared, slot, gate);
+    let handlers = begin_handlers(scope, rt, alloc, shared, handlers, gate)?;
+    let revalidator = begin_revalidator(scope, rt, alloc, shared, revalidator, gate);
+    Ok(AtWork {
+        receivers,
+        editor,
+        handlers,
+        revalidator,
+    })
+}
+
+// The workers, once all have ended, and the editor too.
+fn join_all<C: Case, T: RunTables<C>, P: Phase, R: Threads>(
+    rt: &R,
+    alloc: Global,
+    at_work: AtWork<C, T, P>,
+) -> Result<Workers<C, T, P>, AllocError> {
+    let AtWork {
+        receivers,
+        editor,
+        handlers,
+        revalidator,
+    } = at_work;
+    let receivers = join_each(rt, alloc, receivers)?;
+    editor.join(rt);
+    let handlers = join_each(rt, alloc, handlers)?;
+    let (revalidator, swept) = revalidator.join(rt);
+    swept?;
+    Ok(Workers {
+        receivers,
+        handlers,
+        revalidator,
+    })
 }
 
 /// Runs the workers of a phase, each in a thread of its own, and gives them back once all have ended. The receive workers
@@ -185,25 +245,8 @@ pub fn work<
         thread::scope_env(),
         rt,
         |scope| -> Result<Workers<C, T, P>, AllocError> {
-            let Workers {
-                receivers,
-                handlers,
-                revalidator,
-            } = workers;
-            let receiving = begin_each(scope, rt, alloc, shared, gate, receivers)?;
-            let editing = begin(scope.spawn(move || edit(rt, shared, slot, gate)));
-            let handling = begin_each(scope, rt, alloc, shared, gate, handlers)?;
-            let sweeping = begin_one(scope, rt, alloc, shared, gate, revalidator);
-            let receivers = join_each(rt, alloc, receiving)?;
-            editing.join(rt);
-            let handlers = join_each(rt, alloc, handling)?;
-            let (revalidator, swept) = sweeping.join(rt);
-            swept?;
-            Ok(Workers {
-                receivers,
-                handlers,
-                revalidator,
-            })
+            let at_work = begin_all(scope, rt, alloc, shared, slot, workers, gate)?;
+            join_all(rt, alloc, at_work)
         },
     )
 }

@@ -14,7 +14,6 @@ use std::thread;
 use std::time::Duration;
 use table_publish::Seer;
 use table_versions::RunTables;
-use table_versions::edits::RunEdits;
 use upcall_queue::UpcallQueue;
 
 /// In how many turns of waiting a worker yields. In later ones it sleeps.
@@ -43,7 +42,6 @@ pub fn most_queued(workers: usize) -> usize
 #[derive(Drop)]
 pub struct Shared<'a, C: Case, T: RunTables<C>, P: Phase> {
     pub run: &'a RunData<C>,
-    pub edits: &'a RunEdits<C>,
     pub locks: &'a [Mutex<Board<C>>],
     pub queue: &'a UpcallQueue<C>,
     pub mailboxes: &'a [Mutex<Mailbox<C, T, P>>],

@@ -17,14 +17,12 @@ use std::sync::{Condvar, Wait};
 use std::thread::Threads;
 use table_publish::{Editor, Seer};
 use table_versions::RunTables;
-use table_versions::edits::RunEdits;
 use upcall_queue::{Pass, UpcallQueue};
 
 /// A run that workers decide, and the flow limit of its boards.
 #[derive(Drop)]
 pub struct WorkedRun<'a, C: Case> {
     pub data: &'a RunData<C>,
-    pub edits: &'a RunEdits<C>,
     pub flow_limit: u32,
     pub ghost limit: { flow_limit ≡ C.run.flow_limit },
 }
@@ -80,7 +78,6 @@ fn work_in_threads<
     let given = Condvar::new();
     let shared = Shared {
         run: run.data,
-        edits: run.edits,
         locks: locks.as_slice(),
         queue,
         mailboxes: boxes.as_slice(),

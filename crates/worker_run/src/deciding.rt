@@ -14,7 +14,6 @@ use std::alloc::{AllocError, Global};
 use std::sync::Wait;
 use std::thread::Threads;
 use step_runner::close_phase;
-use table_versions::edits::RunEdits;
 use table_versions::{RunTables, Tables};
 use worker_phase::{WorkedRun, WorkerPool};
 
@@ -29,6 +28,7 @@ struct Left<C: Case, T: RunTables<C>> {
 fn close_block<C: Case, T: RunTables<C>>(
     alloc: Global,
     run: &WorkedRun<'_, C>,
+    store: T::Store,
     boards: Vec<Board<C>>,
     tables: &mut Tables<C, T>,
     block: u32,
@@ -40,11 +40,11 @@ fn close_block<C: Case, T: RunTables<C>>(
     ensures finished { IfOk result (λ r. MatchBool r.1
         (block ≡ last_block C.run → AreFinished C.run r.0) (AreFinished C.run r.0)) }
 {
-    tables.follow(run.edits, run.data.hi(block))?;
+    tables.follow(run.data.hi(block))?;
     close_phase(
         alloc,
         run.data,
-        run.edits,
+        store,
         boards,
         tables,
         block,
@@ -62,6 +62,7 @@ fn decide_block<
     rt: &R,
     alloc: Global,
     run: &WorkedRun<'_, C>,
+    store: T::Store,
     left: Left<C, T>,
     tables: &mut Tables<C, T>,
     block: u32,
@@ -76,7 +77,7 @@ fn decide_block<
 {
     let Left { pool, boards } = left;
     let (pool, boards) = pool.work(rt, alloc, run, boards.into_vec(), block, gate)?;
-    match close_block(alloc, run, boards, tables, block) {
+    match close_block(alloc, run, store, boards, tables, block) {
         Ok((boards, fit)) => Ok((Left { pool, boards }, fit)),
         Err(e) => {
             pool.end(rt);
@@ -95,6 +96,7 @@ fn decide_blocks<
     rt: &R,
     alloc: Global,
     run: &WorkedRun<'_, C>,
+    store: T::Store,
     left: Left<C, T>,
     gate: &G,
 ) -> Result<Boards<C>, AllocError>
@@ -103,9 +105,9 @@ fn decide_blocks<
 {
     let last = run.data.last_block();
     let mut left = left;
-    let mut tables = Tables::<C, T>::new(alloc);
+    let mut tables = Tables::<C, T>::new(alloc, store);
     'blocks: for block in 0..last + 1 {
-        let (next, fit) = decide_block(rt, alloc, run, left, &mut tables, block, gate)?;
+        let (next, fit) = decide_block(rt, alloc, run, store, left, &mut tables, block, gate)?;
         if !fit {
             let Left { pool, boards } = next;
             pool.end(rt);
@@ -134,7 +136,7 @@ pub fn decide_by_workers<
     rt: &R,
     alloc: Global,
     run: &RunData<C>,
-    edits: &RunEdits<C>,
+    store: T::Store,
     flow_limit: u32,
     workers: u8,
     gate: &G,
@@ -144,12 +146,11 @@ pub fn decide_by_workers<
     requires workers { (1 ≤ workers) × (workers ≤ most_workers) }
 {
     let boards = Boards::new(alloc, run, flow_limit)?;
-    let pool = WorkerPool::<C, T>::new(rt, alloc, workers)?;
+    let pool = WorkerPool::<C, T>::new(rt, alloc, store, workers)?;
     let worked = WorkedRun {
         data: run,
-        edits,
         flow_limit,
     };
-    let boards = decide_blocks(rt, alloc, &worked, Left { pool, boards }, gate)?;
+    let boards = decide_blocks(rt, alloc, &worked, store, Left { pool, boards }, gate)?;
     Finished::new(alloc, run, boards)
 }

@@ -1,6 +1,6 @@
 //! Acts on a board behind its lock, and what they are to answer.
+use crate::literal_run::PORT;
 use crate::meddling::swept_beside;
-use crate::runs::PORT;
 use crate::stage::{Points, SmallQueue, Stage, Told};
 use pmd_board::{BeginFault, Board, EndFault, Step};
 use revalidator::{Swept, sweep_board};
@@ -15,17 +15,17 @@ use upcall_queue::upcalls::Upcall;
 
 /// An act on a board, with what it is to answer.
 #[derive(Clone, Copy)]
-pub enum Act {
+pub enum Act<'a> {
     /// A batch is polled.
     Poll(Polled),
     /// The upcalls of frames are handled together on this board.
-    Handle(&'static [Upcall], Handled),
+    Handle(&'a [Upcall], Handled),
     /// The board is swept.
     Sweep(Swept),
     /// The board is swept while another puts its first entry, and then begins a sweep at the version, if there is one.
     SweepBeside(Option<u32>, Swept),
     /// The board is called under its lock.
-    Call(Call),
+    Call(Call<'a>),
     /// The upcalls of the frames from the first to this place, and no others, are in the queue.
     Queued(u32),
     /// The gate was told so often.
@@ -34,7 +34,7 @@ pub enum Act {
 
 /// A call of a board, with what it is to answer.
 #[derive(Clone, Copy)]
-pub enum Call {
+pub enum Call<'a> {
     Begin(u32, Result<(), BeginFault>),
     End(Result<(), EndFault>),
     /// The last sweep that was ended began at the version.
@@ -42,7 +42,7 @@ pub enum Call {
     /// The frame of the place is decided, or isn't.
     Decided(u32, bool),
     /// The journal has these settles, in this order, and no others.
-    Settles(&'static [Settle]),
+    Settles(&'a [Settle]),
 }
 
 /// That a frame was settled under a version.
@@ -83,7 +83,7 @@ pub const USELESS: Handled = Handled {
 };
 
 /// Whether a board answers a call as it says.
-fn is_answered<C: Case>(board: &mut Board<C>, call: Call) -> bool {
+fn is_answered<C: Case>(board: &mut Board<C>, call: Call<'_>) -> bool {
     match call {
         Call::Begin(version, expected) => board.begin(version) == expected,
         Call::End(expected) => board.end() == expected,
@@ -131,7 +131,7 @@ fn answers<C: Case, T: RunTables<C>, R: Wait>(
     seer: Seer<C, T>,
     run: &RunData<C>,
     stage: &mut Stage<C>,
-    act: Act,
+    act: Act<'_>,
 ) -> (Seer<C, T>, Result<bool, AllocError>) {
     match act {
         Act::Poll(expected) => {
@@ -180,7 +180,7 @@ pub fn first_wrong<C: Case, T: RunTables<C>, R: Wait>(
     run: &RunData<C>,
     board: Board<C>,
     room: usize,
-    acts: &[Act],
+    acts: &[Act<'_>],
 ) -> Result<Option<usize>, AllocError> {
     let mut stage = Stage {
         board: Mutex::new(board),

@@ -1,23 +1,22 @@
 //! Calls of an editor and of a seer, with what they are to answer.
 ghost use Rattle.std.specs.Prelude.{◌≡◌};
 
-use run_case::Case;
+use run_case::{Case, RunData};
 use std::process::Abort;
 use std::sync::Wait;
 use table_publish::{Editor, PublishFault, Seer};
 use table_versions::RunTables;
-use table_versions::edits::RunEdits;
 
 /// Publishes the next bundle, which is to be answered so.
 pub fn publishes<C: Case, T: RunTables<C>, R: Wait + Abort>(
     rt: &R,
     editor: Editor<C, T>,
-    edits: &RunEdits<C>,
+    run: &RunData<C>,
     answer: Result<u32, PublishFault>,
 ) -> Editor<C, T>
     ensures { result.publication ≡ editor.publication }
 {
-    let (editor, published) = editor.publish_next(rt, edits);
+    let (editor, published) = editor.publish_next(rt, run);
     assert!(rt; published == answer);
     editor
 }

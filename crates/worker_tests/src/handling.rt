@@ -8,14 +8,14 @@ use upcall_handler::Handled;
 use upcall_queue::upcalls::Upcall;
 
 /// One frame is looked up, and its upcall is taken.
-const ONE_MISS: Act = Act::Poll(Polled {
+const ONE_MISS: Act<'static> = Act::Poll(Polled {
     looked: 1,
     given: 1,
     refused: 0,
 });
 
 /// Two are.
-const TWO_MISSES: Act = Act::Poll(Polled {
+const TWO_MISSES: Act<'static> = Act::Poll(Polled {
     looked: 2,
     given: 2,
     refused: 0,
@@ -24,7 +24,7 @@ const TWO_MISSES: Act = Act::Poll(Polled {
 /// In how many tries a frame is translated and the gate told of it.
 const TRIES: u64 = 4;
 
-const ROWS: [Row; 4] = [
+const ROWS: [Row<'static>; 4] = [
     Row {
         shows: "a pending frame is decided, once, and the gate is told between translation and settle",
         edits: b"in_port=1,actions=2",

@@ -1,13 +1,11 @@
 //! News that a seer learns from behind a lock.
-ghost use Rattle.std.specs.Prelude.{◌≡◌, ◌≤◌, IsTrue, length};
+ghost use Rattle.std.specs.Prelude.{◌≡◌, ◌≤◌, IsTrue};
 ghost use Rattle.std.specs.List.{list_all};
-ghost use Rattle.spec_tables.specs.Bundles.{AreBundles};
 ghost use Rattle.spec_tables.specs.Edits.{has_sound_actions};
 
 use crate::calls::{enters, publishes};
-use crate::edits::{EDITS, bundles_of, edits_of};
-use rule_tables::Edit;
-use run_case::Case;
+use crate::literal_run::LiteralRun;
+use run_case::{Case, RunData};
 use run_tables::ClassifierTables;
 use std::alloc::Global;
 use std::marker::{Brand, Model, PhantomData};
@@ -16,7 +14,6 @@ use std::sync::{Mutex, Wait};
 use std::test::*;
 use table_publish::{Editor, News, Seer, publish};
 use table_versions::RunTables;
-use table_versions::edits::RunEdits;
 
 // Names one publication.
 trait Publication {
@@ -78,27 +75,32 @@ impl<C: Case, T: RunTables<C>, P: Publication> Mailbox<C, T, P> {
 #[test]
 fn news_are_learnt_from_behind_a_lock(rt: HostRuntime) -> Result<(), Fail> {
     let alloc = rt.alloc();
-    let edits = edits_of(alloc)?;
-    let bundles = bundles_of(alloc)?;
-    in_run::<Brand, _>(&rt, alloc, edits, bundles)
+    let literal = LiteralRun::two_versions(alloc)?;
+    in_run::<Brand, _>(&rt, alloc, literal)
 }
 
-fn in_run<C: Case, R: Wait + Abort>(
+fn in_run<C: Case + Send + Sync, R: Wait + Abort>(
     rt: &R,
     alloc: Global,
-    edits: Vec<Edit>,
-    bundles: Vec<u32>,
+    literal: LiteralRun,
 ) -> Result<(), Fail>
-    requires edits { edits.items ≡ C.run.edits }
-    requires bundles { bundles.items ≡ C.run.bundles }
-    requires whole { AreBundles C.run.bundles EDITS }
-    requires sound { IsTrue (list_all has_sound_actions C.run.edits) }
-    requires few { length C.run.edits ≡ EDITS }
+    requires { C.run ≡ literal }
 {
-    let edits = RunEdits::<C>::new(edits, bundles);
-    let (editor, mut seers) = publish::<C, ClassifierTables<C>, R>(rt, alloc, 1)?;
-    let editor = publishes(rt, editor, &edits, Ok(1));
-    in_publication::<C, ClassifierTables<C>, Brand, R>(rt, editor, seers.remove(0));
+    let (run, rules) = literal.named::<C>(alloc)?;
+    one_told::<C, ClassifierTables<'_, C>, R>(rt, alloc, &run, &rules)
+}
+
+fn one_told<C: Case, T: RunTables<C>, R: Wait + Abort>(
+    rt: &R,
+    alloc: Global,
+    run: &RunData<C>,
+    store: T::Store,
+) -> Result<(), Fail>
+    requires sound { IsTrue (list_all has_sound_actions C.run.edits) }
+{
+    let (editor, mut seers) = publish::<C, T, R>(rt, alloc, store, 1)?;
+    let editor = publishes(rt, editor, run, Ok(1));
+    in_publication::<C, T, Brand, R>(rt, editor, seers.remove(0));
     Ok(())
 }
 

@@ -1,8 +1,8 @@
 //! A sweep of a board on which another works meanwhile.
 //!
-//! The gate is told of an entry while the board's lock is free. Here it takes the lock itself and does what another thread
-//! could: it puts the entry and ends the sweep, and may begin one more.
-use crate::runs::PORT;
+//! The gate is told of an entry while the board's lock is free. Here it takes the lock itself and does what another
+//! thread could: it puts the entry and ends the sweep, and may begin one more.
+use crate::literal_run::PORT;
 use edge_io::{Gate, Point};
 use ovs_fields::Key;
 use pmd_board::{Board, Xlated};

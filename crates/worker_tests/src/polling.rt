@@ -5,7 +5,7 @@ use crate::stage::Told;
 use rx_worker::Polled;
 use std::test::Fail;
 
-const ROWS: [Row; 1] = [Row {
+const ROWS: [Row<'static>; 1] = [Row {
     shows: "of 40 frames 32 are looked up and then 8, and what the queue has no room for is refused",
     edits: b"",
     frames: &[2; 40],

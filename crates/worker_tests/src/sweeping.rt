@@ -6,7 +6,7 @@ use revalidator::Swept;
 use rx_worker::Polled;
 use std::test::Fail;
 
-const ROWS: [Row; 3] = [
+const ROWS: [Row<'static>; 3] = [
     Row {
         shows: "a sweep puts each megaflow, and none is made while another runs",
         edits: b"in_port=1,dl_dst=00:00:00:00:00:02,actions=2",

@@ -7,7 +7,7 @@ use tuple_classifier::Tables;
 /// The tables of a version, and the ports. A mask is noted: the bits that lookups and actions consult are added to it.
 #[derive(Clone, Copy)]
 pub(crate) struct Switch<'a> {
-    pub(crate) tables: &'a Tables,
+    pub(crate) tables: &'a Tables<'a>,
     pub(crate) ports: &'a [u16],
 }
 

@@ -23,7 +23,7 @@ use tuple_classifier::Tables;
 /// The only error is out of memory, and then nothing is left behind.
 pub fn translate(
     lists: SpareLists,
-    tables: &Tables,
+    tables: &Tables<'_>,
     ports: &[u16],
     key: &Key,
 ) -> Result<Translated, AllocError>

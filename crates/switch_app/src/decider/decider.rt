@@ -15,16 +15,16 @@ use spec_dumps::Ran;
 use std::alloc::{AllocError, Global};
 use std::sync::Wait;
 use std::thread::Threads;
-use table_versions::edits::RunEdits;
+use table_versions::rules::RunRules;
 
 /// Carries out the whole schedule of a run: its given steps, on new boards, and then the end of every run. The journals are
 /// those of the schedule. It answers how many steps were given, and how many of them weren't met.
 ///
 /// The only error is out of memory.
-pub fn run_schedule<C: Case>(
+pub fn run_schedule<C: Case + Send + Sync>(
     alloc: Global,
     run: &RunData<C>,
-    edits: &RunEdits<C>,
+    rules: &RunRules<C>,
     flow_limit: u32,
     steps: &[RunStep],
 ) -> Result<(Finished<C>, Ran), AllocError>
@@ -36,7 +36,7 @@ pub fn run_schedule<C: Case>(
     ensures steps { IfOk result (λ r. r.1.steps ≡ length C.run.steps) }
     ensures unmet { IfOk result (λ r. r.1.unmet ≡ (whole_runs.scheduled C.run).unmet) }
 {
-    given_steps::run_schedule::<C, ClassifierTables<C>>(alloc, run, edits, flow_limit, steps)
+    given_steps::run_schedule::<C, ClassifierTables<'_, C>>(alloc, run, rules, flow_limit, steps)
 }
 
 /// Decides all frames of a run by workers, so many of each kind, from 1 to 16. Which steps are taken is up to their threads;
@@ -47,7 +47,7 @@ pub fn decide_by_workers<C: Case + Send + Sync, R: Threads + Wait + Sync, G: Gat
     rt: &R,
     alloc: Global,
     run: &RunData<C>,
-    edits: &RunEdits<C>,
+    rules: &RunRules<C>,
     flow_limit: u32,
     workers: u8,
     gate: &G,
@@ -56,7 +56,7 @@ pub fn decide_by_workers<C: Case + Send + Sync, R: Threads + Wait + Sync, G: Gat
     requires limit { flow_limit ≡ C.run.flow_limit }
     requires workers { (1 ≤ workers) × (workers ≤ most_workers) }
 {
-    worker_run::decide_by_workers::<C, ClassifierTables<C>, R, G>(
-        rt, alloc, run, edits, flow_limit, workers, gate,
+    worker_run::decide_by_workers::<C, ClassifierTables<'_, C>, R, G>(
+        rt, alloc, run, rules, flow_limit, workers, gate,
     )
 }

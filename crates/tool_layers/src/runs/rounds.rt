@@ -10,10 +10,10 @@ use run_tables::ClassifierTables;
 use std::alloc::{AllocError, Global};
 use std::marker::Brand;
 use switch_input::Inputs;
-use table_versions::edits::RunEdits;
+use table_versions::rules::RunRules;
 
 /// What becomes of the frames of a run under a name, in so many rounds together.
-fn counts_in_rounds<C: Case>(
+fn counts_in_rounds<C: Case + Send + Sync>(
     alloc: Global,
     inputs: Inputs<'_>,
     flow_limit: u32,
@@ -25,23 +25,24 @@ fn counts_in_rounds<C: Case>(
     let Inputs {
         ports,
         script,
+        rules,
         steps,
         traces,
         ..
     } = inputs;
-    let edits = RunEdits::<C>::new(script.edits, script.bundles);
+    let rules = RunRules::<C>::new(rules);
     let run = RunData::<C>::new(
         alloc,
         ports,
-        edits.edits(),
-        edits.versions(),
+        rules.edits(),
+        rules.versions(),
         script.syncs,
         traces,
     )?;
     let mut counts = Counts::new();
     'rounds: for _ in 0..rounds {
-        let (finished, _) = run_schedule::<C, ClassifierTables<C>>(
-            alloc, &run, &edits, flow_limit, &steps,
+        let (finished, _) = run_schedule::<C, ClassifierTables<'_, C>>(
+            alloc, &run, &rules, flow_limit, &steps,
         )?;
         for board in finished.boards() {
             counts.add_board(&run, board);

@@ -14,7 +14,7 @@ use xlate_pipeline::translate;
 /// The translation of a packet, whose actions can be printed.
 fn translated(
     alloc: Global,
-    tables: &Tables,
+    tables: &Tables<'_>,
     ports: &[u16],
     key: &Key,
 ) -> Result<Translated, AllocError>
@@ -62,7 +62,7 @@ fn print_translation(made: &Translated, text: &mut String) -> Result<(), AllocEr
 /// The lines of the translations of packets.
 pub fn text_of(
     alloc: Global,
-    tables: &Tables,
+    tables: &Tables<'_>,
     ports: &[u16],
     keys: &[Key],
 ) -> Result<String, AllocError>
@@ -85,7 +85,7 @@ struct Visiting {
 /// Translates packets into the lists of the translations before, and counts the rules that they visit.
 fn visit_round(
     before: Visiting,
-    tables: &Tables,
+    tables: &Tables<'_>,
     ports: &[u16],
     keys: &[Key],
 ) -> Result<Visiting, AllocError>
@@ -110,7 +110,7 @@ fn visit_round(
 /// before.
 pub fn visits_in_rounds(
     alloc: Global,
-    tables: &Tables,
+    tables: &Tables<'_>,
     ports: &[u16],
     keys: &[Key],
     rounds: u32,

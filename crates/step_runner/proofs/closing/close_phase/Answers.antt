@@ -10,7 +10,8 @@ pub finish_block-requires : goal.finish_block-requires
 finish_block-requires g c =
     let run : Run = g.C.Case.run in
     let fit : AreOfPhase run c.args.flow_limit c.args.block c.in-Some.fitting = rw c.in-Some.ensures.list c.in-Some.ensures.fit in
-    fit_version run c.args.flow_limit c.args.block c.in-Some.fitting fit c.requires.there c.last_block.ensures.in_order c.args.tables.now c.requires.version
+    let version = fit_version run c.args.flow_limit c.args.block c.in-Some.fitting fit c.requires.there c.last_block.ensures.in_order c.args.tables.now c.requires.version in
+    (c.type_bounds.send-T-Store, (c.type_bounds.sync-T-Store, version))
 
 pub returns-in_ok-left-in-Some-clause-version : goal.returns-in_ok-left-in-Some-clause-version
 returns-in_ok-left-in-Some-clause-version g c = λ _.

@@ -23,7 +23,7 @@ counted next place end from last start stop upto same is = by_cases (cases_lt ne
 
 -- the place that is next is in the block of the board
 pub decide_next-requires-clause-in_block : goal.decide_next-requires-clause-in_block
-decide_next-requires-clause-in_block g c =
+decide_next-requires-clause-in_block g c _ _ =
     let run : Run = g.C.Case.run in
     let b : BoardView = c.args.board.now in
     let past = (looked_up run b.port b.flow_limit b.journal c.journal.ensures.legal).past in

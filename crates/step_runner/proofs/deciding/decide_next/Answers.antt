@@ -22,7 +22,7 @@ look-requires-clause-may g c =
     subst (λ i. look_fault run b.port (state_of run b) i ≡ None) (sym is) (look_allowed run b c.args.block place next)
 
 pub upcall-requires-clause-may : goal.upcall-requires-clause-may
-upcall-requires-clause-may g c =
+upcall-requires-clause-may g c _ _ =
     let run : Run = g.C.Case.run in
     let b : BoardView = c.args.board.now in
     let place = c.args.place in

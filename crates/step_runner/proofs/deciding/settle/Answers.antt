@@ -18,7 +18,7 @@ keyed-at-requires-clause-place g c =
     (first, rw c.port.ensures.same (omega (arith, last, all)))
 
 pub upcall-requires-clause-may : goal.upcall-requires-clause-may
-upcall-requires-clause-may g c =
+upcall-requires-clause-may g c _ _ =
     let run : Run = g.C.Case.run in
     let b : BoardView = c.args.board.now in
     subst (λ i. settle_fault run (state_of run b) i c.args.tables.now ≡ None) (sym c.keyed-at.ensures.place)

@@ -8,7 +8,7 @@ use Rattle.step_runner.proofs.finishing.finish_boards.Goals as goal
 
 -- the board whose turn is next is one of those that were given
 pub take_turn-requires-clause-limit : goal.take_turn-requires-clause-limit
-take_turn-requires-clause-limit g c =
+take_turn-requires-clause-limit g c _ _ =
     let run : Run = g.C.Case.run in
     let items : List BoardView = c.boards.board-items in
     let i = c.boards.board-index in

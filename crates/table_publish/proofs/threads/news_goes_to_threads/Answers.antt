@@ -4,4 +4,4 @@ use Rattle.table_publish.proofs.Crossing.{news_send}
 use Rattle.table_publish.proofs.threads.news_goes_to_threads.Goals as goal
 
 pub goes_to_threads-requires-send-T : goal.goes_to_threads-requires-send-T
-goes_to_threads-requires-send-T g c κs within = param_send 0 _ (arg_send _ exit.no _ (news_send _ _ g.C.Case g.T.RunTables c.type_bounds.send-C c.type_bounds.sync-C c.type_bounds.send-T c.type_bounds.sync-T))
+goes_to_threads-requires-send-T g c κs within = param_send 0 _ (arg_send _ exit.no _ (news_send _ _ g.row.T-Store g.C.Case g.T.RunTables g.T.Store.Clone c.type_bounds.send-C c.type_bounds.sync-C c.type_bounds.send-T c.type_bounds.sync-T))

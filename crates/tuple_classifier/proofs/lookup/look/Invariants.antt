@@ -1,6 +1,6 @@
 use Rattle.std.proofs.Common.{List}
 use Rattle.spec_tables.specs.Rules.{Rule}
-use Rattle.ovs_fields.specs.Packed.{numbers, bits}
+use Rattle.ovs_fields.specs.Packed.{numbers}
 use Rattle.masked_map.specs.Unions.{union_of}
 use Rattle.address_prefixes.specs.Addresses.{AreOf, AreKnown}
 use Rattle.tuple_classifier.specs.Kept.{ranked}

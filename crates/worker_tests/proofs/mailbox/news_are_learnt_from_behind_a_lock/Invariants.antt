@@ -1,5 +1,4 @@
-use Rattle.std.proofs.Common.{[]}
 use Rattle.worker_tests.proofs.mailbox.news_are_learnt_from_behind_a_lock.Given as goal
 
 abbrev pub ghosts-in_run : goal.ghosts-in_run
-ghosts-in_run b a = record { run = record { ports = []; edits = a.edits.items; bundles = a.bundles.items; syncs = []; traces = []; flow_limit = 0; steps = [] } }
+ghosts-in_run b a = record { run = a.literal }

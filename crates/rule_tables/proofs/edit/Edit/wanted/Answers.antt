@@ -1,4 +1,4 @@
-use Rattle.std.proofs.Common.{◌≡◌, ap, subst, ◌∙◌}
+use Rattle.std.proofs.Common.{ap, subst, ◌∙◌}
 use Rattle.spec_tables.specs.Rules.{Match}
 use Rattle.spec_tables.specs.Edits.{Edit}
 use Rattle.rule_tables.specs.Included.{IsNormalised}

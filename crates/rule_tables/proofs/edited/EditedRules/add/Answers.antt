@@ -7,9 +7,11 @@ use Rattle.std.proofs.lemmas.List.{map-append}
 use Rattle.rule_tables.specs.declared.signatures.signature.Signature.{Signature}
 use Rattle.rule_tables.specs.Signed.{signature_in}
 use Rattle.rule_tables.specs.Edited.{Edited}
+use Rattle.rule_tables.specs.Ends.{with_ending}
 use Rattle.rule_tables.specs.History.{EditHistory, applied, edited_by, states_to}
 use Rattle.rule_tables.specs.Stored.{is_same_identity, rules_at, with_end, signatures_in, AreConsistent}
 use Rattle.rule_tables.proofs.Adding.{sound_added}
+use Rattle.rule_tables.proofs.EndLaws.{ends_room_at, ends_moved, ends_added}
 use Rattle.rule_tables.proofs.Ends.{written}
 use Rattle.rule_tables.proofs.Finds.{lookup_respects}
 use Rattle.rule_tables.proofs.Lives.{length_within}
@@ -32,22 +34,30 @@ overflow_add-number c =
 
 pub unreachable-requires : goal.unreachable-requires
 unreachable-requires c =
-    let adds : min (min (vec_capacity c.self.inside.rules - vec_len c.self.inside.rules) (spare c.self.inside.places)) (vec_capacity c.self.inside.signatures - vec_len c.self.inside.signatures) ≡ c.args.self.now.adds = ap (λ (s : Edited). s.adds) c.self.view_is in
+    let adds : min (min (min (vec_capacity c.self.inside.rules - vec_len c.self.inside.rules) (spare c.self.inside.places)) (vec_capacity c.self.inside.signatures - vec_len c.self.inside.signatures)) (vec_capacity c.self.inside.ends - vec_len c.self.inside.rules) ≡ c.args.self.now.adds = ap (λ (s : Edited). s.adds) c.self.view_is in
     let room : 0 < spare c.self.inside.places = omega (arith, c.requires.room) in
     false≢true (subst (λ r. IsOk r) c.in_default.is (c.insert.ensures.succeeds room))
 
 pub push_reserved-requires : goal.push_reserved-requires
 push_reserved-requires c =
-    let adds : min (min (vec_capacity c.self.inside.rules - vec_len c.self.inside.rules) (spare c.self.inside.places)) (vec_capacity c.self.inside.signatures - vec_len c.self.inside.signatures) ≡ c.args.self.now.adds = ap (λ (s : Edited). s.adds) c.self.view_is in
+    let adds : min (min (min (vec_capacity c.self.inside.rules - vec_len c.self.inside.rules) (spare c.self.inside.places)) (vec_capacity c.self.inside.signatures - vec_len c.self.inside.signatures)) (vec_capacity c.self.inside.ends - vec_len c.self.inside.rules) ≡ c.args.self.now.adds = ap (λ (s : Edited). s.adds) c.self.view_is in
     omega (arith, c.requires.room)
 
-pub end_rule-requires : goal.end_rule-requires
-end_rule-requires c = λ place is.
+pub end_rule-requires-clause-within : goal.end_rule-requires-clause-within
+end_rule-requires-clause-within c = λ place is.
     let within : place < length c.self.inside.rules.items = c.self.invariant.consistent.found.there c.of.result place (sym c.in-Ok.ensures.old ∙ is) in
     let pushed : length c.push_reserved.new.self.items ≡ length c.self.inside.rules.items + 1 =
     ap length c.push_reserved.ensures.items ∙ length-append c.self.inside.rules.items (c.new-stored.result ∷ []) in
     let here : length c.deref_mut.result.now ≡ length c.push_reserved.new.self.items = ap length c.deref_mut.ensures.value in
     omega arith
+
+pub end_rule-requires-clause-room : goal.end_rule-requires-clause-room
+end_rule-requires-clause-room c = λ place is.
+    let within : place < length c.self.inside.rules.items = c.self.invariant.consistent.found.there c.of.result place (sym c.in-Ok.ensures.old ∙ is) in
+    let free : length c.self.inside.ends.items < length c.self.inside.rules.items =
+    ends_room_at c.self.inside.ends.items c.self.inside.rules.items c.self.inside.last place c.self.invariant.ends within
+    (λ s at. (c.self.invariant.consistent.found.own c.of.result place s (sym c.in-Ok.ensures.old ∙ is) at).0) in
+    omega (arith, c.self.invariant.room)
 
 pub invariant_of-self : goal.invariant_of-self
 invariant_of-self c =
@@ -67,7 +77,7 @@ invariant_of-self c =
     (λ q. c.in-Ok.ensures.updates.0 q ∙ ap (λ (n : ℕ). cond (is_same_identity c.of.result q) (Some n) (get is_same_identity c.self.inside.places q)) place_is)
     c.count_changes.result c.count_changes.ensures
     (take c.push_reserved.new.self.len (c.end_rule.new.rules ++ drop (length c.end_rule.new.rules) c.push_reserved.new.self.items))
-    (written c.push_reserved.new.self.len c.end_rule.new.rules c.push_reserved.new.self.items (omega arith) ∙ c.end_rule.ensures
+    (written c.push_reserved.new.self.len c.end_rule.new.rules c.push_reserved.new.self.items (omega arith) ∙ c.end_rule.ensures.rules
     ∙ ap (λ (stored : List StoredRule). with_end c.in-Ok.replaced (c.self.inside.last + 1) stored) (c.deref_mut.ensures.value ∙ c.push_reserved.ensures.items)
     ∙ ap (λ (n : ℕ). with_end c.in-Ok.replaced n (c.self.inside.rules.items ++ c.new-stored.result ∷ [])) (sym c.new-stored.ensures.number)) in
     record {
@@ -77,14 +87,25 @@ invariant_of-self c =
       log =
           log_added c.self.inside.log c.self.inside.modifications.items c.self.inside.last c.self.invariant.consistent.made c.self.inside.rules.items c.self.invariant.log (λ q. get is_same_identity c.self.inside.places q) c.self.invariant.consistent.found
           c.of.result c.in-Ok.replaced c.in-Ok.ensures.old c.new-stored.result c.new-stored.ensures.gone c.new-stored.ensures.given (omega (arith, c.new-stored.ensures.number)) _
-          (written c.push_reserved.new.self.len c.end_rule.new.rules c.push_reserved.new.self.items (omega arith) ∙ c.end_rule.ensures
+          (written c.push_reserved.new.self.len c.end_rule.new.rules c.push_reserved.new.self.items (omega arith) ∙ c.end_rule.ensures.rules
           ∙ ap (λ (stored : List StoredRule). with_end c.in-Ok.replaced (c.self.inside.last + 1) stored) (c.deref_mut.ensures.value ∙ c.push_reserved.ensures.items)
           ∙ ap (λ (n : ℕ). with_end c.in-Ok.replaced n (c.self.inside.rules.items ++ c.new-stored.result ∷ [])) (sym c.new-stored.ensures.number));
       signed =
           c.push_reserved-2.ensures.items ∙ ap₂ (λ (gs : List Signature) (g : Signature). gs ++ g ∷ []) c.self.invariant.signed c.of-signature.ensures
           ∙ sym (map-append (λ (s : StoredRule). signature_in s.rule) c.self.inside.rules.items (c.new-stored.result ∷ []))
-          ∙ sym (ap signatures_in (written c.push_reserved.new.self.len c.end_rule.new.rules c.push_reserved.new.self.items (omega arith) ∙ c.end_rule.ensures)
+          ∙ sym (ap signatures_in (written c.push_reserved.new.self.len c.end_rule.new.rules c.push_reserved.new.self.items (omega arith) ∙ c.end_rule.ensures.rules)
           ∙ signatures_with_end c.in-Ok.replaced _ c.deref_mut.result.now ∙ ap signatures_in (c.deref_mut.ensures.value ∙ c.push_reserved.ensures.items));
+      ends =
+          ends_moved (with_ending c.in-Ok.replaced (c.self.inside.last + 1) c.self.inside.ends.items) _
+          (with_end c.in-Ok.replaced (c.self.inside.last + 1) (c.self.inside.rules.items ++ c.new-stored.result ∷ [])) _ (c.self.inside.last + 1)
+          c.end_rule.ensures.ends
+          (written c.push_reserved.new.self.len c.end_rule.new.rules c.push_reserved.new.self.items (omega arith) ∙ c.end_rule.ensures.rules
+          ∙ ap (λ (stored : List StoredRule). with_end c.in-Ok.replaced (c.self.inside.last + 1) stored) (c.deref_mut.ensures.value ∙ c.push_reserved.ensures.items))
+          (ends_added c.self.inside.ends.items c.self.inside.rules.items c.self.inside.last (c.self.inside.last + 1) (omega arith) c.self.invariant.ends (λ q. get is_same_identity c.self.inside.places q)
+          c.self.invariant.consistent.found c.of.result c.in-Ok.replaced c.in-Ok.ensures.old c.new-stored.result c.new-stored.ensures.gone);
+      room =
+          let adds : min (min (min (vec_capacity c.self.inside.rules - vec_len c.self.inside.rules) (spare c.self.inside.places)) (vec_capacity c.self.inside.signatures - vec_len c.self.inside.signatures)) (vec_capacity c.self.inside.ends - vec_len c.self.inside.rules) ≡ c.args.self.now.adds = ap (λ (s : Edited). s.adds) c.self.view_is in
+          omega (arith, c.requires.room, c.push_reserved.ensures.len, c.end_rule.ensures.capacity);
     }
 
 pub returns-clause-edited : goal.returns-clause-edited
@@ -105,7 +126,7 @@ returns-clause-edited c =
     (λ q. c.in-Ok.ensures.updates.0 q ∙ ap (λ (n : ℕ). cond (is_same_identity c.of.result q) (Some n) (get is_same_identity c.self.inside.places q)) place_is)
     c.count_changes.result c.count_changes.ensures
     (take c.push_reserved.new.self.len (c.end_rule.new.rules ++ drop (length c.end_rule.new.rules) c.push_reserved.new.self.items))
-    (written c.push_reserved.new.self.len c.end_rule.new.rules c.push_reserved.new.self.items (omega arith) ∙ c.end_rule.ensures
+    (written c.push_reserved.new.self.len c.end_rule.new.rules c.push_reserved.new.self.items (omega arith) ∙ c.end_rule.ensures.rules
     ∙ ap (λ (stored : List StoredRule). with_end c.in-Ok.replaced (c.self.inside.last + 1) stored) (c.deref_mut.ensures.value ∙ c.push_reserved.ensures.items)
     ∙ ap (λ (n : ℕ). with_end c.in-Ok.replaced n (c.self.inside.rules.items ++ c.new-stored.result ∷ [])) (sym c.new-stored.ensures.number)) in
     ap (λ (n : ℕ). let h : EditHistory = record {

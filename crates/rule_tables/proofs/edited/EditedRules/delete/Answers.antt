@@ -4,8 +4,10 @@ use Rattle.std.specs.HashMap.{get}
 use Rattle.rule_tables.specs.Edited.{Edited}
 use Rattle.rule_tables.specs.History.{applied, edited_by}
 use Rattle.rule_tables.specs.Stored.{acts_on, ended_by, is_same_identity, signatures_in}
+use Rattle.rule_tables.proofs.EndLaws.{ends_later, ends_moved}
 use Rattle.rule_tables.proofs.Ends.{written}
 use Rattle.rule_tables.proofs.Finds.{found_moved}
+use Rattle.rule_tables.proofs.Lives.{length_within}
 use Rattle.rule_tables.proofs.Logged.{log_ended}
 use Rattle.rule_tables.proofs.Seen.{seen_applied}
 use Rattle.rule_tables.proofs.Sound.{is_delete, few_picked, sound_deleted}
@@ -23,6 +25,23 @@ end_rules-count-requires-clause-found c = found_moved c.self.inside.rules.items 
 
 pub end_rules-count-requires-clause-signed : goal.end_rules-count-requires-clause-signed
 end_rules-count-requires-clause-signed c = c.deref.ensures.value ∙ c.self.invariant.signed ∙ sym (ap signatures_in c.deref_mut.ensures.value)
+
+pub end_rules-count-requires-clause-ended : goal.end_rules-count-requires-clause-ended
+end_rules-count-requires-clause-ended c =
+    ends_moved c.self.inside.ends.items _ c.self.inside.rules.items c.deref_mut.result.now (c.self.inside.last + 1) refl c.deref_mut.ensures.value
+    (ends_later c.self.inside.ends.items c.self.inside.rules.items c.self.inside.last (c.self.inside.last + 1) (omega arith) c.self.invariant.ends)
+
+pub end_rules-count-requires-clause-few : goal.end_rules-count-requires-clause-few
+end_rules-count-requires-clause-few c =
+    let few : length c.self.inside.rules.items ≤ c.self.inside.last = length_within c.self.inside.rules.items c.self.inside.last c.self.invariant.consistent.numbered in
+    let fits : c.self.inside.last < 2 ^ 32 = c.self.invariant.consistent.fits in
+    let here : length c.deref_mut.result.now ≡ length c.self.inside.rules.items = ap length c.deref_mut.ensures.value in
+    omega arith
+
+pub end_rules-count-requires-clause-room : goal.end_rules-count-requires-clause-room
+end_rules-count-requires-clause-room c =
+    let here : length c.deref_mut.result.now ≡ length c.self.inside.rules.items = ap length c.deref_mut.ensures.value in
+    omega (arith, c.self.invariant.room)
 
 pub overflow_add-self : goal.overflow_add-self
 overflow_add-self c =
@@ -55,6 +74,10 @@ invariant_of-self c =
           c.self.invariant.signed
           ∙ sym (ap signatures_in (written c.self.inside.rules.len c.end_rules-count.new.rules c.self.inside.rules.items (omega arith) ∙ c.end_rules-count.ensures.rules)
           ∙ signatures_ended c.args.edit.now (c.self.inside.last + 1) c.deref_mut.result.now ∙ ap signatures_in c.deref_mut.ensures.value);
+      ends =
+          ends_moved c.end_rules-count.new.ends.items _ c.end_rules-count.new.rules _ (c.self.inside.last + 1) refl
+          (written c.self.inside.rules.len c.end_rules-count.new.rules c.self.inside.rules.items (omega arith)) c.end_rules-count.ensures.ended;
+      room = omega (arith, c.self.invariant.room, c.end_rules-count.ensures.capacity);
     }
 
 pub returns-clause-edited : goal.returns-clause-edited

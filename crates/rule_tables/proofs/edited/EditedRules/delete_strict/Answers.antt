@@ -5,7 +5,9 @@ use Rattle.rule_tables.specs.Edited.{Edited}
 use Rattle.rule_tables.specs.History.{applied, edited_by}
 use Rattle.rule_tables.specs.Views.{rule_view}
 use Rattle.rule_tables.specs.Stored.{is_picked_by, with_end, is_same_identity, signatures_in}
+use Rattle.rule_tables.specs.Ends.{with_ending}
 use Rattle.rule_tables.proofs.Counts.{from_bool_is}
+use Rattle.rule_tables.proofs.EndLaws.{ends_room_at, ends_moved, ends_with_end}
 use Rattle.rule_tables.proofs.Ends.{written}
 use Rattle.rule_tables.proofs.Finds.{lookup_respects}
 use Rattle.rule_tables.proofs.Logged.{log_with_end}
@@ -20,11 +22,19 @@ overflow_add-number c =
     let room : c.self.inside.last + 1 < 2 ^ 32 = subst (λ (n : ℕ). n + 1 < 2 ^ 32) applied_is c.requires.few in
     grind (arith, room)
 
-pub end_rule-requires : goal.end_rule-requires
-end_rule-requires c = λ place is.
+pub end_rule-requires-clause-within : goal.end_rule-requires-clause-within
+end_rule-requires-clause-within c = λ place is.
     let within : place < length c.self.inside.rules.items = c.self.invariant.consistent.found.there c.named_by.result place (sym c.remove-place.ensures.value ∙ is) in
     let here : length c.deref_mut.result.now ≡ length c.self.inside.rules.items = ap length c.deref_mut.ensures.value in
     omega arith
+
+pub end_rule-requires-clause-room : goal.end_rule-requires-clause-room
+end_rule-requires-clause-room c = λ place is.
+    let within : place < length c.self.inside.rules.items = c.self.invariant.consistent.found.there c.named_by.result place (sym c.remove-place.ensures.value ∙ is) in
+    let free : length c.self.inside.ends.items < length c.self.inside.rules.items =
+    ends_room_at c.self.inside.ends.items c.self.inside.rules.items c.self.inside.last place c.self.invariant.ends within
+    (λ s at. (c.self.invariant.consistent.found.own c.named_by.result place s (sym c.remove-place.ensures.value ∙ is) at).0) in
+    omega (arith, c.self.invariant.room)
 
 pub invariant_of-self : goal.invariant_of-self
 invariant_of-self c =
@@ -41,7 +51,7 @@ invariant_of-self c =
     })
     c.remove-place.result c.remove-place.ensures.value c.remove-place.ensures.updates.0
     (take c.self.inside.rules.len (c.end_rule.new.rules ++ drop (length c.end_rule.new.rules) c.self.inside.rules.items))
-    (written c.self.inside.rules.len c.end_rule.new.rules c.self.inside.rules.items (omega arith) ∙ c.end_rule.ensures
+    (written c.self.inside.rules.len c.end_rule.new.rules c.self.inside.rules.items (omega arith) ∙ c.end_rule.ensures.rules
     ∙ ap (with_end c.remove-place.result (c.self.inside.last + 1)) c.deref_mut.ensures.value)
     _ (c.from.ensures ∙ from_bool_is c.is_some.result ∙ ap (λ (b : Bool). cond {A = ℕ} b 1 0) c.is_some.ensures) in
     record {
@@ -49,12 +59,21 @@ invariant_of-self c =
       log =
           log_with_end c.self.inside.log c.self.inside.modifications.items c.self.inside.last c.self.invariant.consistent.made c.self.inside.rules.items c.self.invariant.log c.remove-place.result (c.self.inside.last + 1) _ (omega arith)
           (λ i s is at. (c.self.invariant.consistent.found.own c.named_by.result i s (sym c.remove-place.ensures.value ∙ is) at).0)
-          (written c.self.inside.rules.len c.end_rule.new.rules c.self.inside.rules.items (omega arith) ∙ c.end_rule.ensures
+          (written c.self.inside.rules.len c.end_rule.new.rules c.self.inside.rules.items (omega arith) ∙ c.end_rule.ensures.rules
           ∙ ap (with_end c.remove-place.result (c.self.inside.last + 1)) c.deref_mut.ensures.value);
       signed =
           c.self.invariant.signed
-          ∙ sym (ap signatures_in (written c.self.inside.rules.len c.end_rule.new.rules c.self.inside.rules.items (omega arith) ∙ c.end_rule.ensures)
+          ∙ sym (ap signatures_in (written c.self.inside.rules.len c.end_rule.new.rules c.self.inside.rules.items (omega arith) ∙ c.end_rule.ensures.rules)
           ∙ signatures_with_end c.remove-place.result (c.self.inside.last + 1) c.deref_mut.result.now ∙ ap signatures_in c.deref_mut.ensures.value);
+      ends =
+          ends_moved (with_ending c.remove-place.result (c.self.inside.last + 1) c.self.inside.ends.items) _ (with_end c.remove-place.result (c.self.inside.last + 1) c.self.inside.rules.items) _ (c.self.inside.last + 1)
+          c.end_rule.ensures.ends
+          (written c.self.inside.rules.len c.end_rule.new.rules c.self.inside.rules.items (omega arith) ∙ c.end_rule.ensures.rules
+          ∙ ap (with_end c.remove-place.result (c.self.inside.last + 1)) c.deref_mut.ensures.value)
+          (ends_with_end c.self.inside.ends.items c.self.inside.rules.items c.self.inside.last (c.self.inside.last + 1) c.remove-place.result (omega arith) c.self.invariant.ends
+          (λ i is. c.self.invariant.consistent.found.there c.named_by.result i (sym c.remove-place.ensures.value ∙ is))
+          (λ i s is at. (c.self.invariant.consistent.found.own c.named_by.result i s (sym c.remove-place.ensures.value ∙ is) at).0));
+      room = omega (arith, c.self.invariant.room, c.end_rule.ensures.capacity);
     }
 
 pub returns-clause-edited : goal.returns-clause-edited
@@ -72,7 +91,7 @@ returns-clause-edited c =
     })
     c.remove-place.result c.remove-place.ensures.value c.remove-place.ensures.updates.0
     (take c.self.inside.rules.len (c.end_rule.new.rules ++ drop (length c.end_rule.new.rules) c.self.inside.rules.items))
-    (written c.self.inside.rules.len c.end_rule.new.rules c.self.inside.rules.items (omega arith) ∙ c.end_rule.ensures
+    (written c.self.inside.rules.len c.end_rule.new.rules c.self.inside.rules.items (omega arith) ∙ c.end_rule.ensures.rules
     ∙ ap (with_end c.remove-place.result (c.self.inside.last + 1)) c.deref_mut.ensures.value)
     _ (c.from.ensures ∙ from_bool_is c.is_some.result ∙ ap (λ (b : Bool). cond {A = ℕ} b 1 0) c.is_some.ensures) in
     done.1 ∙ ap (edited_by c.args.edit.now) (ap (λ (s : Edited). s.history) c.self.view_is)

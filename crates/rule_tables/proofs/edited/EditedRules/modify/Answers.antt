@@ -7,6 +7,7 @@ use Rattle.rule_tables.specs.Edited.{Edited}
 use Rattle.rule_tables.specs.History.{applied, edited_by}
 use Rattle.rule_tables.specs.Stored.{is_picked_by, acts_on, rules_at, is_same_identity, signatures_in}
 use Rattle.rule_tables.proofs.Endings.{count_picked}
+use Rattle.rule_tables.proofs.EndLaws.{ends_later, ends_moved, ends_logged}
 use Rattle.rule_tables.proofs.Ends.{written}
 use Rattle.rule_tables.proofs.Finds.{found_moved}
 use Rattle.rule_tables.proofs.Logged.{log_moved, logged_moved, sound_modifying}
@@ -30,7 +31,13 @@ invariant_of-self c =
     let done =
     sound_idle c.self.inside.modifications.items c.self.inside.rules.items (λ q. get is_same_identity c.self.inside.places q) c.self.inside.last c.self.inside.changes c.self.invariant.consistent c.args.edit room c.requires.modify
     (sym counted ∙ c.if-count-eq0.true) in
-    record { consistent = done.0; log = c.self.invariant.log; signed = c.self.invariant.signed }
+    record {
+      consistent = done.0;
+      log = c.self.invariant.log;
+      signed = c.self.invariant.signed;
+      ends = ends_later c.self.inside.ends.items c.self.inside.rules.items c.self.inside.last (c.self.inside.last + 1) (omega arith) c.self.invariant.ends;
+      room = c.self.invariant.room;
+    }
 
 pub returns-then-count-eq0-clause-edited : goal.returns-then-count-eq0-clause-edited
 returns-then-count-eq0-clause-edited c =
@@ -95,6 +102,12 @@ invariant_of-self-2 c =
           c.self.invariant.signed
           ∙ sym (ap signatures_in (written c.self.inside.rules.len c.give.new.rules c.self.inside.rules.items (omega arith))
           ∙ signatures_logged c.args.edit _ c.self.inside.log c.give.new.self c.deref_mut.result.now c.give.new.rules c.give.ensures ∙ ap signatures_in c.deref_mut.ensures.value);
+      ends =
+          ends_moved c.self.inside.ends.items c.self.inside.ends.items c.give.new.rules zs (c.self.inside.last + 1) refl (written c.self.inside.rules.len c.give.new.rules c.self.inside.rules.items (omega arith))
+          (ends_later c.self.inside.ends.items c.give.new.rules c.self.inside.last (c.self.inside.last + 1) (omega arith)
+          (ends_logged c.args.edit _ c.self.inside.log c.give.new.self c.deref_mut.result.now c.give.new.rules c.self.inside.ends.items c.self.inside.last c.give.ensures
+          (ends_moved c.self.inside.ends.items c.self.inside.ends.items c.self.inside.rules.items c.deref_mut.result.now c.self.inside.last refl c.deref_mut.ensures.value c.self.invariant.ends)));
+      room = c.self.invariant.room;
     }
 
 pub returns-clause-edited : goal.returns-clause-edited

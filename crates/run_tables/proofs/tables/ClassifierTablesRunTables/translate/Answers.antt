@@ -7,7 +7,7 @@ use Rattle.spec_board.specs.Results.{switch_at, translated, mask_for}
 use Rattle.ovs_fields.specs.Packed.{numbers}
 use Rattle.tuple_classifier.specs.Versions.{Version}
 use Rattle.run_tables.specs.OfRun.{AreOfRun}
-use Rattle.run_tables.proofs.OfRun.{of_run-runnable}
+use Rattle.run_tables.proofs.OfRun.{of_run-runnable, rules_are}
 use Rattle.run_tables.proofs.tables.ClassifierTablesRunTables.translate.Goals as goal
 
 pub translate-requires : goal.translate-requires
@@ -15,7 +15,7 @@ translate-requires g c = of_run-runnable g.C.Case.run c.self.inside.rules c.self
 
 -- the rules and the ports are the run's
 same_switch : (run : Run) (rules : Version) (ports : List ℕ) → AreOfRun run rules → ports ≡ run.ports → switch_of rules.rules ports ≡ switch_at run rules.number
-same_switch run rules ports are is_ports = ap₂ (λ (rs : List Rule) (ps : List ℕ). switch_of rs ps) (ap (λ (t : Version). t.rules) are.made) is_ports
+same_switch run rules ports are is_ports = ap₂ (λ (rs : List Rule) (ps : List ℕ). switch_of rs ps) (rules_are run rules are) is_ports
 
 pub new-requires-clause-translation : goal.new-requires-clause-translation
 new-requires-clause-translation g c =

@@ -1,4 +1,0 @@
-use Rattle.worker_tests.proofs.mailbox.in_run.Given as goal
-
-abbrev pub ghosts-in_publication : goal.ghosts-in_publication
-ghosts-in_publication g a = record { id = a.editor.publication }

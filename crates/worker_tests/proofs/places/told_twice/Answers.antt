@@ -1,6 +1,0 @@
-use Rattle.std.proofs.Common.{sym, subst}
-use Rattle.spec_tables.specs.Bundles.{AreBundles}
-use Rattle.worker_tests.proofs.places.told_twice.Goals as goal
-
-pub new-edits-requires-clause-whole : goal.new-edits-requires-clause-whole
-new-edits-requires-clause-whole g c = subst (AreBundles g.C.Case.run.bundles) (sym c.requires.few) c.requires.whole

@@ -1,0 +1,176 @@
+//! Runs of literal edits and frames.
+ghost use Rattle.std.specs.Prelude.{◌≡◌, ◌≤◌, IsTrue, IfOk, length};
+ghost use Rattle.std.specs.List.{list_all};
+ghost use Rattle.spec_case.specs.Blocks.{AreInOrder};
+ghost use Rattle.spec_script.specs.Script.{most_edits, most_syncs};
+ghost use Rattle.spec_tables.specs.Bundles.{AreBundles};
+ghost use Rattle.spec_tables.specs.Edits.{has_sound_actions};
+ghost use Rattle.run_case.specs.Places.{HasPort, IsCounted};
+ghost use Rattle.rule_tables.specs.History.{history_of};
+
+use edit_script::{MOST_BYTES, Script, read_script};
+use pcap_files::reader::{Trace, read_trace};
+use rule_tables::{Edit, VersionedRules};
+use run_case::{Case, Ports, RunData};
+use std::alloc::{AllocError, Global};
+use std::marker::Model;
+use std::test::Fail;
+use table_versions::rules::RunRules;
+
+/// The one port of each run.
+pub const PORT: u16 = 1;
+
+/// More frames than a run has.
+const MANY: usize = 100;
+
+/// The header of a capture file of Ethernet frames, with times in microseconds (pcap-savefile(5)).
+const FILE_HEADER: [u8; 24] = [
+    0xd4, 0xc3, 0xb2, 0xa1, 2, 0, 4, 0, 0, 0, 0, 0, 0, 0, 0, 0, 0, 0, 4, 0, 1, 0, 0, 0,
+];
+
+/// The header of the record of a frame of 60 bytes that comes in at 1 second.
+const RECORD_HEADER: [u8; 16] = [1, 0, 0, 0, 0, 0, 0, 0, 60, 0, 0, 0, 60, 0, 0, 0];
+
+/// The Ethernet source of each frame, 00:00:00:00:00:01, and its type, which is for local experiments (IEEE Std 802).
+const SOURCE_AND_TYPE: [u8; 8] = [0, 0, 0, 0, 0, 1, 0x88, 0xb5];
+
+/// How many bytes stand behind these.
+const PAYLOAD_LENGTH: usize = 46;
+
+/// A run of edits and frames, with the rules that its edits make. Contracts see the run.
+#[derive(Drop)]
+pub struct LiteralRun {
+    ports: Ports,
+    script: Script,
+    rules: VersionedRules,
+    traces: Vec<Trace>,
+}
+
+impl Model for LiteralRun {
+    ghost use Rattle.std.specs.Prelude.{◌≡◌, ◌≤◌, [], IsTrue, length};
+    ghost use Rattle.std.specs.List.{list_all};
+    ghost use Rattle.spec_case.specs.Blocks.{AreInOrder};
+    ghost use Rattle.spec_case.specs.Run.{Run};
+    ghost use Rattle.spec_script.specs.Script.{most_edits, most_syncs};
+    ghost use Rattle.spec_tables.specs.Bundles.{AreBundles};
+    ghost use Rattle.spec_tables.specs.Edits.{has_sound_actions};
+    ghost use Rattle.run_case.specs.Places.{HasPort, AreCounted};
+    ghost use Rattle.rule_tables.specs.History.{history_of};
+
+    ghost Value = { Run };
+
+    ghost view = { λ g. record {
+      ports = g.ports;
+      edits = g.script.edits.items;
+      bundles = g.script.bundles.items;
+      syncs = g.script.syncs.items;
+      traces = g.traces.items;
+      flow_limit = 8;
+      steps = [];
+    } };
+
+    ghost invariant = { λ g. HasPort g.ports 1
+        × (length g.traces.items ≡ length g.ports)
+        × AreCounted g.traces.items
+        × IsTrue (list_all has_sound_actions g.script.edits.items)
+        × (length g.script.edits.items ≤ most_edits)
+        × (length g.script.syncs.items ≤ most_syncs)
+        × AreInOrder g.script.syncs.items (length g.script.bundles.items)
+        × AreBundles g.script.bundles.items (length g.script.edits.items)
+        × (g.rules ≡ history_of g.script.edits.items g.script.bundles.items) };
+}
+
+/// Adds a frame to a capture file, to a destination below 256.
+fn push_frame(file: &mut Vec<u8>, destination: u8) -> Result<(), AllocError> {
+    file.extend_from_slice(&RECORD_HEADER)?;
+    file.extend_from_slice(&[0, 0, 0, 0, 0, destination])?;
+    file.extend_from_slice(&SOURCE_AND_TYPE)?;
+    file.extend_from_slice(&[0; PAYLOAD_LENGTH])
+}
+
+fn trace_of(alloc: Global, frames: &[u8]) -> Result<Trace, Fail>
+    ensures { IfOk result IsCounted }
+{
+    let mut file = FILE_HEADER.to_vec(alloc)?;
+    for destination in frames {
+        push_frame(&mut file, *destination)?;
+    }
+    Ok(read_trace(alloc, file, MANY)?)
+}
+
+fn script_of(alloc: Global, edits: &[u8]) -> Result<Script, Fail>
+    ensures sound { IfOk result (λ s. IsTrue (list_all has_sound_actions s.edits.items)) }
+    ensures edit_count { IfOk result (λ s. length s.edits.items ≤ most_edits) }
+    ensures sync_count { IfOk result (λ s. length s.syncs.items ≤ most_syncs) }
+    ensures in_order { IfOk result (λ s. AreInOrder s.syncs.items (length s.bundles.items)) }
+    ensures bundles { IfOk result (λ s. AreBundles s.bundles.items (length s.edits.items)) }
+{
+    if edits.len() > MOST_BYTES {
+        return Err(Fail::new("there are few edits"));
+    }
+    read_script(alloc, edits).map_err(|_| Fail::new("the edits are read"))
+}
+
+/// The rules of all versions that edits make, of which so many stand through each bundle.
+fn rules_of(alloc: Global, edits: &[Edit], bundles: &[u32]) -> Result<VersionedRules, AllocError>
+    requires few { length edits.now ≤ most_edits }
+    requires whole { AreBundles bundles.now (length edits.now) }
+    ensures { IfOk result (λ rules. rules ≡ history_of edits.now bundles.now) }
+{
+    let mut rules = VersionedRules::new(alloc);
+    let mut before = 0;
+    'bundles: for end in bundles {
+        let through = *end as usize;
+        rules.apply(&edits[before..through])?;
+        before = through;
+    }
+    Ok(rules)
+}
+
+impl LiteralRun {
+    /// A run of a file of edits, and of frames that come in at 1 second, each to a destination of this last byte.
+    pub fn new(alloc: Global, edits: &[u8], frames: &[u8]) -> Result<LiteralRun, Fail> {
+        let mut list = Vec::new(alloc);
+        list.push(PORT)?;
+        let ports = Ports::new(list);
+        let script = script_of(alloc, edits)?;
+        let rules = rules_of(alloc, &script.edits, &script.bundles)?;
+        let mut traces = Vec::new(alloc);
+        traces.push(trace_of(alloc, frames)?)?;
+        Ok(LiteralRun {
+            ports,
+            script,
+            rules,
+            traces,
+        })
+    }
+
+    /// A run of two versions without frames: a rule is added, and then deleted and added again by one bundle.
+    pub fn two_versions(alloc: Global) -> Result<LiteralRun, Fail> {
+        LiteralRun::new(alloc, b"actions=1\nbegin\ndelete\nactions=1\ncommit\n", &[])
+    }
+
+    /// The run under its name, and the rules of its versions.
+    pub fn named<C: Case>(self, alloc: Global) -> Result<(RunData<C>, RunRules<C>), AllocError>
+        requires { C.run ≡ self }
+        ensures port { HasPort C.run.ports PORT }
+        ensures sound { IsTrue (list_all has_sound_actions C.run.edits) }
+    {
+        let LiteralRun {
+            ports,
+            script,
+            rules,
+            traces,
+        } = self;
+        let rules = RunRules::<C>::new(rules);
+        let run = RunData::<C>::new(
+            alloc,
+            ports,
+            rules.edits(),
+            rules.versions(),
+            script.syncs,
+            traces,
+        )?;
+        Ok((run, rules))
+    }
+}
