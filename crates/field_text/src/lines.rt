@@ -1,13 +1,12 @@
-ghost use Rattle.std.specs.Prelude.{◌≡◌, ◌≤◌, ◌==◌, drop, length, position, not, IfOk};
-ghost use Rattle.std.specs.List.{prefix_len};
+ghost use Rattle.std.specs.Prelude.{◌≡◌, ◌≤◌, drop, length, position, not, IfOk};
 ghost use Rattle.std.specs.Char.{is_ascii};
-ghost use Rattle.spec_flow_text.specs.Characters.{number_sign};
 ghost use Rattle.spec_flow_text.specs.Items.{is_white, is_separator};
 ghost use Rattle.spec_flow_text.specs.Matches.{uncommented, ascii_from};
 ghost use Rattle.field_text.specs.WordViews.{text_read};
 
 use crate::line::Word;
 use spec_flow_text::TextFault;
+use text_numbers::cut_at;
 
 /// A space, a tab or a carriage return.
 pub fn is_white(byte: u8) -> bool
@@ -23,20 +22,14 @@ pub fn is_separator(byte: u8) -> bool
     byte == b',' || is_white(byte)
 }
 
-// Where the comment begins, or the line's length.
-fn comment_place(line: &[u8]) -> usize
-    ensures place { result ≡ prefix_len (λ byte. not (byte == number_sign)) line.now }
-    ensures within { result ≤ length line.now }
-{
-    line.iter().take_while(|byte| **byte != b'#').count()
-}
-
 /// A line without its comment.
 pub fn uncommented(line: &[u8]) -> &[u8]
     ensures { result.now ≡ uncommented line.now }
 {
-    let (text, _) = line.split_at(comment_place(line));
-    text
+    match cut_at(line, b'#') {
+        None => line,
+        Some((text, _)) => text,
+    }
 }
 
 // What stands from a place on, where that isn't beyond the text.

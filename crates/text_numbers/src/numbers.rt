@@ -3,7 +3,9 @@ ghost use Rattle.std.specs.Option.{option_map};
 ghost use Rattle.std.specs.List.{list_all};
 ghost use Rattle.std.specs.Char.{is_digit};
 ghost use Rattle.spec_flow_text.specs.Numbers.{split_once, strip_prefix, are_digits, digits_upto, is_hexadecimal, has_leading_zero, decimal_upto, number_upto, last_port, nonzero, octet, octet_before_colon, mac};
+ghost use Rattle.text_numbers.specs.Digits.{number_of_digits};
 
+use memchr::memchr;
 use std::str;
 
 /// The greatest number of a port of a switch.
@@ -13,7 +15,7 @@ pub const LAST_PORT: u16 = 65_279;
 fn place_of(text: &[u8], byte: u8) -> Option<usize>
     ensures { result ≡ position (λ c. c == byte) text.now }
 {
-    text.iter().position(|c| *c == byte)
+    memchr(byte, text)
 }
 
 /// The parts of a text round the first place of a byte.
@@ -53,9 +55,9 @@ fn has_digits(text: &[u8], base: u32) -> bool
     !text.is_empty() && all_digits(text, base)
 }
 
-/// The number that digits of a base write, where it is at most so much. The digits above 9 may be of either case.
+// The number that any digits of a base write, where it is at most so much.
 #[tactic(auto, unfolding(spec_flow_text::specs::Numbers::digits_upto))]
-pub fn read_digits(text: &[u8], base: u32, most: u128) -> Option<u128>
+fn read_many_digits(text: &[u8], base: u32, most: u128) -> Option<u128>
     requires low { 2 ≤ base }
     requires high { base ≤ 16 }
     ensures value { result ≡ digits_upto base most text.now }
@@ -70,6 +72,54 @@ pub fn read_digits(text: &[u8], base: u32, most: u128) -> Option<u128>
     match u128::from_str_radix(text, base) {
         Err(_) => None,
         Ok(value) => { if value <= most { Some(value) } else { None } }
+    }
+}
+
+// So few digits of a base of at most 16 write a number of 60 bits.
+const FEW_DIGITS: usize = 15;
+
+// The number that a few digits of a base write.
+fn number_of_few(text: &[u8], base: u32) -> Option<u64>
+    requires low { 2 ≤ base }
+    requires high { base ≤ 16 }
+    requires few { length text.now ≤ 15 }
+    ensures { result ≡ number_of_digits base text.now }
+{
+    let mut number = 0;
+    'digits: for byte in text {
+        let digit = char::from(*byte).to_digit(base)?;
+        number = number * u64::from(base) + u64::from(digit);
+    }
+    Some(number)
+}
+
+// The number that a few digits of a base write, where it is at most so much.
+#[tactic(auto, unfolding(spec_flow_text::specs::Numbers::digits_upto))]
+fn read_few_digits(text: &[u8], base: u32, most: u128) -> Option<u128>
+    requires low { 2 ≤ base }
+    requires high { base ≤ 16 }
+    requires few { length text.now ≤ 15 }
+    ensures value { result ≡ digits_upto base most text.now }
+    ensures fits { IfSome result (λ n. n ≤ most) }
+{
+    if text.is_empty() {
+        return None;
+    }
+    let number = u128::from(number_of_few(text, base)?);
+    if number <= most { Some(number) } else { None }
+}
+
+/// The number that digits of a base write, where it is at most so much. The digits above 9 may be of either case.
+pub fn read_digits(text: &[u8], base: u32, most: u128) -> Option<u128>
+    requires low { 2 ≤ base }
+    requires high { base ≤ 16 }
+    ensures value { result ≡ digits_upto base most text.now }
+    ensures fits { IfSome result (λ n. n ≤ most) }
+{
+    if text.len() <= FEW_DIGITS {
+        read_few_digits(text, base, most)
+    } else {
+        read_many_digits(text, base, most)
     }
 }
 

@@ -1,7 +1,7 @@
 use Rattle.std.proofs.Common.{◌≡◌, true, sym, ◌∙◌, arith}
 use Rattle.spec_flow_text.specs.Numbers.{are_digits}
 use Rattle.text_numbers.proofs.Digits.{utf8, too_great}
-use Rattle.text_numbers.proofs.numbers.read_digits.Goals as goal
+use Rattle.text_numbers.proofs.numbers.read_many_digits.Goals as goal
 
 pub returns-in_default-clause-value : goal.returns-in_default-clause-value
 returns-in_default-clause-value c =
