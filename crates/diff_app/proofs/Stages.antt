@@ -94,17 +94,17 @@ module _ (files : Files) (c : Command) where
 
 module _ (e : EditsFile) (is : IsEditsFile e) where
   pub of_edits : IsOfEdits e.rules
-  of_edits = record { edits = e.script.edits.items; bundles = e.script.bundles.items; history = is.rules; whole = is.bundles; sound = is.sound }
+  of_edits = record { edits = (script_view e.script).edits; bundles = e.script.bundles.items; history = is.rules; whole = is.bundles; sound = is.sound }
 
   pub live-rules : live_in e.rules ≡ rules_of (script_view e.script)
   live-rules =
-      let edits = e.script.edits.items in
+      let edits = (script_view e.script).edits in
       let bundles = e.script.bundles.items in
       let all : edits_through bundles (length bundles) ≡ length edits = is.bundles.whole in
       ap (λ (g : History). live_in g) is.rules ∙ rules_of-history edits bundles (length bundles) (omega arith)
 
   pub runnable : AreRunnable (live_in e.rules)
-  runnable = subst AreRunnable (sym live-rules) (runnable-version e.script.edits.items e.script.bundles.items (length e.script.bundles.items) is.sound)
+  runnable = subst AreRunnable (sym live-rules) (runnable-version (script_view e.script).edits e.script.bundles.items (length e.script.bundles.items) is.sound)
 
 -- ---- the words
 

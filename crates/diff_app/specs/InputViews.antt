@@ -5,6 +5,7 @@ use Rattle.spec_tables.specs.Bundles.{AreBundles}
 use Rattle.spec_tables.specs.Edits.{has_sound_actions}
 use Rattle.spec_script.specs.Script.{Script}
 use Rattle.rule_tables.specs.History.{history_of}
+use Rattle.edit_script.specs.ScriptViews.{script_view}
 use Rattle.pipe_model.specs.Runnable.{AreRunnable}
 use Rattle.dump_lines.specs.Live.{IsOfEdits, live_in}
 use Rattle.switch_input.specs.declared.edits.EditsFile.{EditsFile}
@@ -20,9 +21,9 @@ accepted_of ports brief old new = record { old = verdicts.rules_of old; new = ve
 
 -- The rules are those that the edits of the script make, in its bundles, and their actions are sound.
 pub record IsEditsFile (e : EditsFile) : Type 0 where
-  pub rules : e.rules ≡ history_of e.script.edits.items e.script.bundles.items
-  pub bundles : AreBundles e.script.bundles.items (length e.script.edits.items)
-  pub sound : IsTrue (list_all has_sound_actions e.script.edits.items)
+  pub rules : e.rules ≡ history_of (script_view e.script).edits e.script.bundles.items
+  pub bundles : AreBundles e.script.bundles.items (length (script_view e.script).edits)
+  pub sound : IsTrue (list_all has_sound_actions (script_view e.script).edits)
 
 -- Some edits of sound actions made the rules of both versions.
 pub record AreComparable (i : Inputs) : Type 0 where

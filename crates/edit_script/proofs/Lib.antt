@@ -1,2 +1,5 @@
-pub mod WellFormed
 pub mod FirstWords
+pub mod WellFormed
+pub mod Changes
+pub mod Bundling
+pub mod Told

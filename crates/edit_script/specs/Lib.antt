@@ -1,3 +1,5 @@
 pub mod Begun
+pub mod Kept
+pub mod Made
 pub mod ScriptViews
 pub mod WellFormed

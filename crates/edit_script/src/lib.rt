@@ -18,6 +18,8 @@
 //! - The actions of each edit are sound: their tables, slices, values and masks are within their ranges.
 //! - Each bundle has an edit, and together they have all edits. A file that ends in a bundle is refused where that was
 //!   begun, if no line has a fault.
+//! - The rules of all versions that the edits make, bundle by bundle, are those of `rule_tables`, where they change no
+//!   more than 1,048,576; else there are none.
 //! - A script has at most 32,768 edits and 63 sync points. Times of sync points never fall, and neither do the counts of
 //!   the bundles before them, which are no more than there are.
 //!
@@ -31,6 +33,12 @@
 //! What is read so far stands in one `Script`, to which each line adds, and beside it where the bundle was begun that the
 //! lines are in. A bundle is told by how many edits stand through it; an edit outside of one closes its own at once. A sync
 //! point counts the bundles that stand there.
+//!
+//! A run needs the rules and not the edits, which would take as much memory again. So a bundle makes the next version of
+//! the rules as soon as it ends, and only the edits of a bundle that was begun are kept. Which edits there were is known
+//! to clauses alone: a script lists them as snapshots, which have no bytes. No rules are made after the first bundle by
+//! which the edits change more than they may, since changes take memory and time; the lines after it are still read,
+//! since a fault of theirs comes first.
 //!
 //! Most functions read what one definition says, and have its name.
 //!
@@ -46,6 +54,7 @@ mod line_words;
 mod script;
 mod word_lines;
 
+pub use edit_line::read_edit;
 pub use rule_tables::{Edit, SyncPoint};
-pub use script::{MOST_BYTES, MOST_EDITS, Script, read_script};
+pub use script::{MOST_BYTES, MOST_CHANGES, MOST_EDITS, ReadEdits, Script, read_script};
 pub use spec_script::FileFault;

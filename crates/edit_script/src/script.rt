@@ -1,4 +1,5 @@
-ghost use Rattle.std.specs.Prelude.{◌≡◌, ◌<◌, ◌≤◌, length, IsTrue, IfOk, Ok};
+ghost use Rattle.std.specs.Prelude.{◌≡◌, ℕ, ◌+◌, ◌^◌, ◌<◌, ◌≤◌, List, [], ◌∷◌, ◌++◌, length, IsTrue, IfOk, OnOk, Ok};
+ghost use Rattle.std.specs.Option.{ForSome};
 ghost use Rattle.std.specs.List.{list_all};
 ghost use Rattle.spec_case.specs.Blocks.{AreInOrder};
 ghost use Rattle.spec_flow_text.specs.Lines.{edit_in};
@@ -9,9 +10,12 @@ ghost use Rattle.spec_script.specs.Lines.{most_line_bytes, in_line};
 ghost use Rattle.spec_script.specs.Script as scripts;
 ghost use Rattle.spec_script.specs.Script.{most_edits, most_syncs, last_time, sync_time, word_alone, with_bundle, with_edit_in, with_edit, with_sync, with_begin, with_commit, with_line, script_of};
 ghost use Rattle.spec_tables.specs.Bundles.{edits_through, AreBundles};
-ghost use Rattle.spec_tables.specs.Edits.{has_sound_actions};
+ghost use Rattle.spec_tables.specs.Edits.{Edit as SpecEdit, has_sound_actions};
+ghost use Rattle.rule_tables.specs.History.{applied};
 ghost use Rattle.edit_script.specs.Begun.{begun_view};
-ghost use Rattle.edit_script.specs.ScriptViews.{script_view, reading_view};
+ghost use Rattle.edit_script.specs.Kept.{AreKept};
+ghost use Rattle.edit_script.specs.Made.{AreRules};
+ghost use Rattle.edit_script.specs.ScriptViews.{kept_view, reading_view, read_view};
 ghost use Rattle.edit_script.specs.WellFormed.{IsWellFormed};
 
 use crate::edit_line::read_edit;
@@ -19,9 +23,10 @@ use crate::line_words::{is_word, word_in_front};
 use crate::word_lines::{Begun, read_sync_time, read_word_alone};
 use field_text::TextFault;
 use line_files::{LineReader, in_line, read_lines};
-use rule_tables::{Edit, SyncPoint};
+use rule_tables::{Edit, SyncPoint, VersionedRules};
 use spec_script::FileFault;
-use std::alloc::Global;
+use std::alloc::{AllocError, Global};
+use std::snapshot::Snapshot;
 
 /// The most bytes of a file of edits.
 pub const MOST_BYTES: usize = 33_554_432;
@@ -32,21 +37,41 @@ pub const MOST_EDITS: usize = 32_768;
 // The most sync points of a file.
 const MOST_SYNCS: usize = 63;
 
+/// The most rules that the edits of a file may change: an add that replaces a rule changes two.
+pub const MOST_CHANGES: u64 = 1_048_576;
+
 /// What a file of edits says.
 #[derive(Drop)]
 pub struct Script {
-    /// The edits, in the order of their lines.
-    pub edits: Vec<Edit>,
+    /// The edits, in the order of their lines. Clauses alone see them; what is kept of them is the rules that they make.
+    pub edits: Vec<Snapshot<Edit>>,
     /// How many edits stand through each bundle.
     pub bundles: Vec<u32>,
     /// The sync points, in the order of their lines.
     pub syncs: Vec<SyncPoint>,
 }
 
+/// A script and the rules of all versions that its edits make, or none where they change more than `MOST_CHANGES`.
+#[derive(Drop)]
+pub struct ReadEdits {
+    pub script: Script,
+    pub rules: Option<VersionedRules>,
+}
+
+/// What is kept of the lines so far.
+#[derive(Drop)]
+struct Kept {
+    said: Script,
+    /// The rules that the bundles so far make, or none where they change more than they may.
+    rules: Option<VersionedRules>,
+    /// The edits since the last bundle.
+    pending: Vec<Edit>,
+}
+
 /// What the lines so far say.
 #[derive(Drop)]
 struct Reading {
-    said: Script,
+    kept: Kept,
     /// Where the bundle that the lines are in was begun, if they are in one.
     begun: Option<Begun>,
 }
@@ -73,38 +98,53 @@ fn word_in_line(number: u32, may_stand: bool, line: &[u8]) -> Result<u32, FileFa
     in_line(number, read_word_alone(may_stand, line))
 }
 
-// How many edits stand in bundles.
-fn last_through(bundles: &[u32]) -> u32
-    ensures { result ≡ edits_through bundles.now (length bundles.now) }
+// Makes the next version of the rules by a bundle, if there are any. Where it changes more than it may, there are none
+// from then on.
+fn apply_bundle(rules: &mut Option<VersionedRules>, bundle: &[Edit]) -> Result<(), AllocError>
+    requires some { 0 < length bundle.now }
+    requires few { ForSome rules.old (λ all. applied all.edits + length bundle.now < 2 ^ 32) }
+    ensures { OnOk result ((edits : List SpecEdit) (bundles : List ℕ) → AreRules edits bundles rules.old
+        → AreRules (edits ++ bundle.now) (bundles ++ (length edits + length bundle.now) ∷ []) rules.new) }
 {
-    match bundles.last() {
-        None => 0,
-        Some(through) => *through,
+    let Some(all) = rules else {
+        return Ok(());
+    };
+    all.apply(bundle)?;
+    if all.changes() > MOST_CHANGES {
+        *rules = None;
     }
+    Ok(())
 }
 
 // The script with a bundle of the edits since the last one, if there are any.
-fn with_bundle(mut script: Script) -> Result<Script, FileFault>
-    requires { length script.edits.items ≤ most_edits }
-    ensures { Gives script_view result (Ok (with_bundle (script_view script))) }
+fn with_bundle(mut kept: Kept) -> Result<Kept, FileFault>
+    requires few { length kept.said.edits.items ≤ most_edits }
+    requires kept { AreKept kept }
+    ensures value { Gives kept_view result (Ok (with_bundle (kept_view kept))) }
+    ensures kept { IfOk result AreKept }
 {
-    let through = script.edits.len() as u32;
-    if last_through(&script.bundles) >= through {
-        return Ok(script);
+    if kept.pending.is_empty() {
+        return Ok(kept);
     }
-    script.bundles.push(through)?;
-    Ok(script)
+    let through = kept.said.edits.len() as u32;
+    kept.said.bundles.push(through)?;
+    apply_bundle(&mut kept.rules, &kept.pending)?;
+    kept.pending.clear();
+    Ok(kept)
 }
 
 // The script with one more edit, which is a bundle by itself where none was begun.
-fn with_edit_in(begun: Option<Begun>, edit: Edit, mut script: Script) -> Result<Script, FileFault>
-    requires { length script.edits.items < most_edits }
-    ensures { Gives script_view result (Ok (with_edit_in (begun_view begun) edit (script_view script))) }
+fn with_edit_in(begun: Option<Begun>, edit: Edit, mut kept: Kept) -> Result<Kept, FileFault>
+    requires room { length kept.said.edits.items < most_edits }
+    requires kept { AreKept kept }
+    ensures value { Gives kept_view result (Ok (with_edit_in (begun_view begun) edit (kept_view kept))) }
+    ensures kept { IfOk result AreKept }
 {
-    script.edits.push(edit)?;
+    kept.said.edits.push(Snapshot::of(&edit))?;
+    kept.pending.push(edit)?;
     match begun {
-        None => with_bundle(script),
-        Some(_) => Ok(script),
+        None => with_bundle(kept),
+        Some(_) => Ok(kept),
     }
 }
 
@@ -118,16 +158,18 @@ fn with_edit(
 ) -> Result<Reading, FileFault>
     requires short { length line.now ≤ most_line_bytes }
     requires formed { IsWellFormed (reading_view reading) }
+    requires kept { AreKept reading.kept }
     ensures value { Gives reading_view result (with_edit number line.now (reading_view reading)) }
     ensures formed { IfOk result (λ r. IsWellFormed (reading_view r)) }
+    ensures kept { IfOk result (λ r. AreKept r.kept) }
 {
-    let Reading { said, begun } = reading;
-    if said.edits.len() >= MOST_EDITS {
+    let Reading { kept, begun } = reading;
+    if kept.said.edits.len() >= MOST_EDITS {
         return Err(FileFault::TooManyEdits);
     }
     let edit = edit_in_line(alloc, number, line)?;
-    let said = with_edit_in(begun, edit, said)?;
-    Ok(Reading { said, begun })
+    let kept = with_edit_in(begun, edit, kept)?;
+    Ok(Reading { kept, begun })
 }
 
 fn last_time(syncs: &[SyncPoint]) -> u64
@@ -144,18 +186,21 @@ fn last_time(syncs: &[SyncPoint]) -> u64
 fn with_sync(number: u32, line: &[u8], mut reading: Reading) -> Result<Reading, FileFault>
     requires short { length line.now ≤ most_line_bytes }
     requires formed { IsWellFormed (reading_view reading) }
+    requires kept { AreKept reading.kept }
     ensures value { Gives reading_view result (with_sync number line.now (reading_view reading)) }
     ensures formed { IfOk result (λ r. IsWellFormed (reading_view r)) }
+    ensures kept { IfOk result (λ r. AreKept r.kept) }
 {
-    if reading.said.syncs.len() >= MOST_SYNCS {
+    let said = &mut reading.kept.said;
+    if said.syncs.len() >= MOST_SYNCS {
         return Err(FileFault::TooManySyncs);
     }
     let time = time_in_line(number, reading.begun, line)?;
-    if time < last_time(&reading.said.syncs) {
+    if time < last_time(&said.syncs) {
         return Err(FileFault::SyncOrder { line: number });
     }
-    let after = reading.said.bundles.len() as u32;
-    reading.said.syncs.push(SyncPoint { time, after })?;
+    let after = said.bundles.len() as u32;
+    said.syncs.push(SyncPoint { time, after })?;
     Ok(reading)
 }
 
@@ -164,8 +209,10 @@ fn with_sync(number: u32, line: &[u8], mut reading: Reading) -> Result<Reading, 
 fn with_begin(number: u32, line: &[u8], mut reading: Reading) -> Result<Reading, FileFault>
     requires short { length line.now ≤ most_line_bytes }
     requires formed { IsWellFormed (reading_view reading) }
+    requires kept { AreKept reading.kept }
     ensures value { Gives reading_view result (with_begin number line.now (reading_view reading)) }
     ensures formed { IfOk result (λ r. IsWellFormed (reading_view r)) }
+    ensures kept { IfOk result (λ r. AreKept r.kept) }
 {
     let column = word_in_line(number, reading.begun.is_none(), line)?;
     reading.begun = Some(Begun {
@@ -180,12 +227,14 @@ fn with_begin(number: u32, line: &[u8], mut reading: Reading) -> Result<Reading,
 fn with_commit(number: u32, line: &[u8], reading: Reading) -> Result<Reading, FileFault>
     requires short { length line.now ≤ most_line_bytes }
     requires formed { IsWellFormed (reading_view reading) }
+    requires kept { AreKept reading.kept }
     ensures value { Gives reading_view result (with_commit number line.now (reading_view reading)) }
     ensures formed { IfOk result (λ r. IsWellFormed (reading_view r)) }
+    ensures kept { IfOk result (λ r. AreKept r.kept) }
 {
     word_in_line(number, reading.begun.is_some(), line)?;
-    let said = with_bundle(reading.said)?;
-    Ok(Reading { said, begun: None })
+    let kept = with_bundle(reading.kept)?;
+    Ok(Reading { kept, begun: None })
 }
 
 // What reads the lines of a file of edits.
@@ -201,7 +250,7 @@ impl LineReader for ScriptReader {
 
     ghost said = { reading_view };
 
-    ghost is_kept = { λ r. IsWellFormed (reading_view r) };
+    ghost is_kept = { λ r. IsWellFormed (reading_view r) × AreKept r.kept };
 
     ghost after_line = { λ _. with_line };
 
@@ -228,12 +277,18 @@ impl LineReader for ScriptReader {
 fn nothing_read(alloc: Global) -> Reading
     ensures view { reading_view result ≡ scripts.nothing_read }
     ensures formed { IsWellFormed (reading_view result) }
+    ensures kept { AreKept result.kept }
 {
+    let said = Script {
+        edits: Vec::new(alloc),
+        bundles: Vec::new(alloc),
+        syncs: Vec::new(alloc),
+    };
     Reading {
-        said: Script {
-            edits: Vec::new(alloc),
-            bundles: Vec::new(alloc),
-            syncs: Vec::new(alloc),
+        kept: Kept {
+            said,
+            rules: Some(VersionedRules::new(alloc)),
+            pending: Vec::new(alloc),
         },
         begun: None,
     }
@@ -249,22 +304,28 @@ fn left_open(begun: Begun) -> FileFault
     }
 }
 
-/// The script of the bytes of a file, of which there are at most `MOST_BYTES`.
+/// The script of the bytes of a file, of which there are at most `MOST_BYTES`, and the rules of all versions that its
+/// edits make.
 ///
 /// A fault is the first of the file. Lines of it are counted from 1, and so are columns.
 #[tactic(auto, unfolding(spec_script::specs::Script::script_of))]
-pub fn read_script(alloc: Global, bytes: &[u8]) -> Result<Script, FileFault>
+pub fn read_script(alloc: Global, bytes: &[u8]) -> Result<ReadEdits, FileFault>
     requires { length bytes.now ≤ 33_554_432 }
-    ensures script { Gives script_view result (script_of bytes.now) }
-    ensures sound { IfOk result (λ s. IsTrue (list_all has_sound_actions s.edits.items)) }
-    ensures edit_count { IfOk result (λ s. length s.edits.items ≤ most_edits) }
-    ensures sync_count { IfOk result (λ s. length s.syncs.items ≤ most_syncs) }
-    ensures in_order { IfOk result (λ s. AreInOrder s.syncs.items (length s.bundles.items)) }
-    ensures bundles { IfOk result (λ s. AreBundles s.bundles.items (length s.edits.items)) }
+    ensures script { Gives read_view result (script_of bytes.now) }
+    ensures rules { IfOk result (λ r. AreRules (read_view r).edits (read_view r).bundles r.rules) }
+    ensures sound { IfOk result (λ r. IsTrue (list_all has_sound_actions (read_view r).edits)) }
+    ensures edit_count { IfOk result (λ r. length (read_view r).edits ≤ most_edits) }
+    ensures sync_count { IfOk result (λ r. length (read_view r).syncs ≤ most_syncs) }
+    ensures in_order { IfOk result
+        (λ r. AreInOrder (read_view r).syncs (length (read_view r).bundles)) }
+    ensures bundles { IfOk result (λ r. AreBundles (read_view r).bundles (length (read_view r).edits)) }
 {
     let reading = read_lines(&ScriptReader { alloc }, bytes, nothing_read(alloc))?;
     match reading.begun {
-        None => Ok(reading.said),
+        None => Ok(ReadEdits {
+            script: reading.kept.said,
+            rules: reading.kept.rules,
+        }),
         Some(begun) => Err(left_open(begun)),
     }
 }

@@ -1,25 +1,31 @@
-use edit_script::{FileFault, Script, read_script};
+use edit_script::{FileFault, MOST_BYTES, ReadEdits, Script, read_edit, read_script};
 use field_text::TextFault;
 use ovs_fields::FieldId;
-use rule_tables::{EditWord, OfAction, SyncPoint};
+use rule_tables::{EditWord, OfAction, Rule, SyncPoint, VersionedRules};
+use std::alloc::Global;
 use std::test::Fail;
+
+/// The script of these bytes and the rules that its edits make.
+fn read(alloc: Global, bytes: &'static [u8]) -> Result<(Script, VersionedRules), Fail> {
+    if bytes.len() > MOST_BYTES {
+        return Err(Fail::new("there are few bytes"));
+    }
+    let Ok(ReadEdits { script, rules }) = read_script(alloc, bytes) else {
+        return Err(Fail::new("the edits are read"));
+    };
+    match rules {
+        Some(rules) => Ok((script, rules)),
+        None => Err(Fail::new("the edits change few rules")),
+    }
+}
 
 #[test]
 fn a_script_has_edits_and_sync_points(rt: HostRuntime) -> Result<(), Fail> {
     let bytes =
         b"sync 0\n# all of it\nadd priority=5,tcp,actions=2,output:3 # 4\n \t\r\n\tsync\t2.5 \ndelete_strict table=3\nactions=drop";
-    let script = read_script(rt.alloc(), bytes).map_err(|_| Fail::new("the edits are read"))?;
+    let (script, rules) = read(rt.alloc(), bytes)?;
     assert_eq!(rt; script.edits.len(), 3);
-    let first = &script.edits[0];
-    assert!(rt; first.word == EditWord::Add);
-    assert_eq!(rt; first.priority, 5);
-    assert_eq!(rt; first.matching.key.get(FieldId::NwProto), 6);
-    let outputs = [OfAction::Output(2), OfAction::Output(3)];
-    assert!(rt; first.actions.as_slice() == outputs.as_slice());
-    let second = &script.edits[1];
-    assert!(rt; second.word == EditWord::DeleteStrict);
-    assert_eq!(rt; second.table, Some(3));
-    assert!(rt; script.edits[2].word == EditWord::Add);
+    assert_eq!(rt; script.bundles.as_slice(), [1, 2, 3].as_slice());
     let syncs = [
         SyncPoint { time: 0, after: 0 },
         SyncPoint {
@@ -28,6 +34,27 @@ fn a_script_has_edits_and_sync_points(rt: HostRuntime) -> Result<(), Fail> {
         },
     ];
     assert!(rt; script.syncs.as_slice() == syncs.as_slice());
+    let protocol = |rule: &Rule| rule.matching.key.get(FieldId::NwProto);
+    assert_eq!(rt; rules.rule(1).map(|rule| rule.priority), Some(5));
+    assert_eq!(rt; rules.rule(1).map(protocol), Some(6));
+    assert!(rt; rules.rule(2).is_none());
+    assert_eq!(rt; rules.rule(3).map(|rule| rule.priority), Some(32768));
+    Ok(())
+}
+
+#[test]
+fn the_edit_of_a_line_is_read(rt: HostRuntime) -> Result<(), Fail> {
+    let edit = read_edit(rt.alloc(), b"tcp,actions=2,output:3").map_err(|_| Fail::new(
+        "it is read",
+    ))?;
+    assert!(rt; edit.word == EditWord::Add);
+    let outputs = [OfAction::Output(2), OfAction::Output(3)];
+    assert!(rt; edit.actions.as_slice() == outputs.as_slice());
+    let edit = read_edit(rt.alloc(), b"delete_strict table=3").map_err(|_| Fail::new(
+        "it is read",
+    ))?;
+    assert!(rt; edit.word == EditWord::DeleteStrict);
+    assert_eq!(rt; edit.table, Some(3));
     Ok(())
 }
 
@@ -35,7 +62,7 @@ fn a_script_has_edits_and_sync_points(rt: HostRuntime) -> Result<(), Fail> {
 fn edits_between_begin_and_commit_are_one_bundle(rt: HostRuntime) -> Result<(), Fail> {
     let bytes =
         b"actions=1\n begin # two edits\ndelete\nactions=2\ncommit\nsync 1\nbegin\ncommit\nactions=3\n";
-    let script = read_script(rt.alloc(), bytes).map_err(|_| Fail::new("the edits are read"))?;
+    let (script, rules) = read(rt.alloc(), bytes)?;
     assert_eq!(rt; script.edits.len(), 4);
     assert_eq!(rt; script.bundles.as_slice(), [1, 3, 4].as_slice());
     let sync = SyncPoint {
@@ -43,11 +70,13 @@ fn edits_between_begin_and_commit_are_one_bundle(rt: HostRuntime) -> Result<(), 
         after: 2,
     };
     assert!(rt; script.syncs.as_slice() == [sync].as_slice());
+    assert_eq!(rt; rules.version(), 3);
+    assert_eq!(rt; rules.changes(), 5);
     Ok(())
 }
 
-fn fault_of(script: Result<Script, FileFault>) -> Option<FileFault> {
-    script.err()
+fn fault_of(read: Result<ReadEdits, FileFault>) -> Option<FileFault> {
+    read.err()
 }
 
 #[test]

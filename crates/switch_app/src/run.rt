@@ -206,8 +206,6 @@ fn decide_and_tell<
         mirrors,
         traces,
     } = inputs;
-    // The store has what they made.
-    drop(script.edits);
     let rules = RunRules::<C>::new(rules);
     let run = RunData::<C>::new(
         alloc,

@@ -1,5 +1,3 @@
-pub mod BundleSlices
-pub mod Changes
 pub mod Lists
 pub mod Stages
 pub mod Opened

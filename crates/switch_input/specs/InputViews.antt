@@ -51,11 +51,11 @@ pub record IsWithinLimits (i : Inputs) : Type 0 where
   pub ports : i.ports ≡ verdicts.ports_said (sources_for i.command).ports
   pub trace_each : length i.traces.items ≡ length i.ports
   pub few_frames : All (λ (t : Capture). length t.frames ≤ most_frames) i.traces.items
-  pub sound : IsTrue (list_all has_sound_actions i.script.edits.items)
-  pub few_edits : length i.script.edits.items ≤ most_edits
+  pub sound : IsTrue (list_all has_sound_actions (script_view i.script).edits)
+  pub few_edits : length (script_view i.script).edits ≤ most_edits
   pub few_syncs : length i.script.syncs.items ≤ most_syncs
   pub in_order : AreInOrder i.script.syncs.items (length i.script.bundles.items)
-  pub bundles : AreBundles i.script.bundles.items (length i.script.edits.items)
+  pub bundles : AreBundles i.script.bundles.items (length (script_view i.script).edits)
   pub few_steps : length i.steps.items ≤ most_steps
   pub few_mirrors : length i.mirrors.items ≤ most_mirrors
-  pub rules : i.rules ≡ history_of i.script.edits.items i.script.bundles.items
+  pub rules : i.rules ≡ history_of (script_view i.script).edits i.script.bundles.items

@@ -38,9 +38,8 @@
 //! What a number makes is put on a shelf in memory that never fails (`edge_io::memory`), and read from it by the same function
 //! as files. So whatever limits files limits that too, and it takes the memory for its bytes twice while it is read.
 //!
-//! How many rules the edits change is limited, so they are applied here, bundle by bundle, before anything else is read,
-//! up to the first bundle by which they change too many: changes take memory and time. The store that they make is the
-//! one of the run: frames are decided by it, and rules are printed from it.
+//! The store of rules that the edits make is the one of the run: frames are decided by it, and rules are printed from it.
+//! It is made as the file of edits is read (`edit_script`), so no edit is kept beside it.
 //!
 //! # What is left to others
 //!
@@ -59,7 +58,6 @@ mod made;
 mod mirrors;
 mod reading;
 pub mod refusals;
-mod rules;
 mod sources;
 mod steps;
 

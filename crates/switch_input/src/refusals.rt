@@ -31,8 +31,7 @@ mod status;
 mod text_refusal;
 
 pub use limits::{
-    MOST_CHANGES, MOST_EDITS_BYTES, MOST_FRAMES, MOST_MIRRORS_BYTES, MOST_STEPS_BYTES,
-    MOST_TRACE_BYTES,
+    MOST_EDITS_BYTES, MOST_FRAMES, MOST_MIRRORS_BYTES, MOST_STEPS_BYTES, MOST_TRACE_BYTES,
 };
 pub use refusal::{InputFault, InputRefusal};
 pub use say::{say_input_refusal, say_out_of_memory, say_pieces, say_write_fault};

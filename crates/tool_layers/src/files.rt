@@ -1,15 +1,14 @@
 //! Files read whole.
-ghost use Rattle.std.specs.Prelude.{◌^◌, ◌≤◌, length, IfOk, IsTrue};
-ghost use Rattle.std.specs.List.{list_all};
-ghost use Rattle.spec_tables.specs.Bundles.{AreBundles};
-ghost use Rattle.spec_tables.specs.Edits.{has_sound_actions};
-ghost use Rattle.spec_script.specs.Script.{most_edits};
+ghost use Rattle.std.specs.Prelude.{◌^◌, ◌≤◌, length, IfOk};
+ghost use Rattle.rule_tables.specs.History.{newest, rules_of};
+ghost use Rattle.pipe_model.specs.Runnable.{AreRunnable};
 
-use anyhow::{Result, anyhow};
+use anyhow::{Result, anyhow, bail};
 use edge_io::read_all;
 use edge_io::real::RealShelf;
-use edit_script::{MOST_BYTES, Script, read_script};
+use edit_script::{MOST_BYTES, ReadEdits, read_script};
 use pcap_files::reader::{Trace, read_trace};
+use rule_tables::VersionedRules;
 
 /// The most bytes and frames of a capture file.
 const MOST_CAPTURE_BYTES: usize = 1 << 30;
@@ -24,15 +23,26 @@ fn bytes_of(rt: &HostRuntime, name: &str, most: usize) -> Result<Vec<u8>>
     ))
 }
 
-/// Reads a file of edits.
-pub fn read_edits(rt: &HostRuntime, name: &str) -> Result<Script>
-    ensures sound { IfOk result (λ script. IsTrue (list_all has_sound_actions script.edits.items)) }
-    ensures few { IfOk result (λ script. length script.edits.items ≤ most_edits) }
-    ensures bundles { IfOk result
-        (λ script. AreBundles script.bundles.items (length script.edits.items)) }
+/// Reads the bytes of a file of edits.
+pub fn read_edits_bytes(rt: &HostRuntime, name: &str) -> Result<Vec<u8>>
+    ensures { IfOk result (λ bytes. length bytes.items ≤ 33_554_432) }
 {
-    let bytes = bytes_of(rt, name, MOST_BYTES)?;
-    read_script(rt.alloc(), &bytes).map_err(|_| anyhow!("{name}: this is no file of edits"))
+    bytes_of(rt, name, MOST_BYTES)
+}
+
+/// Reads the rules that a file of edits makes.
+pub fn read_rules(rt: &HostRuntime, name: &str) -> Result<VersionedRules>
+    ensures { IfOk result (λ rules. AreRunnable (rules_of rules (newest rules))) }
+{
+    let bytes = read_edits_bytes(rt, name)?;
+    let Ok(read) = read_script(rt.alloc(), &bytes) else {
+        bail!("{name}: this is no file of edits");
+    };
+    let ReadEdits { rules, .. } = read;
+    let Some(rules) = rules else {
+        bail!("{name}: the edits change too many rules");
+    };
+    Ok(rules)
 }
 
 /// Reads a capture file.

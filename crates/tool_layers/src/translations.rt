@@ -11,8 +11,8 @@ mod inputs;
 mod lines;
 mod words;
 
-use crate::files::{read_capture, read_edits};
-use crate::translations::inputs::{keys_of, rules_of};
+use crate::files::{read_capture, read_rules};
+use crate::translations::inputs::keys_of;
 use crate::translations::lines::{text_of, visits_in_rounds};
 use crate::translations::words::read_command;
 use anyhow::Result;
@@ -22,8 +22,7 @@ use tuple_classifier::Tables;
 /// The lines of the frames, or how many rules were visited.
 pub fn answer(rt: &HostRuntime, words: &[String]) -> Result<String> {
     let command = read_command(rt.alloc(), words)?;
-    let script = read_edits(rt, command.edits)?;
-    let rules = rules_of(rt.alloc(), &script.edits)?;
+    let rules = read_rules(rt, command.edits)?;
     let tables = Tables::last(rt.alloc(), &rules)?;
     let trace = read_capture(rt, command.trace)?;
     let keys = keys_of(rt.alloc(), command.port, &trace)?;

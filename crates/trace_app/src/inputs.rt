@@ -50,9 +50,9 @@ fn inputs_of<'a>(
     flow: &'a str,
     ports: Vec<u16>,
 ) -> Result<Inputs, Refusal<'a>>
-    requires rules { edits.rules ≡ history_of edits.script.edits.items edits.script.bundles.items }
-    requires bundles { AreBundles edits.script.bundles.items (length edits.script.edits.items) }
-    requires sound { IsTrue (list_all has_sound_actions edits.script.edits.items) }
+    requires rules { edits.rules ≡ history_of (script_view edits.script).edits edits.script.bundles.items }
+    requires bundles { AreBundles edits.script.bundles.items (length (script_view edits.script).edits) }
+    requires sound { IsTrue (list_all has_sound_actions (script_view edits.script).edits) }
     ensures ok { IfOk result (λ inputs.
         case_of flow.now ports.items (script_view edits.script) ≡ Ok (accepted_view inputs)) }
     ensures within { IfOk result IsTraceable }

@@ -6,11 +6,12 @@ ghost use Rattle.spec_script.specs.Script.{most_edits, most_syncs};
 ghost use Rattle.spec_tables.specs.Bundles.{AreBundles};
 ghost use Rattle.spec_tables.specs.Edits.{has_sound_actions};
 ghost use Rattle.run_case.specs.Places.{HasPort, IsCounted};
-ghost use Rattle.rule_tables.specs.History.{history_of};
+ghost use Rattle.edit_script.specs.Made.{AreRules};
+ghost use Rattle.edit_script.specs.ScriptViews.{read_view};
 
-use edit_script::{MOST_BYTES, Script, read_script};
+use edit_script::{MOST_BYTES, ReadEdits, Script, read_script};
 use pcap_files::reader::{Trace, read_trace};
-use rule_tables::{Edit, VersionedRules};
+use rule_tables::VersionedRules;
 use run_case::{Case, Ports, RunData};
 use std::alloc::{AllocError, Global};
 use std::marker::Model;
@@ -56,12 +57,13 @@ impl Model for LiteralRun {
     ghost use Rattle.spec_tables.specs.Edits.{has_sound_actions};
     ghost use Rattle.run_case.specs.Places.{HasPort, AreCounted};
     ghost use Rattle.rule_tables.specs.History.{history_of};
+    ghost use Rattle.edit_script.specs.ScriptViews.{script_view};
 
     ghost Value = { Run };
 
     ghost view = { λ g. record {
       ports = g.ports;
-      edits = g.script.edits.items;
+      edits = (script_view g.script).edits;
       bundles = g.script.bundles.items;
       syncs = g.script.syncs.items;
       traces = g.traces.items;
@@ -72,12 +74,12 @@ impl Model for LiteralRun {
     ghost invariant = { λ g. HasPort g.ports 1
         × (length g.traces.items ≡ length g.ports)
         × AreCounted g.traces.items
-        × IsTrue (list_all has_sound_actions g.script.edits.items)
-        × (length g.script.edits.items ≤ most_edits)
+        × IsTrue (list_all has_sound_actions (script_view g.script).edits)
+        × (length (script_view g.script).edits ≤ most_edits)
         × (length g.script.syncs.items ≤ most_syncs)
         × AreInOrder g.script.syncs.items (length g.script.bundles.items)
-        × AreBundles g.script.bundles.items (length g.script.edits.items)
-        × (g.rules ≡ history_of g.script.edits.items g.script.bundles.items) };
+        × AreBundles g.script.bundles.items (length (script_view g.script).edits)
+        × (g.rules ≡ history_of (script_view g.script).edits g.script.bundles.items) };
 }
 
 /// Adds a frame to a capture file, to a destination below 256.
@@ -98,33 +100,19 @@ fn trace_of(alloc: Global, frames: &[u8]) -> Result<Trace, Fail>
     Ok(read_trace(alloc, file, MANY)?)
 }
 
-fn script_of(alloc: Global, edits: &[u8]) -> Result<Script, Fail>
-    ensures sound { IfOk result (λ s. IsTrue (list_all has_sound_actions s.edits.items)) }
-    ensures edit_count { IfOk result (λ s. length s.edits.items ≤ most_edits) }
-    ensures sync_count { IfOk result (λ s. length s.syncs.items ≤ most_syncs) }
-    ensures in_order { IfOk result (λ s. AreInOrder s.syncs.items (length s.bundles.items)) }
-    ensures bundles { IfOk result (λ s. AreBundles s.bundles.items (length s.edits.items)) }
+fn edits_said(alloc: Global, edits: &[u8]) -> Result<ReadEdits, Fail>
+    ensures rules { IfOk result (λ r. AreRules (read_view r).edits (read_view r).bundles r.rules) }
+    ensures sound { IfOk result (λ r. IsTrue (list_all has_sound_actions (read_view r).edits)) }
+    ensures edit_count { IfOk result (λ r. length (read_view r).edits ≤ most_edits) }
+    ensures sync_count { IfOk result (λ r. length (read_view r).syncs ≤ most_syncs) }
+    ensures in_order { IfOk result
+        (λ r. AreInOrder (read_view r).syncs (length (read_view r).bundles)) }
+    ensures bundles { IfOk result (λ r. AreBundles (read_view r).bundles (length (read_view r).edits)) }
 {
     if edits.len() > MOST_BYTES {
         return Err(Fail::new("there are few edits"));
     }
     read_script(alloc, edits).map_err(|_| Fail::new("the edits are read"))
-}
-
-/// The rules of all versions that edits make, of which so many stand through each bundle.
-fn rules_of(alloc: Global, edits: &[Edit], bundles: &[u32]) -> Result<VersionedRules, AllocError>
-    requires few { length edits.now ≤ most_edits }
-    requires whole { AreBundles bundles.now (length edits.now) }
-    ensures { IfOk result (λ rules. rules ≡ history_of edits.now bundles.now) }
-{
-    let mut rules = VersionedRules::new(alloc);
-    let mut before = 0;
-    'bundles: for end in bundles {
-        let through = *end as usize;
-        rules.apply(&edits[before..through])?;
-        before = through;
-    }
-    Ok(rules)
 }
 
 impl LiteralRun {
@@ -133,8 +121,10 @@ impl LiteralRun {
         let mut list = Vec::new(alloc);
         list.push(PORT)?;
         let ports = Ports::new(list);
-        let script = script_of(alloc, edits)?;
-        let rules = rules_of(alloc, &script.edits, &script.bundles)?;
+        let ReadEdits { script, rules } = edits_said(alloc, edits)?;
+        let Some(rules) = rules else {
+            return Err(Fail::new("the edits change few rules"));
+        };
         let mut traces = Vec::new(alloc);
         traces.push(trace_of(alloc, frames)?)?;
         Ok(LiteralRun {

@@ -2,6 +2,7 @@
 ghost use Rattle.std.specs.Prelude.{◌≡◌};
 ghost use Rattle.spec_run.specs.Limits.{limit_of, quantity_name};
 
+use edit_script::MOST_CHANGES;
 use spec_run::Quantity;
 
 /// The most bytes of the file of edits: 32 MiB.
@@ -30,9 +31,6 @@ const MOST_STEPS: usize = 131_072;
 
 /// The most mirrors of their file.
 const MOST_MIRRORS: usize = 16;
-
-/// The most rules that all edits together add, give actions to and remove.
-pub const MOST_CHANGES: u64 = 1_048_576;
 
 /// The most bytes of all traces: 256 MiB.
 pub const MOST_TRACE_BYTES: usize = 268_435_456;

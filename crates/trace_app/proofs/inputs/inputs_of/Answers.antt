@@ -30,7 +30,7 @@ returns-then-not-names_port-clause-err c =
 pub returns-clause-ok : goal.returns-clause-ok
 returns-clause-ok c =
     let m = match_view c.in_ok-matching.matching in
-    let edits = c.args.edits.script.edits.items in
+    let edits = (script_view c.args.edits.script).edits in
     let bundles = c.args.edits.script.bundles.items in
     let same : c.in_port-port.result ≡ in_port_of (key_of m) = c.in_port-port.ensures ∙ ap in_port_of c.key_of-key.ensures in
     let there : list_any (λ p. p == in_port_of (key_of m)) c.args.ports.items ≡ true =
@@ -43,7 +43,7 @@ returns-clause-ok c =
 
 pub returns-clause-within : goal.returns-clause-within
 returns-clause-within c =
-    let edits = c.args.edits.script.edits.items in
+    let edits = (script_view c.args.edits.script).edits in
     let bundles = c.args.edits.script.bundles.items in
     let rules : version edits bundles (length bundles) ≡ live_in c.args.edits.rules =
     live-version edits bundles c.requires.bundles c.requires.sound c.args.edits.rules c.requires.rules in record {

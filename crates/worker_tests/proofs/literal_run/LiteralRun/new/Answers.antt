@@ -16,8 +16,8 @@ pub invariant_of-result : goal.invariant_of-result
 invariant_of-result c =
     let ports : c.new-ports.result ≡ 1 ∷ [] = rw (c.new-ports.ensures, c.in_ok-push.ensures.items, c.new-list.ensures.items) refl in
     let traces = rw c.new-traces.ensures.items at c.in_ok-push-2.ensures.items in
-    let rules = rw (c.deref.ensures.value, c.deref-2.ensures.value) at c.in_ok-rules.ensures in
-    let script = c.in_ok-script.ensures in (
+    let script = c.in_ok-script.ensures in
+    let rules = (rw c.in-Some.is at script.rules).0 in (
       rw ports refl,
       rw (traces, ports) refl,
       rw traces (one_counted _ c.in_ok-trace_of.ensures),
