@@ -3,7 +3,7 @@ use Rattle.std.proofs.Common.{◌≡◌, ℕ, zero, suc, min, max, List, [], ◌
 use Rattle.std.specs.Int.{bit_at}
 use Rattle.std.specs.Int.Bits.{or_zero_r}
 use Rattle.std.proofs.lemmas.Nat.Bits.{bit_at_or, bit_at_and, same_from_bits}
-use Rattle.spec_keys.specs.Keys.{masked, joined, only_at, number_at}
+use Rattle.spec_keys.specs.Keys.{none, masked, joined, only_at, number_at}
 
 -- bits that a mask has are in a wider mask too, with others that are
 pub both_kept : (x v b m : ℕ) → bit_and x b ≡ x → bit_and v m ≡ v → bit_and (bit_or x v) (bit_or b m) ≡ bit_or x v
@@ -39,3 +39,8 @@ more_is_normalised (x ∷ key) (b ∷ mask) (suc place) value bits kept normal =
     let rest : masked key mask ≡ key = cc normal in
     let first : bit_and x b ≡ x = cc normal in
     ap₂ (λ (n : ℕ) (ns : List ℕ). n ∷ ns) (rw or_zero_r first) (more_is_normalised key mask place value bits kept rest)
+
+-- and the key without a bit is
+pub nothing_is_normalised : masked none none ≡ none
+unfolding masked none
+nothing_is_normalised = refl

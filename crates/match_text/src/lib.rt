@@ -38,7 +38,6 @@
 #![tactic(auto)]
 
 mod items;
-mod merging;
 mod naming;
 mod normal;
 mod printing;

@@ -8,13 +8,12 @@ ghost use Rattle.spec_flow_text.specs.Matches as matches;
 ghost use Rattle.rule_tables.specs.Views.{match_view};
 ghost use Rattle.field_text.specs.Views.{IsWithin};
 
-use crate::merging::with_part_bits;
 use crate::stating::place_of;
 use field_text::{
     ARP_TYPE, ICMP_PROTOCOL, ICMP6_PROTOCOL, IPV4_TYPE, IPV6_TYPE, MatchPrerequisite, Part,
     TCP_PROTOCOL, UDP_PROTOCOL,
 };
-use ovs_fields::FieldId;
+use ovs_fields::{FieldId, Key, Mask};
 use rule_tables::Match;
 
 fn is(number: u128, stated: Option<u128>) -> bool
@@ -92,14 +91,16 @@ fn match_of_met(parts: &[Part], ethernet_type: Option<u128>, protocol: Option<u1
     ensures { match_view result ≡ matches.match_of
         (filter (λ (part : StatedPart). values.is_met part.needs ethernet_type protocol) parts.now) }
 {
-    let mut matching = Match::any();
+    let mut key = Key::zero();
+    let mut mask = Mask::none();
     'parts: for part in parts {
         if !is_met(part.needs, ethernet_type, protocol) {
             continue;
         }
-        matching = with_part_bits(&matching, part);
+        key.set(part.field, key.get(part.field) | part.value);
+        mask.add(part.field, part.mask);
     }
-    matching
+    Match { key, mask }
 }
 
 /// The match of what a flow states, without what has no place in the packets that it is about.
