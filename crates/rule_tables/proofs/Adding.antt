@@ -1,28 +1,29 @@
 -- One more rule, in place of the live one of its identity if there is one: what holds of the stored rules is kept, and
 -- the history is that of one more edit.
-use Rattle.std.proofs.Common.{◌≡◌, ℕ, ◌+◌, ◌*◌, ◌^◌, ◌≤◌, ◌<◌, Bool, true, false, cond, List, [], ◌∷◌, ◌++◌, length, map, Option, Some, None, refl, sym, ap, ap₂, ◌∙◌, subst, arith, inl, inr, append-nil}
+use Rattle.std.proofs.Common.{◌≡◌, ℕ, ◌+◌, ◌*◌, ◌^◌, ◌≤◌, ◌<◌, Bool, true, cond, List, [], ◌∷◌, ◌++◌, length, map, Option, Some, None, refl, sym, ap, ap₂, ◌∙◌, subst, arith, inl, inr, append-nil}
 use Rattle.std.specs.Prelude.{is_some}
 use Rattle.std.specs.List.{list_any}
 use Rattle.std.proofs.lemmas.List.Elements.{filter_map-append}
-use Rattle.std.proofs.lemmas.Bool.{cond-true, cond_both}
+use Rattle.std.proofs.lemmas.Bool.{cond_both}
 use Rattle.std.proofs.lemmas.Option.{none-some, slice_get_within}
 use Rattle.spec_tables.specs.declared.edit_word.EditWord.{EditWord}
 use Rattle.spec_tables.specs.declared.edit_word.EditWord.TheVariants.{Add}
 use Rattle.spec_tables.specs.Rules as tables
-use Rattle.spec_tables.specs.Edits.{Edit, edited, rule_of, without}
-use Rattle.rule_tables.specs.declared.identity.RuleIdentity.{RuleIdentity}
+use Rattle.spec_tables.specs.Edits.{Edit, edited, is_named_by, rule_of, without}
+use Rattle.rule_tables.specs.declared.rule.Rule.{Rule}
 use Rattle.rule_tables.specs.declared.stored.Modification.{Modification}
 use Rattle.rule_tables.specs.declared.stored.StoredRule.{StoredRule}
 use Rattle.spec_tables.specs.Changes.{changes_by}
 use Rattle.rule_tables.specs.History.{edited_by, states_to}
 use Rattle.rule_tables.specs.Views.{rule_view}
-use Rattle.rule_tables.specs.Stored.{is_picked_by, stored_in, rule_at, rules_at, ended_by, with_end, identity_of, is_same_identity, AreInOrder, AreNumbered, AreLives, AreFound, AreConsistent}
+use Rattle.rule_tables.specs.RulePlaces.{IsNamedPlace}
+use Rattle.rule_tables.specs.Stored.{is_picked_by, picks, stored_in, rule_at, rules_at, ended_by, with_end, AreInOrder, AreNumbered, AreLives, AreConsistent}
 use Rattle.rule_tables.proofs.Counts.{any_counted}
 use Rattle.rule_tables.proofs.FilterMaps.{push_cases}
 use Rattle.rule_tables.proofs.Histories.{pushed}
-use Rattle.rule_tables.proofs.Ends.{length-with_end, with_end-push}
+use Rattle.rule_tables.proofs.Ends.{with_end-push}
 use Rattle.rule_tables.proofs.Endings.{rules_before_ends, numbered_ends, in_order_ends, lives_ends, rules_ended, count_picked}
-use Rattle.rule_tables.proofs.Finds.{RespectsIdentities, IsNamed, ended_as_named, count_named, found_with_end, found_push}
+use Rattle.rule_tables.proofs.Finds.{named_from_parts, named_within, ended_as_named, count_named, apart_added}
 use Rattle.rule_tables.proofs.Lives.{rule_at-alive, rule_at-dead, alive_on, dead_before, length_within}
 use Rattle.rule_tables.proofs.Modified.{as_added}
 
@@ -34,27 +35,16 @@ pub record IsNext (last : ℕ) (e : Edit) (s : StoredRule) : Type 0 where
   pub number : s.rule.number ≡ last + 1
   pub rule : rule_view s.rule s.actions ≡ rule_of (last + 1) e
 
-module _ (made : List Modification) (xs : List StoredRule) (find : RuleIdentity → Option ℕ) (last changes : ℕ) (sound : AreConsistent made xs find last changes) (respects : RespectsIdentities find) (e : Edit) (s : StoredRule) (next : IsNext last e s) where
-  abbrev identity : RuleIdentity
-  identity = identity_of s.rule
-
-  abbrev old : Option ℕ
-  old = find identity
-
+module _ (made : List Modification) (xs : List StoredRule) (last changes : ℕ) (sound : AreConsistent made xs last changes) (e : Edit) (s : StoredRule) (next : IsNext last e s) (old : Option ℕ) (named : IsNamedPlace xs e old) where
   abbrev ys : List StoredRule
   ys = with_end old (last + 1) xs
 
-  named : IsNamed e identity
-  named = record {
-    strict = λ r. ap (λ (word : EditWord). is_picked_by word e (rule_view r [])) next.adds;
-    table = ap (λ (r : tables.Rule). r.table) next.rule;
-    priority = ap (λ (r : tables.Rule). r.priority) next.rule;
-    matching = ap (λ (r : tables.Rule). r.matching) next.rule;
-  }
+  strict : (r : Rule) → picks e r ≡ is_named_by e (rule_view r [])
+  strict r = ap (λ (word : EditWord). is_picked_by word e (rule_view r [])) next.adds
 
   -- the rules that are there, of which the one that the edit names is gone
   ends : ys ≡ map (ended_by e (last + 1)) xs
-  ends = ended_as_named xs find sound.found respects e identity named old (last + 1) refl
+  ends = ended_as_named xs sound.apart e strict old named (last + 1)
 
   -- ---- edits
 
@@ -82,7 +72,7 @@ module _ (made : List Modification) (xs : List StoredRule) (find : RuleIdentity 
   replaces : list_any (is_picked_by e.word e) (rules_at made last xs) ≡ is_some old
   replaces =
       any_counted (is_picked_by e.word e) (rules_at made last xs) (is_some old)
-      (count_picked made xs last e sound.numbered sound.lives ∙ count_named xs find sound.found respects e identity named old refl)
+      (count_picked made xs last e sound.numbered sound.lives ∙ count_named xs sound.apart e strict old named)
 
   -- ---- the history
 
@@ -160,59 +150,45 @@ module _ (made : List Modification) (xs : List StoredRule) (find : RuleIdentity 
         ];
   }
 
-  -- ---- identities
+  -- the edit names the rule that it adds
+  names_new : is_named_by e (rule_view s.rule []) ≡ true
+  names_new =
+      named_from_parts e (rule_view s.rule []) (record {
+        table = ap (λ (r : tables.Rule). r.table) next.rule;
+        priority = ap (λ (r : tables.Rule). r.priority) next.rule;
+        key = ap (λ (r : tables.Rule). r.matching.key) next.rule;
+        mask = ap (λ (r : tables.Rule). r.matching.mask) next.rule;
+      })
 
-  module _ (find' : RuleIdentity → Option ℕ) (put : (q : RuleIdentity) → find' q ≡ cond (is_same_identity identity q) (Some (length xs)) (find q)) where
-    -- between the two, where the identity is free
-    abbrev freed : RuleIdentity → Option ℕ
-    freed q = cond (is_same_identity identity q) None (find q)
-
-    found_after : AreFound (ys ++ s ∷ []) find'
-    found_after =
-        found_push ys freed find' s (found_with_end xs find sound.found respects identity freed (λ q. refl) old (last + 1) refl) next.on
-        (λ q same. cond-true (is_same_identity identity q) None (find q) same)
-        (λ q. put q ∙ ap (λ (n : ℕ). cond (is_same_identity identity q) (Some n) (find q)) (sym (length-with_end old (last + 1) xs))
-        ∙ both (is_same_identity identity q) (Some (length ys)) (find q))
-      where
-        both : (b : Bool) (here there : Option ℕ) → cond b here there ≡ cond b here (cond b None there)
-        both true here there = refl
-        both false here there = refl
-
-    sound_after : AreConsistent made (ys ++ s ∷ []) find' (last + 1) (changes + cond (is_some old) 2 1)
-    sound_after = record {
-      fits = next.room;
-      in_order = in_order_after;
-      numbered = numbered_after;
-      lives = lives_after;
-      made = λ i m at. let le : m.number ≤ last = sound.made i m at in omega arith;
-      found = found_after;
-      few_changes =
-          let so_far : changes ≤ 2 ^ 32 * last = sound.few_changes in
-          let more : cond (is_some old) 2 1 ≤ 2 = cond_both (is_some old) 2 1 (λ (n : ℕ). n ≤ 2) (λ _. omega arith) (λ _. omega arith) in
-          omega arith;
-    }
+  sound_after : AreConsistent made (ys ++ s ∷ []) (last + 1) (changes + cond (is_some old) 2 1)
+  sound_after = record {
+    fits = next.room;
+    in_order = in_order_after;
+    numbered = numbered_after;
+    lives = lives_after;
+    made = λ i m at. let le : m.number ≤ last = sound.made i m at in omega arith;
+    apart = apart_added xs sound.apart e old named (last + 1) s names_new;
+    few_changes =
+        let so_far : changes ≤ 2 ^ 32 * last = sound.few_changes in
+        let more : cond (is_some old) 2 1 ≤ 2 = cond_both (is_some old) 2 1 (λ (n : ℕ). n ≤ 2) (λ _. omega arith) (λ _. omega arith) in
+        omega arith;
+  }
 
 -- what one more rule makes, as the code comes to it
-pub sound_added : (made : List Modification) (xs : List StoredRule) (find find' : RuleIdentity → Option ℕ) (last changes : ℕ) → AreConsistent made xs find last changes → RespectsIdentities find
-    → (e : Edit) (s : StoredRule) → IsNext last e s → (mine : RuleIdentity) → mine ≡ identity_of s.rule → (ended : Option ℕ) → ended ≡ find mine
-    → ((q : RuleIdentity) → find' q ≡ cond (is_same_identity mine q) (Some (length xs)) (find q)) → (count : ℕ) → count ≡ cond (is_some ended) 2 1
-    → (zs : List StoredRule) → zs ≡ with_end ended s.rule.number (xs ++ s ∷ [])
-    → AreConsistent made zs find' s.rule.number (changes + count)
+pub sound_added : (made : List Modification) (xs : List StoredRule) (last changes : ℕ) → AreConsistent made xs last changes
+    → (e : Edit) (s : StoredRule) → IsNext last e s → (old : Option ℕ) → IsNamedPlace xs e old → (count : ℕ) → count ≡ cond (is_some old) 2 1
+    → (zs : List StoredRule) → zs ≡ with_end old s.rule.number (xs ++ s ∷ [])
+    → AreConsistent made zs s.rule.number (changes + count)
     × (record { states = states_to s.rule.number (λ v. rules_at made v zs); changes = changes + count } ≡ edited_by e (record { states = states_to last (λ v. rules_at made v xs); changes = changes }))
-sound_added made xs find find' last changes sound respects e s next mine is ended ended_is put count count_is zs becomes =
-    let same_old : ended ≡ find (identity_of s.rule) = ended_is ∙ ap find is in
-    let count_of : count ≡ cond (is_some (find (identity_of s.rule))) 2 1 = count_is ∙ ap (λ (o : Option ℕ). cond (is_some o) 2 1) same_old in
+sound_added made xs last changes sound e s next old named count count_is zs becomes =
     let number : s.rule.number ≡ last + 1 = next.number in
-    let all : zs ≡ with_end (find (identity_of s.rule)) (last + 1) xs ++ s ∷ [] =
-    becomes ∙ ap₂ (λ (o : Option ℕ) (n : ℕ). with_end o n (xs ++ s ∷ [])) same_old number
-    ∙ with_end-push (find (identity_of s.rule)) (last + 1) xs s (λ i at. sound.found.there (identity_of s.rule) i at) in
-    let put_as : (q : RuleIdentity) → find' q ≡ cond (is_same_identity (identity_of s.rule) q) (Some (length xs)) (find q) =
-    λ q. put q ∙ ap (λ (k : RuleIdentity). cond (is_same_identity k q) (Some (length xs)) (find q)) is in
-    let there : List StoredRule = with_end (find (identity_of s.rule)) (last + 1) xs ++ s ∷ [] in
-    let same : (P : List StoredRule → ℕ → ℕ → Type 0) → P there (last + 1) (cond (is_some (find (identity_of s.rule))) 2 1) → P zs s.rule.number count =
+    let there : List StoredRule = with_end old (last + 1) xs ++ s ∷ [] in
+    let all : zs ≡ there =
+    becomes ∙ ap (λ (n : ℕ). with_end old n (xs ++ s ∷ [])) number ∙ with_end-push old (last + 1) xs s (named_within xs sound.apart e old named) in
+    let same : (P : List StoredRule → ℕ → ℕ → Type 0) → P there (last + 1) (cond (is_some old) 2 1) → P zs s.rule.number count =
     λ P h. subst (λ (z : List StoredRule). P z s.rule.number count) (sym all)
-    (subst (λ (n : ℕ). P there n count) (sym number) (subst (λ (k : ℕ). P there (last + 1) k) (sym count_of) h)) in (
-      same (λ z n k. AreConsistent made z find' n (changes + k)) (sound_after made xs find last changes sound respects e s next find' put_as),
+    (subst (λ (n : ℕ). P there n count) (sym number) (subst (λ (k : ℕ). P there (last + 1) k) (sym count_is) h)) in (
+      same (λ z n k. AreConsistent made z n (changes + k)) (sound_after made xs last changes sound e s next old named),
       same (λ z n k. record { states = states_to n (λ v. rules_at made v z); changes = changes + k } ≡ edited_by e (record { states = states_to last (λ v. rules_at made v xs); changes = changes }))
-          (history_after made xs find last changes sound respects e s next),
+          (history_after made xs last changes sound e s next old named),
     )

@@ -12,7 +12,7 @@ use Rattle.rule_tables.specs.contracts.actions.Actions as actions
 use Rattle.rule_tables.specs.contracts.edit.Edit as edit
 use Rattle.rule_tables.specs.contracts.matching.Match as matching
 use Rattle.rule_tables.specs.contracts.rule.Rule as rule
-use Rattle.rule_tables.specs.contracts.identity.RuleIdentity as identity
+use Rattle.rule_tables.specs.contracts.places.RulePlaces as places
 use Rattle.rule_tables.specs.contracts.stored.Modification as modification
 use Rattle.rule_tables.specs.contracts.stored.StoredRule as stored
 use Rattle.rule_tables.specs.contracts.givings.Giving as giving
@@ -70,12 +70,6 @@ rule_send = search (sendable, crosses, matching_send) depth 100 fits 20000
 rule_sync : IsSync (rule.the_field).row
 rule_sync = search (sendable, crosses, matching_sync) depth 100 fits 20000
 
-identity_send : IsSend (identity.the_field).row
-identity_send = search (sendable, crosses, matching_send) depth 100 fits 20000
-
-identity_sync : IsSync (identity.the_field).row
-identity_sync = search (sendable, crosses, matching_sync) depth 100 fits 20000
-
 edit_field_send : IsSend (edit.the_field).row
 edit_field_send = search (sendable, crosses, actions_send, matching_send) depth 100 fits 20000
 
@@ -118,11 +112,17 @@ signature_send = search (sendable, crosses) depth 100 fits 20000
 signature_sync : IsSync (signature.the_field).row
 signature_sync = search (sendable, crosses) depth 100 fits 20000
 
+places_send : IsSend (places.the_field).row
+places_send = search (sendable, crosses, HashMap-send) depth 100 fits 20000
+
+places_sync : IsSync (places.the_field).row
+places_sync = search (sendable, crosses, HashMap-sync) depth 100 fits 20000
+
 edited_send : IsSend (edited.the_field).row
-edited_send = search (sendable, crosses, HashMap-send, stored_send, modification_send, log_send, identity_send, ending_send, signature_send) depth 100 fits 20000
+edited_send = search (sendable, crosses, stored_send, modification_send, log_send, places_send, ending_send, signature_send) depth 100 fits 20000
 
 edited_sync : IsSync (edited.the_field).row
-edited_sync = search (sendable, crosses, HashMap-sync, stored_sync, modification_sync, log_sync, identity_sync, ending_sync, signature_sync) depth 100 fits 20000
+edited_sync = search (sendable, crosses, stored_sync, modification_sync, log_sync, places_sync, ending_sync, signature_sync) depth 100 fits 20000
 
 pub versions_send : IsSend (versions.the_field).row
 versions_send = search (sendable, crosses, edited_send) depth 100 fits 20000

@@ -8,11 +8,10 @@ use Rattle.std.proofs.lemmas.Option.{none-some, same_Some, slice_get_within, sli
 use Rattle.spec_tables.specs.Edits.{Edit}
 use Rattle.rule_tables.specs.declared.ending.Ending.{Ending}
 use Rattle.rule_tables.specs.declared.givings.GivingLog.{GivingLog}
-use Rattle.rule_tables.specs.declared.identity.RuleIdentity.{RuleIdentity}
 use Rattle.rule_tables.specs.declared.stored.StoredRule.{StoredRule}
 use Rattle.rule_tables.specs.Ends.{has_ended, with_ending, IsEnd, AreEnds}
 use Rattle.rule_tables.specs.Givings.{Becomes, IsLogged}
-use Rattle.rule_tables.specs.Stored.{picks, acts_on, ended, with_end, AreFound}
+use Rattle.rule_tables.specs.Stored.{picks, acts_on, ended, with_end}
 use Rattle.rule_tables.proofs.Counts.{count_by-cons}
 use Rattle.rule_tables.proofs.Endings.{none_from}
 use Rattle.rule_tables.proofs.Ends.{ended_cases, set-ended}
@@ -225,16 +224,16 @@ ends_with_end log xs last gone (Some i) le ends there on =
       | inr (past, _) ↦ let within : i < length xs = there i refl in absurd (omega arith)
     ]
 
--- a rule that comes in place of the one that is found by an identity
-pub ends_added : (log : List Ending) (xs : List StoredRule) (last gone : ℕ) → last ≤ gone → AreEnds log xs last → (find : RuleIdentity → Option ℕ) → AreFound xs find
-    → (identity : RuleIdentity) (old : Option ℕ) → old ≡ find identity → (s : StoredRule) → s.gone ≡ None
+-- a rule that comes in place of a live one, if there is one
+pub ends_added : (log : List Ending) (xs : List StoredRule) (last gone : ℕ) → last ≤ gone → AreEnds log xs last → (old : Option ℕ)
+    → ((i : ℕ) → old ≡ Some i → i < length xs) → ((i : ℕ) (x : StoredRule) → old ≡ Some i → slice_get xs i ≡ Some x → x.gone ≡ None) → (s : StoredRule) → s.gone ≡ None
     → AreEnds (with_ending old gone log) (with_end old gone (xs ++ s ∷ [])) gone
-ends_added log xs last gone le ends find found identity old old_is s on =
+ends_added log xs last gone le ends old there old_on s on =
     ends_with_end log (xs ++ s ∷ []) last gone old le (ends_push log xs last s ends on)
-    (λ i is. let within : i < length xs = found.there identity i (sym old_is ∙ is) in omega (arith, length-append xs (s ∷ [])))
+    (λ i is. let within : i < length xs = there i is in omega (arith, length-append xs (s ∷ [])))
     (λ i x is at.
     elim (push_cases xs s x i at) [
-      | inl earlier ↦ (found.own identity i x (sym old_is ∙ is) earlier).0
+      | inl earlier ↦ old_on i x is earlier
       | inr (_, latest) ↦ ap (λ (y : StoredRule). y.gone) latest ∙ on
     ])
 

@@ -1,17 +1,13 @@
 -- One step of the loop that ends the lives of the rules that an edit acts on.
-use Rattle.std.proofs.Common.{◌≡◌, ℕ, ◌+◌, true, false, cond, List, take, get_or, Option, Some, None, sym, ap, ◌∙◌, subst}
-use Rattle.std.specs.Prelude.{slice_get, slice_set, count_by, is_some, not}
-use Rattle.std.proofs.lemmas.Bool.{and_parts, cond-true, cond-false}
+use Rattle.std.proofs.Common.{◌≡◌, ℕ, ◌+◌, true, false, List, take, get_or, Some, sym, ap, ◌∙◌}
+use Rattle.std.specs.Prelude.{slice_get, slice_set, count_by}
+use Rattle.std.proofs.lemmas.Bool.{cond-true, cond-false}
 use Rattle.std.proofs.lemmas.List.Sums.{count_by_more_yes, count_by_more_no}
 use Rattle.std.proofs.lemmas.Option.{slice_get_within, get_or_from_slice_get}
 use Rattle.spec_tables.specs.Edits.{Edit}
-use Rattle.rule_tables.specs.declared.identity.RuleIdentity.{RuleIdentity}
 use Rattle.rule_tables.specs.declared.stored.StoredRule.{StoredRule}
-use Rattle.rule_tables.specs.Stored.{picks, acts_on, ended_by, identity_of, is_same_identity, AreFound}
-use Rattle.rule_tables.proofs.Endings.{none_from}
-use Rattle.rule_tables.proofs.Ends.{set-ended}
+use Rattle.rule_tables.specs.Stored.{acts_on, ended_by}
 use Rattle.rule_tables.proofs.FilterMaps.{mapped_to, mapped_to_at, mapped_to_set, mapped_to_kept}
-use Rattle.rule_tables.proofs.Finds.{RespectsIdentities, found_ended}
 
 module _ (xs rules : List StoredRule) (e : Edit) (gone i : ℕ) (x : StoredRule) (so_far : rules ≡ mapped_to i (ended_by e gone) xs) (at : slice_get rules i ≡ Some x) where
   at_first : slice_get xs i ≡ Some x
@@ -34,10 +30,3 @@ module _ (xs rules : List StoredRule) (e : Edit) (gone i : ℕ) (x : StoredRule)
 
   pub counts_same : (n : ℕ) → n ≡ count_by (acts_on e) (take i xs) → acts_on e x ≡ false → n ≡ count_by (acts_on e) (take (i + 1) xs)
   counts_same n is idle = is ∙ sym (count_by_more_no (acts_on e) xs i x (slice_get_within xs i x at_first) (here ∙ idle))
-
-  pub found_step : (find find' : RuleIdentity → Option ℕ) → AreFound rules find → RespectsIdentities find → acts_on e x ≡ true
-      → ((q : RuleIdentity) → find' q ≡ cond (is_same_identity (identity_of x.rule) q) None (find q)) → AreFound (slice_set rules i (record x { gone = Some gone })) find'
-  found_step find find' found respects acts removed =
-      let on : x.gone ≡ None = none_from x.gone (and_parts (not (is_some x.gone)) (picks e x.rule) acts).0 in
-      subst (λ (zs : List StoredRule). AreFound zs find') (sym (set-ended rules i gone x at))
-      (found_ended rules find found respects (identity_of x.rule) find' removed i gone (found.live i x at on))

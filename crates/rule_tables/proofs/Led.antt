@@ -6,14 +6,14 @@ use Rattle.std.proofs.lemmas.Bool.{and_left, lt-ltb, le-ltb}
 use Rattle.std.proofs.lemmas.Option.{none-some, same_Some, slice_get_within, slice_get_cases}
 use Rattle.spec_tables.specs.Edits.{Edit}
 use Rattle.rule_tables.specs.declared.givings.Giving.{Giving}
-use Rattle.rule_tables.specs.declared.identity.RuleIdentity.{RuleIdentity}
 use Rattle.rule_tables.specs.declared.stored.Modification.{Modification}
 use Rattle.rule_tables.specs.declared.stored.StoredRule.{StoredRule}
 use Rattle.rule_tables.specs.Givings.{was_given, was_given_at, Leads, IsLedTo, AreLedTo, Becomes, AreGiven}
-use Rattle.rule_tables.specs.Stored.{picks, acts_on, is_before, rule_at, rules_at, ended_by, with_end, identity_of, is_same_identity, AreNumbered, AreLives, AreMade, AreFound, AreConsistent}
+use Rattle.rule_tables.specs.Stored.{picks, acts_on, is_before, rule_at, rules_at, ended_by, with_end, AreNumbered, AreLives, AreMade, AreConsistent}
 use Rattle.rule_tables.proofs.Endings.{ended_by_cases}
 use Rattle.rule_tables.proofs.Ends.{with_end_cases}
 use Rattle.rule_tables.proofs.FilterMaps.{filter_map_alike, from_map, push_cases, slice_get-append, slice_get-push}
+use Rattle.rule_tables.proofs.Finds.{apart_alike}
 use Rattle.rule_tables.proofs.GivingLog.{leads_alike, leads_nowhere, led_within, given_there}
 use Rattle.rule_tables.proofs.Lives.{gone_cases}
 
@@ -83,14 +83,14 @@ module _ (log : List Giving) (made : List Modification) (last : ℕ) (all : AreM
         | inr (_, stays) ↦ subst (λ (y : StoredRule). IsLedTo log made y) (sym stays) (led i from.0 from.1)
       ]
 
-  -- a rule that comes in place of the one that is found by an identity
-  pub led_added : (xs : List StoredRule) (find : RuleIdentity → Option ℕ) → AreFound xs find → (identity : RuleIdentity) (old : Option ℕ) → old ≡ find identity
+  -- a rule that comes in place of a live one, if there is one
+  pub led_added : (xs : List StoredRule) (old : Option ℕ) → ((i : ℕ) (x : StoredRule) → old ≡ Some i → slice_get xs i ≡ Some x → x.gone ≡ None)
       → (s : StoredRule) → s.gone ≡ None → s.given ≡ None → last < s.rule.number → (zs : List StoredRule) → zs ≡ with_end old s.rule.number (xs ++ s ∷ []) → AreLedTo log made xs → AreLedTo log made zs
-  led_added xs find found identity old old_is s on none late zs becomes led =
+  led_added xs old old_on s on none late zs becomes led =
       led_with_end (xs ++ s ∷ []) old s.rule.number zs late
       (λ i x is at.
       elim (push_cases xs s x i at) [
-        | inl earlier ↦ (found.own identity i x (sym old_is ∙ is) earlier).0
+        | inl earlier ↦ old_on i x is earlier
         | inr (_, latest) ↦ ap (λ (y : StoredRule). y.gone) latest ∙ on
       ])
       becomes (led_push xs s led none (omega arith))
@@ -123,8 +123,8 @@ module _ (picked : ℕ → StoredRule → Bool) (n : ℕ) (log new : List Giving
       let old = was i z at_z in
       ap (rule_at made v) old.2 ∙ ap (rule_at made v) (same_Some old.0 x (sym old.1 ∙ at_x)))
 
-  pub sound_given : (made : List Modification) (find : RuleIdentity → Option ℕ) (last changes : ℕ) → AreConsistent made xs find last changes → AreConsistent made zs find last changes
-  sound_given made find last changes sound = record {
+  pub sound_given : (made : List Modification) (last changes : ℕ) → AreConsistent made xs last changes → AreConsistent made zs last changes
+  sound_given made last changes sound = record {
     fits = sound.fits;
     in_order = λ i j s t at bt lt.
         let a = was i s at in
@@ -149,16 +149,10 @@ module _ (picked : ℕ → StoredRule → Bool) (n : ℕ) (log new : List Giving
       ended = λ i gone s at ends. let a = was i s at in sound.lives.ended i gone a.0 a.1 (sym (ap (λ (y : StoredRule). y.gone) a.2) ∙ ends);
     };
     made = sound.made;
-    found = record {
-      live = λ i s at on.
-          let a = was i s at in
-          ap (λ (y : StoredRule). find (identity_of y.rule)) a.2 ∙ sound.found.live i a.0 a.1 (sym (ap (λ (y : StoredRule). y.gone) a.2) ∙ on);
-      there = λ q i is. let within : i < length xs = sound.found.there q i is in let same : length zs ≡ length xs = given.count in omega arith;
-      own = λ q i s is at.
-          let a = was i s at in
-          let its = sound.found.own q i a.0 is a.1 in
-          (ap (λ (y : StoredRule). y.gone) a.2 ∙ its.0, ap (λ (y : StoredRule). is_same_identity q (identity_of y.rule)) a.2 ∙ its.1);
-    };
+    apart =
+        apart_alike xs zs (λ i z at.
+        let a = was i z at in
+        (a.0, a.1, ap (λ (y : StoredRule). y.rule) a.2, ap (λ (y : StoredRule). y.gone) a.2)) sound.apart;
     few_changes = sound.few_changes;
   }
 

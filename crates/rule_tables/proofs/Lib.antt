@@ -13,13 +13,13 @@ mod Finds
 mod GivingLog
 mod GivingSteps
 pub mod Histories
-mod Identities
 mod Led
 mod Lives
 mod Logged
 mod Modified
 mod Numbered
 mod Orders
+mod Placed
 mod Reordered
 mod Rows
 mod Seen

@@ -5,12 +5,11 @@ use Rattle.std.proofs.lemmas.List.{take_all, take-append-le}
 use Rattle.spec_tables.specs.Rules as tables
 use Rattle.spec_tables.specs.Edits.{Edit}
 use Rattle.rule_tables.specs.declared.givings.GivingLog.{GivingLog}
-use Rattle.rule_tables.specs.declared.identity.RuleIdentity.{RuleIdentity}
 use Rattle.rule_tables.specs.declared.stored.Modification.{Modification}
 use Rattle.rule_tables.specs.declared.stored.StoredRule.{StoredRule}
 use Rattle.rule_tables.specs.History.{EditHistory, edited_by, states_to}
 use Rattle.rule_tables.specs.Givings.{logged, most_givings, AreLedTo, IsLogOf, IsLog, IsLogged}
-use Rattle.rule_tables.specs.Stored.{is_modify, is_picked_by, acts_on, rules_at, ended_by, with_end, stored_numbered, AreMade, AreFound, AreConsistent}
+use Rattle.rule_tables.specs.Stored.{is_modify, is_picked_by, acts_on, rules_at, ended_by, with_end, stored_numbered, AreMade, AreConsistent}
 use Rattle.rule_tables.proofs.FilterMaps.{slice_get-take}
 use Rattle.rule_tables.proofs.GivingSteps.{given_moved}
 use Rattle.rule_tables.proofs.Histories.{same_states}
@@ -67,16 +66,14 @@ module _ (log : GivingLog) (made : List Modification) (last : ℕ) (all : AreMad
     led = led_with_end log.givings.items (logged log made) last logged_made xs old gone zs after on becomes is.led;
   }
 
-  pub log_added : (find : RuleIdentity → Option ℕ) → AreFound xs find
-      → (identity : RuleIdentity) (old : Option ℕ) → old ≡ find identity
+  pub log_added : (old : Option ℕ) → ((i : ℕ) (x : StoredRule) → old ≡ Some i → slice_get xs i ≡ Some x → x.gone ≡ None)
       → (s : StoredRule) → s.gone ≡ None → s.given ≡ None → last < s.rule.number
       → (zs : List StoredRule) → zs ≡ with_end old s.rule.number (xs ++ s ∷ []) → IsLog log made zs
-  log_added find found identity old old_is s on none late zs becomes = record {
+  log_added old old_on s on none late zs becomes = record {
     few = is.few;
     within = is.within;
     led =
-        led_added log.givings.items (logged log made) last logged_made xs find found
-        identity old old_is s on none late zs becomes is.led;
+        led_added log.givings.items (logged log made) last logged_made xs old old_on s on none late zs becomes is.led;
   }
 
 -- ---- a modification is made
@@ -98,13 +95,13 @@ logged_moved e n k log new stored from now to same_place same becomes (inr (behi
 module _ (log new : GivingLog) (made : List Modification) (m : Modification) (xs zs : List StoredRule)
     (given : IsLogged m.edit (length made) log new xs zs) where
   -- what is stored stays consistent
-  sound_else : (all : List Modification) (find : RuleIdentity → Option ℕ) (last changes : ℕ)
-      → AreConsistent all xs find last changes → AreConsistent all zs find last changes
-  sound_else all find last changes sound =
+  sound_else : (all : List Modification) (last changes : ℕ)
+      → AreConsistent all xs last changes → AreConsistent all zs last changes
+  sound_else all last changes sound =
       elim given [
         | inl (_, _, _, each) ↦
-            sound_given (λ i. acts_on m.edit) (length made) log.givings.items new.givings.items xs zs each all find last changes sound
-        | inr (_, _, _, stays) ↦ subst (λ (stored : List StoredRule). AreConsistent all stored find last changes) (sym stays) sound
+            sound_given (λ i. acts_on m.edit) (length made) log.givings.items new.givings.items xs zs each all last changes sound
+        | inr (_, _, _, stays) ↦ subst (λ (stored : List StoredRule). AreConsistent all stored last changes) (sym stays) sound
       ]
 
   -- and the modifications make the same of it
@@ -115,7 +112,7 @@ module _ (log new : GivingLog) (made : List Modification) (m : Modification) (xs
         | inr (_, _, _, stays) ↦ ap (rules_at all v) stays
       ]
 
-  module _ (find : RuleIdentity → Option ℕ) (last changes : ℕ) (sound : AreConsistent made xs find last changes)
+  module _ (last changes : ℕ) (sound : AreConsistent made xs last changes)
       (is : IsLog log made xs) (its_number : m.number ≡ last + 1) where
     within : log.modifications ≤ length made
     within = is.within
@@ -151,12 +148,12 @@ module _ (log new : GivingLog) (made : List Modification) (m : Modification) (xs
     -- what one more modification makes
     pub sound_modifying : last + 1 < 2 ^ 32 → is_modify m.edit.word ≡ true
         → (count : ℕ) → count ≡ count_by (is_picked_by m.edit.word m.edit) (rules_at made last xs)
-        → AreConsistent (made ++ m ∷ []) zs find m.number (changes + count) × IsLog new (made ++ m ∷ []) zs
+        → AreConsistent (made ++ m ∷ []) zs m.number (changes + count) × IsLog new (made ++ m ∷ []) zs
         × (record { states = states_to m.number (λ v. rules_at (made ++ m ∷ []) v zs); changes = changes + count }
         ≡ edited_by m.edit (record { states = states_to last (λ v. rules_at made v xs); changes = changes }))
     sound_modifying room modifies count counted =
-        let done = sound_modified made xs find last changes sound m room modifies its_number count counted in (
-          sound_else (made ++ m ∷ []) find m.number (changes + count) done.0,
+        let done = sound_modified made xs last changes sound m room modifies its_number count counted in (
+          sound_else (made ++ m ∷ []) m.number (changes + count) done.0,
           log_made,
           ap (λ (states : List (List tables.Rule)). let h : EditHistory = record { states = states; changes = changes + count } in h)
               (same_states m.number (λ v. rules_at (made ++ m ∷ []) v xs) (λ v. rules_at (made ++ m ∷ []) v zs)

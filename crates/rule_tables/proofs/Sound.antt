@@ -1,6 +1,6 @@
 -- What holds of the store, at first and after each edit that adds no rule.
-use Rattle.std.proofs.Common.{◌≡◌, ℕ, ◌+◌, ◌*◌, ◌^◌, ◌≤◌, ◌<◌, Bool, true, false, cond, List, [], ◌∷◌, ◌++◌, length, map, Option, None, refl, sym, ap, ap₂, ◌∙◌, subst, arith, inl, inr, lit<, lit≤, zero-add, add-zero}
-use Rattle.std.specs.Prelude.{count_by, is_some}
+use Rattle.std.proofs.Common.{◌≡◌, ℕ, ◌+◌, ◌*◌, ◌^◌, ◌≤◌, ◌<◌, Bool, true, false, cond, List, [], ◌∷◌, ◌++◌, length, map, refl, sym, ap, ap₂, ◌∙◌, subst, arith, inl, inr, lit<, lit≤, zero-add, add-zero}
+use Rattle.std.specs.Prelude.{count_by}
 use Rattle.std.proofs.lemmas.Bool.{cases_Bool, false≢true, cond-false}
 use Rattle.std.proofs.lemmas.List.Sums.{count_by-le-length}
 use Rattle.std.proofs.lemmas.Option.{none-some}
@@ -8,46 +8,35 @@ use Rattle.spec_tables.specs.declared.edit_word.EditWord.{EditWord}
 use Rattle.spec_tables.specs.declared.edit_word.EditWord.TheVariants.{Add, Modify, ModifyStrict, Delete, DeleteStrict}
 use Rattle.spec_tables.specs.Rules as tables
 use Rattle.spec_tables.specs.Edits.{Edit, edited, modified, with_actions, without}
-use Rattle.rule_tables.specs.declared.identity.RuleIdentity.{RuleIdentity}
 use Rattle.rule_tables.specs.declared.stored.Modification.{Modification}
 use Rattle.rule_tables.specs.declared.stored.StoredRule.{StoredRule}
 use Rattle.spec_tables.specs.Changes.{changes_by}
 use Rattle.rule_tables.specs.History.{EditHistory, edited_by, states_to}
-use Rattle.rule_tables.specs.Stored.{is_modify, is_picked_by, acts_on, rules_at, ended_by, with_end, is_same_identity, AreInOrder, AreNumbered, AreLives, AreMade, AreFound, AreConsistent}
+use Rattle.rule_tables.specs.Stored.{is_modify, is_picked_by, acts_on, rules_at, ended_by, AreInOrder, AreNumbered, AreLives, AreMade, AreApart, AreConsistent}
 use Rattle.rule_tables.proofs.Counts.{count_by-cons}
 use Rattle.rule_tables.proofs.FilterMaps.{push_cases}
 use Rattle.rule_tables.proofs.Histories.{pushed}
 use Rattle.rule_tables.proofs.Endings.{rules_before_ends, numbered_ends, in_order_ends, lives_ends, rules_ended, count_picked}
-use Rattle.rule_tables.proofs.Finds.{RespectsIdentities, IsNamed, found_moved, found_with_end, ended_as_named, count_named}
+use Rattle.rule_tables.proofs.Finds.{apart_ended}
 use Rattle.rule_tables.proofs.Lives.{length_within}
 use Rattle.rule_tables.proofs.Modified.{rules_before_modification, rules_modified, rules_next}
 
--- the same modifications and rules, found by the same identities
-pub sound_moved : (made now : List Modification) (xs zs : List StoredRule) (find find' : RuleIdentity → Option ℕ) (last changes : ℕ) → now ≡ made → zs ≡ xs
-    → ((q : RuleIdentity) → find' q ≡ find q) → AreConsistent made xs find last changes → AreConsistent now zs find' last changes
-sound_moved made now xs zs find find' last changes as_made same alike sound =
-    subst (λ (all : List Modification). AreConsistent all zs find' last changes) (sym as_made)
-    (subst (λ (stored : List StoredRule). AreConsistent made stored find' last changes) (sym same) (record {
-      fits = sound.fits;
-      in_order = sound.in_order;
-      numbered = sound.numbered;
-      lives = sound.lives;
-      made = sound.made;
-      found = found_moved xs xs find find' refl alike sound.found;
-      few_changes = sound.few_changes;
-    }))
+-- the same modifications and rules
+pub sound_moved : (made now : List Modification) (xs zs : List StoredRule) (last changes : ℕ) → now ≡ made → zs ≡ xs → AreConsistent made xs last changes → AreConsistent now zs last changes
+sound_moved made now xs zs last changes as_made same sound =
+    subst (λ (all : List Modification). AreConsistent all zs last changes) (sym as_made)
+    (subst (λ (stored : List StoredRule). AreConsistent made stored last changes) (sym same) sound)
 
 -- no rules
-pub sound_at_first : (made : List Modification) (xs : List StoredRule) (find : RuleIdentity → Option ℕ) → made ≡ [] → xs ≡ [] → ((q : RuleIdentity) → find q ≡ None)
-    → AreConsistent made xs find 0 0
-sound_at_first made xs find no_modifications none nothing =
-    sound_moved [] made [] xs (λ _. None) find 0 0 no_modifications none nothing (record {
+pub sound_at_first : (made : List Modification) (xs : List StoredRule) → made ≡ [] → xs ≡ [] → AreConsistent made xs 0 0
+sound_at_first made xs no_modifications none =
+    sound_moved [] made [] xs 0 0 no_modifications none (record {
       fits = lit< tt;
       in_order = λ i j s t at. absurd (none-some s at);
       numbered = λ i s at. absurd (none-some s at);
       lives = record { begun = λ i gone s at. absurd (none-some s at); ended = λ i gone s at. absurd (none-some s at) };
       made = λ i m at. absurd (none-some m at);
-      found = record { live = λ i s at. absurd (none-some s at); there = λ q i is. absurd (none-some i is); own = λ q i s is. absurd (none-some i is) };
+      apart = λ e i j s t at. absurd (none-some s at);
       few_changes = lit≤ tt;
     })
 
@@ -81,15 +70,15 @@ modified_as ModifyStrict is n e rules = (refl, refl)
 modified_as Delete is n e rules = absurd (false≢true is)
 modified_as DeleteStrict is n e rules = absurd (false≢true is)
 
-pub sound_modified : (made : List Modification) (xs : List StoredRule) (find : RuleIdentity → Option ℕ) (last changes : ℕ) → AreConsistent made xs find last changes
+pub sound_modified : (made : List Modification) (xs : List StoredRule) (last changes : ℕ) → AreConsistent made xs last changes
     → (m : Modification) → last + 1 < 2 ^ 32 → is_modify m.edit.word ≡ true → m.number ≡ last + 1
     → (count : ℕ) → count ≡ count_by (is_picked_by m.edit.word m.edit) (rules_at made last xs)
-    → AreConsistent (made ++ m ∷ []) xs find m.number (changes + count)
+    → AreConsistent (made ++ m ∷ []) xs m.number (changes + count)
     × (record { states = states_to m.number (λ v. rules_at (made ++ m ∷ []) v xs); changes = changes + count }
     ≡ edited_by m.edit (record { states = states_to last (λ v. rules_at made v xs); changes = changes }))
-sound_modified made xs find last changes sound m room modifies its_number count counted =
+sound_modified made xs last changes sound m room modifies its_number count counted =
     let shape = modified_as m.edit.word modifies (last + 1) m.edit (rules_at made last xs) in (
-      subst (λ (n : ℕ). AreConsistent (made ++ m ∷ []) xs find n (changes + count)) (sym its_number) (record {
+      subst (λ (n : ℕ). AreConsistent (made ++ m ∷ []) xs n (changes + count)) (sym its_number) (record {
         fits = room;
         in_order = sound.in_order;
         numbered = numbered_next xs last sound.numbered;
@@ -99,7 +88,7 @@ sound_modified made xs find last changes sound m room modifies its_number count 
               | inl earlier ↦ let le : n.number ≤ last = sound.made i n earlier in omega arith
               | inr (latest, is) ↦ let now : n.number ≡ last + 1 = ap (λ (k : Modification). k.number) is ∙ its_number in omega arith
             ];
-        found = sound.found;
+        apart = sound.apart;
         few_changes =
             let so_far : changes ≤ 2 ^ 32 * last = sound.few_changes in
             let few : count_by (acts_on m.edit) xs ≤ last = few_picked made xs last m.edit sound.numbered in
@@ -127,12 +116,12 @@ modified_none p e (r ∷ rules) none =
           ap₂ (λ (x : tables.Rule) (xs : List tables.Rule). x ∷ xs) (cond-false (p r) (with_actions e r) r fails) (modified_none p e rules rest)
     ]
 
-pub sound_idle : (made : List Modification) (xs : List StoredRule) (find : RuleIdentity → Option ℕ) (last changes : ℕ) → AreConsistent made xs find last changes
+pub sound_idle : (made : List Modification) (xs : List StoredRule) (last changes : ℕ) → AreConsistent made xs last changes
     → (e : Edit) → last + 1 < 2 ^ 32 → is_modify e.word ≡ true → count_by (is_picked_by e.word e) (rules_at made last xs) ≡ 0
-    → AreConsistent made xs find (last + 1) changes
+    → AreConsistent made xs (last + 1) changes
     × (record { states = states_to (last + 1) (λ v. rules_at made v xs); changes = changes }
     ≡ edited_by e (record { states = states_to last (λ v. rules_at made v xs); changes = changes }))
-sound_idle made xs find last changes sound e room modifies none =
+sound_idle made xs last changes sound e room modifies none =
     let shape = modified_as e.word modifies (last + 1) e (rules_at made last xs) in (
       record {
         fits = room;
@@ -140,7 +129,7 @@ sound_idle made xs find last changes sound e room modifies none =
         numbered = numbered_next xs last sound.numbered;
         lives = lives_next xs last sound.lives;
         made = made_next made last sound.made;
-        found = sound.found;
+        apart = sound.apart;
         few_changes = let so_far : changes ≤ 2 ^ 32 * last = sound.few_changes in omega arith;
       },
       pushed last (λ v. rules_at made v xs) (λ v. rules_at made v xs) changes changes e (λ v le. refl)
@@ -166,13 +155,13 @@ deleted_as ModifyStrict is n e rules = absurd (false≢true is)
 deleted_as Delete is n e rules = (refl, refl)
 deleted_as DeleteStrict is n e rules = (refl, refl)
 
-pub sound_deleted : (made : List Modification) (xs : List StoredRule) (find find' : RuleIdentity → Option ℕ) (last changes : ℕ) → AreConsistent made xs find last changes
-    → (e : Edit) → last + 1 < 2 ^ 32 → is_delete e.word ≡ true → (zs : List StoredRule) → zs ≡ map (ended_by e (last + 1)) xs → AreFound zs find'
+pub sound_deleted : (made : List Modification) (xs : List StoredRule) (last changes : ℕ) → AreConsistent made xs last changes
+    → (e : Edit) → last + 1 < 2 ^ 32 → is_delete e.word ≡ true → (zs : List StoredRule) → zs ≡ map (ended_by e (last + 1)) xs
     → (count : ℕ) → count ≡ count_by (acts_on e) xs
-    → AreConsistent made zs find' (last + 1) (changes + count)
+    → AreConsistent made zs (last + 1) (changes + count)
     × (record { states = states_to (last + 1) (λ v. rules_at made v zs); changes = changes + count }
     ≡ edited_by e (record { states = states_to last (λ v. rules_at made v xs); changes = changes }))
-sound_deleted made xs find find' last changes sound e room deletes zs is found count counted =
+sound_deleted made xs last changes sound e room deletes zs is count counted =
     let shape = deleted_as e.word deletes (last + 1) e (rules_at made last xs) in (
       record {
         fits = room;
@@ -180,7 +169,7 @@ sound_deleted made xs find find' last changes sound e room deletes zs is found c
         numbered = subst (λ (stored : List StoredRule). AreNumbered stored (last + 1)) (sym is) (numbered_next (map (ended_by e (last + 1)) xs) last (numbered_ends made xs last e sound.numbered sound.lives));
         lives = subst (λ (stored : List StoredRule). AreLives stored (last + 1)) (sym is) (lives_ends made xs last e sound.numbered sound.lives);
         made = made_next made last sound.made;
-        found = found;
+        apart = subst (λ (stored : List StoredRule). AreApart stored) (sym is) (apart_ended e (last + 1) xs sound.apart);
         few_changes =
             let so_far : changes ≤ 2 ^ 32 * last = sound.few_changes in
             let few : count_by (acts_on e) xs ≤ last = few_picked made xs last e sound.numbered in
@@ -191,17 +180,3 @@ sound_deleted made xs find find' last changes sound e room deletes zs is found c
           (ap (rules_at made (last + 1)) is ∙ rules_ended made xs last e sound.numbered sound.lives sound.made ∙ sym shape.0)
           (ap (λ (n : ℕ). changes + n) (counted ∙ sym (count_picked made xs last e sound.numbered sound.lives) ∙ sym shape.1)),
     )
-
--- of the rule that is named
-pub sound_deleted_strict : (made : List Modification) (xs : List StoredRule) (find find' : RuleIdentity → Option ℕ) (last changes : ℕ) → AreConsistent made xs find last changes
-    → RespectsIdentities find → (e : Edit) → last + 1 < 2 ^ 32 → e.word ≡ DeleteStrict → (identity : RuleIdentity) → IsNamed e identity
-    → (old : Option ℕ) → old ≡ find identity → ((q : RuleIdentity) → find' q ≡ cond (is_same_identity identity q) None (find q))
-    → (zs : List StoredRule) → zs ≡ with_end old (last + 1) xs → (count : ℕ) → count ≡ cond (is_some old) 1 0
-    → AreConsistent made zs find' (last + 1) (changes + count)
-    × (record { states = states_to (last + 1) (λ v. rules_at made v zs); changes = changes + count }
-    ≡ edited_by e (record { states = states_to last (λ v. rules_at made v xs); changes = changes }))
-sound_deleted_strict made xs find find' last changes sound respects e room word identity named old is removed zs becomes count counted =
-    sound_deleted made xs find find' last changes sound e room (ap is_delete word) zs
-    (becomes ∙ ended_as_named xs find sound.found respects e identity named old (last + 1) is)
-    (found_moved (with_end old (last + 1) xs) zs find' find' becomes (λ q. refl) (found_with_end xs find sound.found respects identity find' removed old (last + 1) is))
-    count (counted ∙ sym (count_named xs find sound.found respects e identity named old is))

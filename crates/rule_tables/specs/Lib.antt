@@ -8,6 +8,7 @@ pub mod Ends
 pub mod Givings
 pub mod History
 pub mod Included
+pub mod RulePlaces
 pub mod Signed
 pub mod Stored
 pub mod Versions

@@ -1,14 +1,12 @@
 -- Stored rules: after how many edits they are live, and what they are then.
-use Rattle.std.specs.Prelude.{◌≡◌, ℕ, zero, suc, ◌*◌, ◌<◌, ◌≤◌, ◌^◌, Bool, ◌&&◌, ◌==◌, true, false, not, nat_lt, nat_le, is_some, if◌then◌else◌, List, [], ◌∷◌, length, map, slice_get, Option, Some, None, unwrap_or}
+use Rattle.std.specs.Prelude.{◌≡◌, ℕ, zero, suc, ◌*◌, ◌<◌, ◌≤◌, ◌^◌, Bool, ◌&&◌, ◌==◌, true, false, not, nat_lt, nat_le, is_some, if◌then◌else◌, List, [], ◌∷◌, map, slice_get, Option, Some, None, unwrap_or}
 use Rattle.std.specs.List.{find, filter_map, fold}
 use Rattle.std.specs.Option.{option_map_or}
 use Rattle.spec_actions.specs.declared.action.OfAction.{OfAction}
 use Rattle.spec_tables.specs.declared.edit_word.EditWord.{EditWord}
 use Rattle.spec_tables.specs.declared.edit_word.EditWord.TheVariants.{Add, Modify, ModifyStrict, Delete, DeleteStrict}
 use Rattle.spec_tables.specs.Rules as tables
-use Rattle.spec_tables.specs.Rules.{is_same_match}
 use Rattle.spec_tables.specs.Edits.{Edit, is_named_by, is_reached_by}
-use Rattle.rule_tables.specs.declared.identity.RuleIdentity.{RuleIdentity}
 use Rattle.rule_tables.specs.declared.rule.Rule.{Rule}
 use Rattle.rule_tables.specs.declared.stored.Modification.{Modification}
 use Rattle.rule_tables.specs.declared.stored.StoredRule.{StoredRule}
@@ -46,6 +44,10 @@ IsWanted wanted e = (r : Rule) → picks e r ≡ true → includes (signature_in
 -- whether an edit acts on a stored rule: one that is live after the last edit so far, and that it picks
 abbrev pub acts_on : Edit → StoredRule → Bool
 acts_on e s = not (is_some s.gone) && picks e s.rule
+
+-- whether an edit names a rule that is live then: one of exactly its table, priority and match
+abbrev pub names : Edit → StoredRule → Bool
+names e s = not (is_some s.gone) && is_named_by e (rule_view s.rule [])
 
 -- ---- modifications
 
@@ -122,16 +124,6 @@ with_end (Some place) gone stored = ended place gone stored
 abbrev pub ended_by : Edit → ℕ → StoredRule → StoredRule
 ended_by e gone s = if acts_on e s then record s { gone = Some gone } else s
 
--- ---- identities
-
--- what tells a rule from the others that are live with it
-abbrev pub identity_of : Rule → RuleIdentity
-identity_of r = record { table = r.table; priority = r.priority; matching = r.matching }
-
--- what the equality of identities tests
-abbrev pub is_same_identity : RuleIdentity → RuleIdentity → Bool
-is_same_identity a b = (a.table == b.table) && ((a.priority == b.priority) && is_same_match (match_view a.matching) (match_view b.matching))
-
 -- ---- the store
 
 -- the signatures of stored rules, in their order
@@ -156,20 +148,18 @@ pub record AreLives (stored : List StoredRule) (last : ℕ) : Type 0 where
 abbrev pub AreMade : List Modification → ℕ → Type 0
 AreMade modifications last = (i : ℕ) (m : Modification) → slice_get modifications i ≡ Some m → m.number ≤ last
 
--- By each identity the place of the live rule that has it is found, and no other.
-pub record AreFound (stored : List StoredRule) (find : RuleIdentity → Option ℕ) : Type 0 where
-  pub live : (i : ℕ) (s : StoredRule) → slice_get stored i ≡ Some s → s.gone ≡ None → find (identity_of s.rule) ≡ Some i
-  pub there : (identity : RuleIdentity) (i : ℕ) → find identity ≡ Some i → i < length stored
-  pub own : (identity : RuleIdentity) (i : ℕ) (s : StoredRule) → find identity ≡ Some i → slice_get stored i ≡ Some s
-      → (s.gone ≡ None) × (is_same_identity identity (identity_of s.rule) ≡ true)
+-- No edit names two rules that are live.
+abbrev pub AreApart : List StoredRule → Type 0
+AreApart stored =
+    (e : Edit) (i j : ℕ) (s t : StoredRule) → slice_get stored i ≡ Some s → slice_get stored j ≡ Some t → names e s ≡ true → names e t ≡ true → i ≡ j
 
--- The modifications, the stored rules, the place that is found by each identity, the last edit and the count of changes
--- are consistent: an edit changes no more rules than there are numbers.
-pub record AreConsistent (modifications : List Modification) (stored : List StoredRule) (find : RuleIdentity → Option ℕ) (last changes : ℕ) : Type 0 where
+-- The modifications, the stored rules, the last edit and the count of changes are consistent: an edit changes no more rules
+-- than there are numbers.
+pub record AreConsistent (modifications : List Modification) (stored : List StoredRule) (last changes : ℕ) : Type 0 where
   pub fits : last < 2 ^ 32
   pub in_order : AreInOrder stored
   pub numbered : AreNumbered stored last
   pub lives : AreLives stored last
   pub made : AreMade modifications last
-  pub found : AreFound stored find
+  pub apart : AreApart stored
   pub few_changes : changes ≤ 2 ^ 32 * last

@@ -78,7 +78,7 @@ impl Edit {
     }
 
     /// Whether a rule has the edit's table, priority and match.
-    fn names(&self, rule: &Rule) -> bool
+    pub(crate) fn names(&self, rule: &Rule) -> bool
         ensures { result ≡ is_named_by self.now (rule_view rule.now []) }
     {
         rule.table == self.table.unwrap_or(0)

@@ -14,7 +14,7 @@ use crate::changes::Change;
 use crate::edit::Edit;
 use crate::ending::Ending;
 use crate::givings::{GivingLog, actions_in, cookie_in};
-use crate::identity::RuleIdentity;
+use crate::places::RulePlaces;
 use crate::rule::Rule;
 use crate::search::{find_live, stored_at, winner_of};
 use crate::signatures::Signature;
@@ -23,7 +23,6 @@ use ovs_fields::Key;
 use spec_actions::OfAction;
 use spec_tables::EditWord;
 use std::alloc::{AllocError, Global};
-use std::collections::HashMap;
 use std::marker::Model;
 
 /// The rules after each edit that was applied, those of none before the first included.
@@ -35,8 +34,8 @@ pub(crate) struct EditedRules {
     modifications: Vec<Modification>,
     /// What each rule was given of them.
     log: GivingLog,
-    /// The place among the rules of the live rule of each identity.
-    places: HashMap<RuleIdentity, u32>,
+    /// The places among them of those that are live.
+    places: RulePlaces,
     /// The lives that ended, in the order of the edits that ended them.
     ends: Vec<Ending>,
     /// The signature of each rule's match, in the same order, by which loose words pass most rules over.
@@ -73,7 +72,7 @@ impl EditedRules {
             rules: Vec::new(alloc),
             modifications: Vec::new(alloc),
             log: GivingLog::new(alloc),
-            places: HashMap::new(alloc),
+            places: RulePlaces::new(alloc),
             ends: Vec::new(alloc),
             signatures: Vec::new(alloc),
             last: 0,
@@ -228,7 +227,7 @@ impl EditedRules {
         }
     }
 
-    /// Adds the rule of an edit, and ends the life of the one whose identity it has.
+    /// Adds the rule of an edit, and ends the life of the one that it names.
     fn add(&mut self, edit: Edit)
         requires add { edit.word ≡ Add }
         requires few { applied self.old.history + 1 < 2 ^ 32 }
@@ -239,11 +238,11 @@ impl EditedRules {
     {
         let place = self.rules.len() as u32;
         let number = self.last + 1;
+        let replaced = self.places.find(&self.rules, &edit);
+        self.places.remove_at(&self.rules, replaced);
         let stored = StoredRule::new(number, edit);
         let signature = Signature::of(&stored.rule.matching.key, &stored.rule.matching.mask);
-        let Ok(replaced) = self.places.insert(RuleIdentity::of(&stored.rule), place) else {
-            unreachable!()
-        };
+        self.places.insert(&stored.rule, place);
         self.rules.push_reserved(stored);
         self.signatures.push_reserved(signature);
         end_rule(&mut self.rules, &mut self.ends, replaced, number);
@@ -310,20 +309,21 @@ impl EditedRules {
         ensures modifies { self.old.modifies ≤ self.new.modifies }
     {
         let number = self.last + 1;
-        let place = self.places.remove(&RuleIdentity::named_by(edit));
+        let place = self.places.find(&self.rules, edit);
+        self.places.remove_at(&self.rules, place);
         end_rule(&mut self.rules, &mut self.ends, place, number);
         self.last = number;
         self.changes += u64::from(place.is_some());
     }
 
-    /// On how many rules an edit acts. Of a strict word it is known from the map of identities.
+    /// On how many rules an edit acts. A strict word acts on the one that it names.
     fn count(&self, edit: &Edit) -> usize
         requires { is_modify edit.now.word ≡ true }
         ensures { result ≡ count_by (is_picked_by edit.now.word edit.now) (rules_after self.now.history (applied self.now.history)) }
     {
         match edit.word {
             EditWord::Modify => count_acted_on(&self.rules, edit, &self.signatures),
-            _ => usize::from(self.places.contains_key(&RuleIdentity::named_by(edit))),
+            _ => usize::from(self.places.find(&self.rules, edit).is_some()),
         }
     }
 }

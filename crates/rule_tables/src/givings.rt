@@ -1,18 +1,17 @@
 ghost use Rattle.std.specs.Prelude.{◌≡◌, ◌+◌, ◌<◌, ◌≤◌, true, Some, is_some, if◌then◌else◌, [], ◌∷◌, ◌++◌, length, count_by, vec_len, vec_capacity};
 ghost use Rattle.std.specs.List.{fold};
 ghost use Rattle.std.specs.Option.{option_map, ForSome};
-ghost use Rattle.std.specs.HashMap.{get};
-ghost use Rattle.rule_tables.specs.Stored.{is_modify, acts_on, actions_in, cookie_in, last_given, given_cookie, later_given, is_alive, is_same_identity, signatures_in, AreFound};
+ghost use Rattle.rule_tables.specs.Stored.{is_modify, acts_on, actions_in, cookie_in, last_given, given_cookie, later_given, is_alive, signatures_in, AreApart};
+ghost use Rattle.rule_tables.specs.RulePlaces.{ArePlaced};
 ghost use Rattle.rule_tables.specs.Givings.{is_place, most_givings, IsLedTo, AreGiven, IsLogOf, IsLogged};
 
 use crate::edit::Edit;
-use crate::identity::RuleIdentity;
+use crate::places::RulePlaces;
 use crate::signatures::Signature;
 use crate::stored::{Modification, StoredRule};
 use spec_actions::OfAction;
 use spec_tables::EditWord;
 use std::alloc::Global;
-use std::collections::HashMap;
 
 /// The most givings of a log, which take 24 MB. A bundle can make many times as many before anyone counts.
 const MOST_GIVINGS: usize = 1_048_576;
@@ -52,14 +51,15 @@ impl GivingLog {
     pub(crate) fn give(
         &mut self,
         rules: &mut [StoredRule],
-        places: &HashMap<RuleIdentity, u32>,
+        places: &RulePlaces,
         edit: &Edit,
         others: &[Modification],
         count: usize,
         signatures: &[Signature],
     )
         requires modify { is_modify edit.now.word ≡ true }
-        requires found { AreFound rules.old (λ q. get is_same_identity places.now q) }
+        requires placed { ArePlaced places.now rules.old }
+        requires apart { AreApart rules.old }
         requires count { count ≡ count_by (acts_on edit.now) rules.old }
         requires few { vec_len self.old.givings ≤ most_givings }
         requires signed { signatures.now ≡ signatures_in rules.old }
@@ -222,14 +222,15 @@ fn later_given<'a>(
 /// Gives a modification to the rules that its edit acts on. There is room in the log for as many.
 pub(crate) fn give_modification(
     rules: &mut [StoredRule],
-    places: &HashMap<RuleIdentity, u32>,
+    places: &RulePlaces,
     givings: &mut Vec<Giving>,
     edit: &Edit,
     modification: usize,
     signatures: &[Signature],
 )
     requires modify { is_modify edit.now.word ≡ true }
-    requires found { AreFound rules.old (λ q. get is_same_identity places.now q) }
+    requires placed { ArePlaced places.now rules.old }
+    requires apart { AreApart rules.old }
     requires room { vec_len givings.old + count_by (acts_on edit.now) rules.old ≤ vec_capacity givings.old }
     requires signed { signatures.now ≡ signatures_in rules.old }
     ensures given { AreGiven (λ i. acts_on edit.now) modification givings.old.items givings.new.items
@@ -239,7 +240,7 @@ pub(crate) fn give_modification(
     match edit.word {
         EditWord::Modify => give_to_each(rules, givings, edit, modification, signatures),
         _ => {
-            let place = places.get(&RuleIdentity::named_by(edit)).copied();
+            let place = places.find(rules, edit);
             give_to(rules, givings, place, modification);
         }
     }

@@ -41,8 +41,8 @@
 //! Each end of a life is logged as well (`ending`), in the order of the edits: the place of the rule and the number of
 //! the edit that ended its life. So what a bundle changed is told by two stretches, whose bounds are found by binary
 //! search: the stored rules that its edits added, of which those count that are live after it, and the lives that its
-//! edits ended, of which those count that began before it (`changes`). Nothing is copied, and no identity and no match
-//! is looked up. The log takes its memory with the rules, since each life ends once; so an end takes none.
+//! edits ended, of which those count that began before it (`changes`). Nothing is copied, and no match is looked up. The
+//! log takes its memory with the rules, since each life ends once; so an end takes none.
 //!
 //! Each modify is kept once as well, as a *modification*: its number and its edit. That a rule was given one is a
 //! *giving* in a log: which modification it is, and where the giving before it of the same rule stands. A rule leads to
@@ -56,16 +56,17 @@
 //! All that an edit writes is of its own number, and what is answered for fewer edits doesn't see it: an end of a life
 //! and a modification come after them, and so does the number of a new rule.
 //!
-//! Which rule an add replaces and which one a strict word names is looked up in a hash map, from the rule's *identity*
-//! (the table, the priority and the match) to the place of the live rule that has it. The mask is hashed with the key,
-//! since routes to nested networks share their key.
+//! Which rule an add replaces and which one a strict word names is looked up by a hash of its table, its priority and its
+//! match, of 64 bits (`places`). The mask is hashed with the key, since routes to nested networks share their key. A map
+//! leads from the hash to the place of a live rule, and what the edit names is compared with that rule itself: so no match
+//! is kept twice. Where live rules share a hash, which hardly ever happens by chance, the map leads to the one that came
+//! last, and the places of the others stand in a list, which is searched after it.
 //!
-//! On which rules a loose word acts is no question of one identity. It passes over the signatures of the matches of all
-//! stored rules (`signatures`), which stand side by side, and only those rules are tested whose signature includes that
-//! of the edit.
+//! On which rules a loose word acts no hash tells. It passes over the signatures of the matches of all stored rules
+//! (`signatures`), which stand side by side, and only those rules are tested whose signature includes that of the edit.
 //!
 //! `apply` takes all memory of a bundle before it changes anything: copies of the edits, and room for a rule, its
-//! signature, its end and an entry of the map for each add, for a modification for each modify, and for the bundle.
+//! signature, its end and its place for each add, for a modification for each modify, and for the bundle.
 //! From there on nothing can fail. Only the log takes its memory later: on how many rules a modify acts is known once
 //! the edits before it were applied, and a bound beforehand could be too large by far. So each modify takes it in its
 //! turn. Where it is refused the log ends, and no answer changes; so nothing is undone, and no call fails for want of
@@ -74,7 +75,8 @@
 //! # What it costs
 //!
 //! - An add or a strict word takes the same time whatever rules there are, but for the growth of the tables, which
-//!   double.
+//!   double, and for one test of each live rule that came before another of its hash. The hash isn't secret: rules can be
+//!   made that share it, which costs that time and nothing else.
 //! - A loose delete passes once over the signatures of the stored rules, and a loose modify twice: it counts, and then
 //!   gives. A signature is 16 bytes. It tests the rules that it reaches, and of the others, also of those that are
 //!   gone, the few whose signature includes its own; of one that is gone it reads the end of its life alone.
@@ -83,8 +85,9 @@
 //!   modification of which the log doesn't tell. `scan` tests each stored rule.
 //! - `change` takes two binary searches each over the stored rules and the ends, and then the time of what the bundle
 //!   added and ended.
-//! - A rule takes 416 bytes, 16 more for its signature, 8 for its end and 336 for its identity in the map, a
-//!   modification takes 400, besides their actions, and a bundle takes 4.
+//! - A rule takes 416 bytes, 16 more for its signature and 8 for its end, a modification takes 400, besides their actions,
+//!   and a bundle takes 4. A live rule takes 12 more, for its hash and its place, and 15 by which the map finds these. The
+//!   list of the other places has room for the adds of the largest bundle, at 4 each.
 //! - A giving takes 24. There are no more of them than changes, but thousands of loose modifies of thousands of rules
 //!   would make them by the square, in one bundle too. So the log ends where it would have more than 1,048,576.
 //!
@@ -101,8 +104,8 @@ mod edit;
 mod edited;
 mod ending;
 mod givings;
-mod identity;
 mod matching;
+mod places;
 mod rule;
 mod search;
 pub mod signatures;

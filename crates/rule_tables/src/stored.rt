@@ -1,17 +1,16 @@
 ghost use Rattle.std.specs.Prelude.{◌≡◌, ◌<◌, ◌≤◌, ◌^◌, length, map, count_by, None, vec_len, vec_capacity};
 ghost use Rattle.std.specs.Option.{ForSome};
-ghost use Rattle.std.specs.HashMap.{get, spare};
 ghost use Rattle.rule_tables.specs.Ends.{with_ending, AreEnds};
+ghost use Rattle.rule_tables.specs.RulePlaces.{room_in, ArePlaced};
 ghost use Rattle.rule_tables.specs.Signed.{signature_in};
-ghost use Rattle.rule_tables.specs.Stored.{acts_on, ended_by, with_end, is_same_identity, signatures_in, AreFound, IsWanted};
+ghost use Rattle.rule_tables.specs.Stored.{acts_on, ended_by, with_end, signatures_in, IsWanted};
 
 use crate::actions::Actions;
 use crate::edit::Edit;
 use crate::ending::Ending;
-use crate::identity::RuleIdentity;
+use crate::places::RulePlaces;
 use crate::rule::Rule;
 use crate::signatures::Signature;
-use std::collections::HashMap;
 
 /// What a modify made: after it the rules that its edit picks have the actions of the edit, and its cookie where it has
 /// one.
@@ -131,17 +130,17 @@ pub(crate) fn end_rule(
     }
 }
 
-/// Ends the lives of the rules that an edit acts on, logs that, takes their identities out of the map, and answers how
-/// many they are. There is room for the ends of all lives.
+/// Ends the lives of the rules that an edit acts on, logs that, gives up their places, and answers how many they are. There
+/// is room for the ends of all lives.
 pub(crate) fn end_rules(
     rules: &mut [StoredRule],
-    places: &mut HashMap<RuleIdentity, u32>,
+    places: &mut RulePlaces,
     ends: &mut Vec<Ending>,
     edit: &Edit,
     gone: u32,
     signatures: &[Signature],
 ) -> usize
-    requires found { AreFound rules.old (λ q. get is_same_identity places.old q) }
+    requires placed { ArePlaced places.old rules.old }
     requires signed { signatures.now ≡ signatures_in rules.old }
     requires ended { AreEnds ends.old.items rules.old gone }
     requires few { length rules.old < 2 ^ 32 }
@@ -149,8 +148,8 @@ pub(crate) fn end_rules(
     ensures rules { rules.new ≡ map (ended_by edit.now gone) rules.old }
     ensures ended { AreEnds ends.new.items rules.new gone }
     ensures capacity { vec_capacity ends.new ≡ vec_capacity ends.old }
-    ensures found { AreFound rules.new (λ q. get is_same_identity places.new q) }
-    ensures spare { spare places.old ≤ spare places.new }
+    ensures placed { ArePlaced places.new rules.new }
+    ensures spare { room_in places.old ≤ room_in places.new }
     ensures count { result ≡ count_by (acts_on edit.now) rules.old }
 {
     let wanted = edit.wanted();
@@ -158,7 +157,7 @@ pub(crate) fn end_rules(
     let mut place = 0;
     'rules: for stored in rules.iter_mut() {
         if stored.is_found(&signatures[place], edit, &wanted) {
-            places.remove(&RuleIdentity::of(&stored.rule));
+            places.remove(&stored.rule, place as u32);
             stored.gone = Some(gone);
             ends.push_reserved(Ending {
                 place: place as u32,

@@ -1,14 +1,13 @@
 use Rattle.std.proofs.Common.{◌≡◌, ℕ, ◌+◌, ◌*◌, ◌^◌, ◌≤◌, ◌<◌, length, map, take, drop, ◌++◌, refl, sym, ap, ◌∙◌, subst, arith}
 use Rattle.std.specs.Prelude.{count_by}
-use Rattle.std.specs.HashMap.{get}
 use Rattle.rule_tables.specs.Edited.{Edited}
 use Rattle.rule_tables.specs.History.{applied, edited_by}
-use Rattle.rule_tables.specs.Stored.{acts_on, ended_by, is_same_identity, signatures_in}
+use Rattle.rule_tables.specs.Stored.{acts_on, ended_by, signatures_in}
 use Rattle.rule_tables.proofs.EndLaws.{ends_later, ends_moved}
 use Rattle.rule_tables.proofs.Ends.{written}
-use Rattle.rule_tables.proofs.Finds.{found_moved}
 use Rattle.rule_tables.proofs.Lives.{length_within}
 use Rattle.rule_tables.proofs.Logged.{log_ended}
+use Rattle.rule_tables.proofs.Placed.{placed_moved}
 use Rattle.rule_tables.proofs.Seen.{seen_applied}
 use Rattle.rule_tables.proofs.Sound.{is_delete, few_picked, sound_deleted}
 use Rattle.rule_tables.proofs.SignedLaws.{signatures_ended}
@@ -20,8 +19,8 @@ overflow_add-number c =
     let room : c.self.inside.last + 1 < 2 ^ 32 = subst (λ (n : ℕ). n + 1 < 2 ^ 32) applied_is c.requires.few in
     grind (arith, room)
 
-pub end_rules-count-requires-clause-found : goal.end_rules-count-requires-clause-found
-end_rules-count-requires-clause-found c = found_moved c.self.inside.rules.items c.deref_mut.result.now _ _ c.deref_mut.ensures.value (λ q. refl) c.self.invariant.consistent.found
+pub end_rules-count-requires-clause-placed : goal.end_rules-count-requires-clause-placed
+end_rules-count-requires-clause-placed c = placed_moved c.self.inside.places _ c.self.inside.rules.items c.deref_mut.result.now refl c.deref_mut.ensures.value c.self.invariant.placed
 
 pub end_rules-count-requires-clause-signed : goal.end_rules-count-requires-clause-signed
 end_rules-count-requires-clause-signed c = c.deref.ensures.value ∙ c.self.invariant.signed ∙ sym (ap signatures_in c.deref_mut.ensures.value)
@@ -59,17 +58,17 @@ invariant_of-self c =
     let applied_is : applied c.args.self.now.history ≡ c.self.inside.last = seen_applied c.self.inside.modifications.items c.self.inside.rules.items c.self.inside.rules.items c.self.inside.last c.self.inside.changes c.args.self.now.history refl (ap (λ (s : Edited). s.history) c.self.view_is) in
     let room : c.self.inside.last + 1 < 2 ^ 32 = subst (λ (n : ℕ). n + 1 < 2 ^ 32) applied_is c.requires.few in
     let done =
-    sound_deleted c.self.inside.modifications.items c.self.inside.rules.items (λ q. get is_same_identity c.self.inside.places q) (λ q. get is_same_identity c.end_rules-count.new.places q)
-    c.self.inside.last c.self.inside.changes c.self.invariant.consistent c.args.edit.now room (ap is_delete c.requires.delete)
+    sound_deleted c.self.inside.modifications.items c.self.inside.rules.items c.self.inside.last c.self.inside.changes c.self.invariant.consistent c.args.edit.now room (ap is_delete c.requires.delete)
     (take c.self.inside.rules.len (c.end_rules-count.new.rules ++ drop (length c.end_rules-count.new.rules) c.self.inside.rules.items))
     (written c.self.inside.rules.len c.end_rules-count.new.rules c.self.inside.rules.items (omega arith) ∙ c.end_rules-count.ensures.rules ∙ ap (map (ended_by c.args.edit.now (c.self.inside.last + 1))) c.deref_mut.ensures.value)
-    (found_moved c.end_rules-count.new.rules _ _ _ (written c.self.inside.rules.len c.end_rules-count.new.rules c.self.inside.rules.items (omega arith)) (λ q. refl) c.end_rules-count.ensures.found)
     c.end_rules-count.result (c.end_rules-count.ensures.count ∙ ap (count_by (acts_on c.args.edit.now)) c.deref_mut.ensures.value) in
     record {
       consistent = done.0;
       log =
           log_ended c.self.inside.log c.self.inside.modifications.items c.self.inside.last c.self.invariant.consistent.made c.self.inside.rules.items c.self.invariant.log c.args.edit.now (c.self.inside.last + 1) _ (omega arith)
           (written c.self.inside.rules.len c.end_rules-count.new.rules c.self.inside.rules.items (omega arith) ∙ c.end_rules-count.ensures.rules ∙ ap (map (ended_by c.args.edit.now (c.self.inside.last + 1))) c.deref_mut.ensures.value);
+      placed =
+          placed_moved c.end_rules-count.new.places _ c.end_rules-count.new.rules _ refl (written c.self.inside.rules.len c.end_rules-count.new.rules c.self.inside.rules.items (omega arith)) c.end_rules-count.ensures.placed;
       signed =
           c.self.invariant.signed
           ∙ sym (ap signatures_in (written c.self.inside.rules.len c.end_rules-count.new.rules c.self.inside.rules.items (omega arith) ∙ c.end_rules-count.ensures.rules)
@@ -85,10 +84,8 @@ returns-clause-edited c =
     let applied_is : applied c.args.self.now.history ≡ c.self.inside.last = seen_applied c.self.inside.modifications.items c.self.inside.rules.items c.self.inside.rules.items c.self.inside.last c.self.inside.changes c.args.self.now.history refl (ap (λ (s : Edited). s.history) c.self.view_is) in
     let room : c.self.inside.last + 1 < 2 ^ 32 = subst (λ (n : ℕ). n + 1 < 2 ^ 32) applied_is c.requires.few in
     let done =
-    sound_deleted c.self.inside.modifications.items c.self.inside.rules.items (λ q. get is_same_identity c.self.inside.places q) (λ q. get is_same_identity c.end_rules-count.new.places q)
-    c.self.inside.last c.self.inside.changes c.self.invariant.consistent c.args.edit.now room (ap is_delete c.requires.delete)
+    sound_deleted c.self.inside.modifications.items c.self.inside.rules.items c.self.inside.last c.self.inside.changes c.self.invariant.consistent c.args.edit.now room (ap is_delete c.requires.delete)
     (take c.self.inside.rules.len (c.end_rules-count.new.rules ++ drop (length c.end_rules-count.new.rules) c.self.inside.rules.items))
     (written c.self.inside.rules.len c.end_rules-count.new.rules c.self.inside.rules.items (omega arith) ∙ c.end_rules-count.ensures.rules ∙ ap (map (ended_by c.args.edit.now (c.self.inside.last + 1))) c.deref_mut.ensures.value)
-    (found_moved c.end_rules-count.new.rules _ _ _ (written c.self.inside.rules.len c.end_rules-count.new.rules c.self.inside.rules.items (omega arith)) (λ q. refl) c.end_rules-count.ensures.found)
     c.end_rules-count.result (c.end_rules-count.ensures.count ∙ ap (count_by (acts_on c.args.edit.now)) c.deref_mut.ensures.value) in
     done.1 ∙ ap (edited_by c.args.edit.now) (ap (λ (s : Edited). s.history) c.self.view_is)

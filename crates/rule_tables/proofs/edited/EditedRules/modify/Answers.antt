@@ -1,16 +1,15 @@
 use Rattle.std.proofs.Common.{◌≡◌, ℕ, ◌+◌, ◌-◌, ◌*◌, ◌^◌, ◌≤◌, ◌<◌, List, [], ◌∷◌, ◌++◌, length, take, drop, refl, sym, ap, ◌∙◌, subst, arith, vec_len, vec_capacity}
 use Rattle.std.specs.Prelude.{count_by}
-use Rattle.std.specs.HashMap.{get}
 use Rattle.rule_tables.specs.declared.stored.Modification.{Modification}
 use Rattle.rule_tables.specs.declared.stored.StoredRule.{StoredRule}
 use Rattle.rule_tables.specs.Edited.{Edited}
 use Rattle.rule_tables.specs.History.{applied, edited_by}
-use Rattle.rule_tables.specs.Stored.{is_picked_by, acts_on, rules_at, is_same_identity, signatures_in}
+use Rattle.rule_tables.specs.Stored.{is_picked_by, acts_on, rules_at, signatures_in, AreApart}
 use Rattle.rule_tables.proofs.Endings.{count_picked}
 use Rattle.rule_tables.proofs.EndLaws.{ends_later, ends_moved, ends_logged}
 use Rattle.rule_tables.proofs.Ends.{written}
-use Rattle.rule_tables.proofs.Finds.{found_moved}
 use Rattle.rule_tables.proofs.Logged.{log_moved, logged_moved, sound_modifying}
+use Rattle.rule_tables.proofs.Placed.{placed_moved, index_logged}
 use Rattle.rule_tables.proofs.Seen.{seen_applied, seen_last, same_history}
 use Rattle.rule_tables.proofs.Sound.{few_picked, sound_moved, sound_idle}
 use Rattle.rule_tables.proofs.SignedLaws.{signatures_logged}
@@ -29,11 +28,12 @@ invariant_of-self c =
     let counted : c.count-count.result ≡ count_by (is_picked_by c.args.edit.word c.args.edit) (rules_at c.self.inside.modifications.items c.self.inside.last c.self.inside.rules.items) =
     c.count-count.ensures ∙ sym (ap (count_by (is_picked_by c.args.edit.word c.args.edit)) (seen_last c.self.inside.modifications.items c.self.inside.rules.items c.self.inside.rules.items c.self.inside.last c.self.inside.changes c.args.self.now.history refl (ap (λ (s : Edited). s.history) c.self.view_is))) in
     let done =
-    sound_idle c.self.inside.modifications.items c.self.inside.rules.items (λ q. get is_same_identity c.self.inside.places q) c.self.inside.last c.self.inside.changes c.self.invariant.consistent c.args.edit room c.requires.modify
+    sound_idle c.self.inside.modifications.items c.self.inside.rules.items c.self.inside.last c.self.inside.changes c.self.invariant.consistent c.args.edit room c.requires.modify
     (sym counted ∙ c.if-count-eq0.true) in
     record {
       consistent = done.0;
       log = c.self.invariant.log;
+      placed = c.self.invariant.placed;
       signed = c.self.invariant.signed;
       ends = ends_later c.self.inside.ends.items c.self.inside.rules.items c.self.inside.last (c.self.inside.last + 1) (omega arith) c.self.invariant.ends;
       room = c.self.invariant.room;
@@ -46,7 +46,7 @@ returns-then-count-eq0-clause-edited c =
     let counted : c.count-count.result ≡ count_by (is_picked_by c.args.edit.word c.args.edit) (rules_at c.self.inside.modifications.items c.self.inside.last c.self.inside.rules.items) =
     c.count-count.ensures ∙ sym (ap (count_by (is_picked_by c.args.edit.word c.args.edit)) (seen_last c.self.inside.modifications.items c.self.inside.rules.items c.self.inside.rules.items c.self.inside.last c.self.inside.changes c.args.self.now.history refl (ap (λ (s : Edited). s.history) c.self.view_is))) in
     let done =
-    sound_idle c.self.inside.modifications.items c.self.inside.rules.items (λ q. get is_same_identity c.self.inside.places q) c.self.inside.last c.self.inside.changes c.self.invariant.consistent c.args.edit room c.requires.modify
+    sound_idle c.self.inside.modifications.items c.self.inside.rules.items c.self.inside.last c.self.inside.changes c.self.invariant.consistent c.args.edit room c.requires.modify
     (sym counted ∙ c.if-count-eq0.true) in
     done.1 ∙ ap (edited_by c.args.edit) (ap (λ (s : Edited). s.history) c.self.view_is)
 
@@ -61,7 +61,8 @@ give-requires c =
     c.count-count.ensures ∙ sym (ap (count_by (is_picked_by c.args.edit.word c.args.edit)) (seen_last c.self.inside.modifications.items c.self.inside.rules.items c.self.inside.rules.items c.self.inside.last c.self.inside.changes c.args.self.now.history refl (ap (λ (s : Edited). s.history) c.self.view_is))) in
     record {
       modify = c.requires.modify;
-      found = found_moved c.self.inside.rules.items c.deref_mut.result.now _ _ c.deref_mut.ensures.value (λ q. refl) c.self.invariant.consistent.found;
+      placed = placed_moved c.self.inside.places _ c.self.inside.rules.items c.deref_mut.result.now refl c.deref_mut.ensures.value c.self.invariant.placed;
+      apart = subst (λ (stored : List StoredRule). AreApart stored) (sym c.deref_mut.ensures.value) c.self.invariant.consistent.apart;
       count =
           counted ∙ count_picked c.self.inside.modifications.items c.self.inside.rules.items c.self.inside.last c.args.edit c.self.invariant.consistent.numbered c.self.invariant.consistent.lives
           ∙ sym (ap (count_by (acts_on c.args.edit)) c.deref_mut.ensures.value);
@@ -93,11 +94,15 @@ invariant_of-self-2 c =
     sound_modifying c.self.inside.log c.give.new.self c.self.inside.modifications.items m c.self.inside.rules.items zs
     (logged_moved c.args.edit _ (length c.self.inside.modifications.items) c.self.inside.log c.give.new.self c.deref_mut.result.now c.self.inside.rules.items c.give.new.rules zs
     (sym (ap length c.deref.ensures.value)) (sym c.deref_mut.ensures.value) (written c.self.inside.rules.len c.give.new.rules c.self.inside.rules.items (omega arith)) c.give.ensures)
-    (λ q. get is_same_identity c.self.inside.places q) c.self.inside.last c.self.inside.changes c.self.invariant.consistent c.self.invariant.log refl
+    c.self.inside.last c.self.inside.changes c.self.invariant.consistent c.self.invariant.log refl
     room c.requires.modify c.count-count.result counted in
     record {
-      consistent = sound_moved (c.self.inside.modifications.items ++ m ∷ []) c.push_reserved.new.self.items zs zs _ _ _ _ c.push_reserved.ensures.items refl (λ q. refl) done.0;
+      consistent = sound_moved (c.self.inside.modifications.items ++ m ∷ []) c.push_reserved.new.self.items zs zs _ _ c.push_reserved.ensures.items refl done.0;
       log = log_moved c.give.new.self (c.self.inside.modifications.items ++ m ∷ []) c.push_reserved.new.self.items zs zs c.push_reserved.ensures.items refl done.1;
+      placed =
+          placed_moved c.self.inside.places c.self.inside.places c.give.new.rules zs refl (written c.self.inside.rules.len c.give.new.rules c.self.inside.rules.items (omega arith))
+          (index_logged c.args.edit _ c.self.inside.log c.give.new.self c.deref_mut.result.now c.give.new.rules _ _ c.give.ensures
+          (placed_moved c.self.inside.places c.self.inside.places c.self.inside.rules.items c.deref_mut.result.now refl c.deref_mut.ensures.value c.self.invariant.placed));
       signed =
           c.self.invariant.signed
           ∙ sym (ap signatures_in (written c.self.inside.rules.len c.give.new.rules c.self.inside.rules.items (omega arith))
@@ -122,7 +127,7 @@ returns-clause-edited c =
     sound_modifying c.self.inside.log c.give.new.self c.self.inside.modifications.items m c.self.inside.rules.items zs
     (logged_moved c.args.edit _ (length c.self.inside.modifications.items) c.self.inside.log c.give.new.self c.deref_mut.result.now c.self.inside.rules.items c.give.new.rules zs
     (sym (ap length c.deref.ensures.value)) (sym c.deref_mut.ensures.value) (written c.self.inside.rules.len c.give.new.rules c.self.inside.rules.items (omega arith)) c.give.ensures)
-    (λ q. get is_same_identity c.self.inside.places q) c.self.inside.last c.self.inside.changes c.self.invariant.consistent c.self.invariant.log refl
+    c.self.inside.last c.self.inside.changes c.self.invariant.consistent c.self.invariant.log refl
     room c.requires.modify c.count-count.result counted in
     same_history (c.self.inside.modifications.items ++ m ∷ []) c.push_reserved.new.self.items zs zs (c.self.inside.last + 1) (c.self.inside.changes + c.count-count.result)
     _ c.push_reserved.ensures.items refl
