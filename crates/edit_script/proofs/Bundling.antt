@@ -2,11 +2,11 @@
 use Rattle.std.proofs.Common.{◌≡◌, ℕ, suc, ◌+◌, List, [], ◌∷◌, ◌++◌, length, take, Some, None, Option, refl, sym, ap, ◌∙◌, arith, length-append, take_all}
 use Rattle.std.proofs.Math.ListN.{drop_of_length-le}
 use Rattle.std.proofs.Math.Seq.{get_or-append_seam}
-use Rattle.std.proofs.lemmas.List.{take-append-le, drop-append-le, take-append-drop}
+use Rattle.std.proofs.lemmas.List.{take-append-le, drop-append-le, take-append-drop, length-take-le, length-drop}
 use Rattle.spec_tables.specs.Edits.{Edit}
 use Rattle.spec_tables.specs.Bundles.{edits_through}
-use Rattle.rule_tables.specs.History.{History, no_bundles, bundled_by, history_of}
-use Rattle.rule_tables.proofs.Histories.{history-none, history-bundled}
+use Rattle.rule_tables.specs.History.{History, applied, no_bundles, bundled_by, history_of}
+use Rattle.rule_tables.proofs.Histories.{history-none, history-bundled, applied-edit_history}
 use Rattle.edit_script.specs.Made.{AreRules, Keeps}
 use Rattle.edit_script.proofs.Changes.{changes_grow}
 
@@ -61,3 +61,10 @@ nothing_kept rules none = record {
   made = (none ∙ history-none, omega (arith, ap (λ (h : History). h.edits.changes) history-none));
   are_pending = refl;
 }
+
+-- the edits that were applied, and those that are pending, are all
+pub applied_so_far : (edits pending : List Edit) (bundles : List ℕ) (rules : History) → Keeps edits bundles (Some rules) pending → applied rules.edits + length pending ≡ length edits
+applied_so_far edits pending bundles rules k =
+    let through : ℕ = edits_through bundles (length bundles) in
+    let made : applied rules.edits ≡ length (take through edits) = ap (λ (h : History). applied h.edits) k.made.0 ∙ applied-edit_history (take through edits) in
+    omega (arith, made, length-take-le through edits k.within, ap length k.are_pending, length-drop through edits, k.within)

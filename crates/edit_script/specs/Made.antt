@@ -1,5 +1,6 @@
 -- What edits make, and what is kept of them while they are read.
-use Rattle.std.specs.Prelude.{◌≡◌, ℕ, ◌<◌, ◌≤◌, List, length, take, drop, Option, MatchOption}
+use Rattle.std.specs.Prelude.{◌≡◌, ℕ, ◌<◌, ◌≤◌, List, length, take, drop, Option, MatchOption, Box}
+use Rattle.std.specs.Option.{option_map}
 use Rattle.spec_tables.specs.Edits.{Edit}
 use Rattle.spec_tables.specs.Bundles.{edits_through}
 use Rattle.spec_run.specs.Limits.{most_changes}
@@ -15,3 +16,7 @@ pub record Keeps (edits : List Edit) (bundles : List ℕ) (rules : Option Histor
   pub within : edits_through bundles (length bundles) ≤ length edits
   pub made : AreRules (take (edits_through bundles (length bundles)) edits) bundles rules
   pub are_pending : pending ≡ drop (edits_through bundles (length bundles)) edits
+
+-- rules that stand in a box
+abbrev pub unboxed : {A : Type 0} → Option (Box History A) → Option History
+unboxed made = option_map (λ b. b.value) made

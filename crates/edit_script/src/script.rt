@@ -14,7 +14,7 @@ ghost use Rattle.spec_tables.specs.Edits.{Edit as SpecEdit, has_sound_actions};
 ghost use Rattle.rule_tables.specs.History.{applied};
 ghost use Rattle.edit_script.specs.Begun.{begun_view};
 ghost use Rattle.edit_script.specs.Kept.{AreKept};
-ghost use Rattle.edit_script.specs.Made.{AreRules};
+ghost use Rattle.edit_script.specs.Made.{AreRules, unboxed};
 ghost use Rattle.edit_script.specs.ScriptViews.{kept_view, reading_view, read_view};
 ghost use Rattle.edit_script.specs.WellFormed.{IsWellFormed};
 
@@ -62,8 +62,9 @@ pub struct ReadEdits {
 #[derive(Drop)]
 struct Kept {
     said: Script,
-    /// The rules that the bundles so far make, or none where they change more than they may.
-    rules: Option<VersionedRules>,
+    /// The rules that the bundles so far make, or none where they change more than they may. They stand in a box, since
+    /// what is kept is handed on with each line.
+    rules: Option<Box<VersionedRules>>,
     /// The edits since the last bundle.
     pending: Vec<Edit>,
 }
@@ -100,11 +101,11 @@ fn word_in_line(number: u32, may_stand: bool, line: &[u8]) -> Result<u32, FileFa
 
 // Makes the next version of the rules by a bundle, if there are any. Where it changes more than it may, there are none
 // from then on.
-fn apply_bundle(rules: &mut Option<VersionedRules>, bundle: &[Edit]) -> Result<(), AllocError>
+fn apply_bundle(rules: &mut Option<Box<VersionedRules>>, bundle: &[Edit]) -> Result<(), AllocError>
     requires some { 0 < length bundle.now }
-    requires few { ForSome rules.old (λ all. applied all.edits + length bundle.now < 2 ^ 32) }
-    ensures { OnOk result ((edits : List SpecEdit) (bundles : List ℕ) → AreRules edits bundles rules.old
-        → AreRules (edits ++ bundle.now) (bundles ++ (length edits + length bundle.now) ∷ []) rules.new) }
+    requires few { ForSome (unboxed rules.old) (λ all. applied all.edits + length bundle.now < 2 ^ 32) }
+    ensures { OnOk result ((edits : List SpecEdit) (bundles : List ℕ) → AreRules edits bundles (unboxed rules.old)
+        → AreRules (edits ++ bundle.now) (bundles ++ (length edits + length bundle.now) ∷ []) (unboxed rules.new)) }
 {
     let Some(all) = rules else {
         return Ok(());
@@ -274,23 +275,34 @@ impl LineReader for ScriptReader {
 }
 
 // What no line says.
-fn nothing_read(alloc: Global) -> Reading
-    ensures view { reading_view result ≡ scripts.nothing_read }
-    ensures formed { IsWellFormed (reading_view result) }
-    ensures kept { AreKept result.kept }
+fn nothing_read(alloc: Global) -> Result<Reading, AllocError>
+    ensures view { IfOk result (λ r. reading_view r ≡ scripts.nothing_read) }
+    ensures formed { IfOk result (λ r. IsWellFormed (reading_view r)) }
+    ensures kept { IfOk result (λ r. AreKept r.kept) }
 {
     let said = Script {
         edits: Vec::new(alloc),
         bundles: Vec::new(alloc),
         syncs: Vec::new(alloc),
     };
-    Reading {
+    let rules = Box::new(alloc, VersionedRules::new(alloc))?;
+    Ok(Reading {
         kept: Kept {
             said,
-            rules: Some(VersionedRules::new(alloc)),
+            rules: Some(rules),
             pending: Vec::new(alloc),
         },
         begun: None,
+    })
+}
+
+// Rules out of their box.
+fn out_of_box(rules: Option<Box<VersionedRules>>) -> Option<VersionedRules>
+    ensures { result ≡ unboxed rules }
+{
+    match rules {
+        None => None,
+        Some(rules) => Some(Box::into_inner(rules)),
     }
 }
 
@@ -320,11 +332,11 @@ pub fn read_script(alloc: Global, bytes: &[u8]) -> Result<ReadEdits, FileFault>
         (λ r. AreInOrder (read_view r).syncs (length (read_view r).bundles)) }
     ensures bundles { IfOk result (λ r. AreBundles (read_view r).bundles (length (read_view r).edits)) }
 {
-    let reading = read_lines(&ScriptReader { alloc }, bytes, nothing_read(alloc))?;
+    let reading = read_lines(&ScriptReader { alloc }, bytes, nothing_read(alloc)?)?;
     match reading.begun {
         None => Ok(ReadEdits {
             script: reading.kept.said,
-            rules: reading.kept.rules,
+            rules: out_of_box(reading.kept.rules),
         }),
         Some(begun) => Err(left_open(begun)),
     }

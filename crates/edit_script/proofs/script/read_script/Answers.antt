@@ -13,4 +13,4 @@ returns-in-None-clause-bundles c =
 pub returns-in-None-clause-rules : goal.returns-in-None-clause-rules
 returns-in-None-clause-rules c =
     let s = kept_view c.in_ok-reading.reading.kept in
-    all_made s.edits s.bundles _ _ c.in_ok-reading.ensures.kept.1 (c.in_ok-reading.ensures.kept.0.whole (ap begun_view c.in-None.is))
+    rw c.out_of_box.ensures (all_made s.edits s.bundles _ _ c.in_ok-reading.ensures.kept.1 (c.in_ok-reading.ensures.kept.0.whole (ap begun_view c.in-None.is)))
