@@ -8,8 +8,6 @@ use Rattle.spec_tables.specs.Rules.{Rule}
 use Rattle.spec_tables.specs.Edits.{Edit, rule_of, with_actions, modified, without, is_named_by, is_reached_by, edited, after_edit, after_edits, has_sound_actions}
 use Rattle.spec_tables.specs.Bundles.{edits_through, version}
 use Rattle.spec_tables.specs.Live.{rule_numbered}
-use Rattle.rule_tables.specs.History.{rules_of, history_of}
-use Rattle.rule_tables.proofs.Histories.{rules_of-history}
 use Rattle.pipe_model.specs.Runnable.{IsAmong, AreRunnable, is_sound_rule}
 use Rattle.pipe_model.proofs.Rising.{Rise, rise_after_edits}
 
@@ -82,8 +80,3 @@ runnable-after_edits edits n all = record {
 
 pub runnable-version : (edits : List Edit) (bundles : List ℕ) (v : ℕ) → IsTrue (list_all has_sound_actions edits) → AreRunnable (version edits bundles v)
 runnable-version edits bundles v all = runnable-after_edits edits (edits_through bundles v) all
-
--- those of a history of these edits
-pub runnable-history : (edits : List Edit) (bundles : List ℕ) (v : ℕ) → edits_through bundles v ≤ length edits → IsTrue (list_all has_sound_actions edits)
-    → AreRunnable (rules_of (history_of edits bundles) v)
-runnable-history edits bundles v made all = subst AreRunnable (sym (rules_of-history edits bundles v made)) (runnable-version edits bundles v all)

@@ -3,7 +3,6 @@ pub mod Modes
 pub mod Others
 pub mod Plains
 pub mod Runnable
-pub mod Scans
 pub mod States
 pub mod Winning
 pub mod Xlates

@@ -11,7 +11,7 @@ use crate::lists::{Plain, SpareLists};
 use crate::lookups::Lookups;
 use crate::translating::{DEEPEST, Translating};
 use ovs_fields::Key;
-use rule_tables::OfAction;
+use spec_actions::OfAction;
 use std::alloc::AllocError;
 
 /// What one action does. So many depths are left for the lookup that it may lead to.

@@ -8,7 +8,7 @@ ghost use Rattle.pipe_model.specs.Events.Event.{Looked, Acted};
 ghost use Rattle.pipe_model.specs.Winning.{IsWinner};
 
 use ovs_fields::Key;
-use rule_tables::OfAction;
+use spec_actions::OfAction;
 
 /// What a lookup found: the rule's number and its actions.
 #[derive(Clone, Copy)]

@@ -18,7 +18,7 @@ use named_fields::{
     slice_bits, write_bits, write_field,
 };
 use ovs_fields::{FieldId, Key};
-use rule_tables::OfAction;
+use spec_actions::OfAction;
 use std::alloc::AllocError;
 
 /// The depth of the deepest lookup, that of the first being 0. The limits are this profile's.

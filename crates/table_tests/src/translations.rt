@@ -6,10 +6,11 @@ ghost use Rattle.pipe_model.specs.Runnable.{AreRunnable};
 
 use dp_actions::{ActionList, DpAction, Visits};
 use ovs_fields::{FieldId, Key};
-use pipe_model::{Plain, SpareLists, Translating, plain};
+use pipe_model::{Plain, SpareLists, Translating};
 use rule_tables::{Actions, Edit, EditWord, Match, OfAction, VersionedRules};
 use std::alloc::{AllocError, Global};
 use std::test::Fail;
+use xlate_pipeline::plain;
 
 /// The ports; packets come in by the first one.
 static PORTS: [u16; 2] = [1, 2];

@@ -2,4 +2,5 @@ mod EventBits
 mod Needing
 mod PacketPart
 mod Placed
+pub mod RunnableVersions
 mod Soundness

@@ -1,3 +1,4 @@
 pub mod Parts
+pub mod Scans
 pub mod Steps
 pub mod Switches

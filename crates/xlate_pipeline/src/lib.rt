@@ -23,6 +23,9 @@
 //! The only error is out of memory, and then nothing is left behind. Where what is made fits in the lists that were handed
 //! in, no memory is taken.
 //!
+//! `plain` gives both lists alone: each lookup is a scan of the rules of a version, without a mask, a cache or an index. So
+//! it is what `translate` can be held against.
+//!
 //! # How
 //!
 //! The run is that of the plain interpreter, `pipe_model`'s `translate_by`, and its notes are a mask (`switch`): each lookup
@@ -53,9 +56,11 @@
 mod consulting;
 mod fields;
 mod registers;
+mod scanning;
 mod switch;
 mod translation;
 
 pub use consulting::consult;
 pub use registers::without_registers;
+pub use scanning::plain;
 pub use translation::translate;

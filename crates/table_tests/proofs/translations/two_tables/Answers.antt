@@ -4,7 +4,7 @@ use Rattle.spec_tables.specs.Edits.{Edit, has_sound_actions}
 use Rattle.rule_tables.specs.History.{History, rules_of, bundled_by, history_of}
 use Rattle.rule_tables.proofs.Histories.{history-none, history-bundled}
 use Rattle.pipe_model.specs.Runnable.{AreRunnable}
-use Rattle.pipe_model.proofs.Versions.{runnable-history}
+use Rattle.xlate_pipeline.proofs.RunnableVersions.{runnable-history}
 use Rattle.table_tests.proofs.translations.two_tables.Goals as goal
 
 pub returns-clause-runnable : goal.returns-clause-runnable

@@ -1,7 +1,7 @@
 use Rattle.std.proofs.Common.{◌≡◌, length, sym, subst, arith}
 use Rattle.rule_tables.specs.History.{History, newest, rules_of, history_of}
 use Rattle.pipe_model.specs.Runnable.{AreRunnable}
-use Rattle.pipe_model.proofs.Versions.{runnable-history}
+use Rattle.xlate_pipeline.proofs.RunnableVersions.{runnable-history}
 use Rattle.edit_script.specs.ScriptViews.{read_view}
 use Rattle.tool_layers.proofs.files.read_rules.Goals as goal
 

@@ -5,10 +5,8 @@ ghost use Rattle.rule_tables.specs.History.{newest, rules_of};
 ghost use Rattle.pipe_model.specs.Runnable.{AreRunnable};
 ghost use Rattle.pipe_model.specs.Plains.{translation_in};
 
-use crate::interpreter::translate_by;
-use crate::lists::{Plain, SpareLists};
-use crate::lookups::{Found, Lookups};
 use ovs_fields::Key;
+use pipe_model::{Found, Lookups, Plain, SpareLists, translate_by};
 use rule_tables::{OfAction, VersionedRules};
 use std::alloc::{AllocError, Global};
 
@@ -21,7 +19,7 @@ struct Scan<'a> {
 }
 
 impl Lookups for Scan<'_> {
-    ghost use Rattle.pipe_model.specs.Scans.{switch_in, CanScan};
+    ghost use Rattle.xlate_pipeline.specs.Scans.{switch_in, CanScan};
 
     type Notes = ();
 

@@ -2,7 +2,7 @@
 use Rattle.std.specs.Prelude.{◌≤◌}
 use Rattle.spec_xlate.specs.Translation as xlate
 use Rattle.rule_tables.specs.History.{newest, rules_of}
-use Rattle.pipe_model.specs.declared.scanning.Scan.{Scan}
+use Rattle.xlate_pipeline.specs.declared.scanning.Scan.{Scan}
 use Rattle.pipe_model.specs.Runnable.{AreRunnable}
 
 abbrev pub switch_in : Scan → xlate.Switch

@@ -5,7 +5,7 @@ use Rattle.spec_tables.specs.Rules.{Rule}
 use Rattle.ovs_fields.specs.Packed.{numbers}
 use Rattle.rule_tables.specs.History.{rules_of}
 use Rattle.pipe_model.proofs.Winners.{won_by_number}
-use Rattle.pipe_model.proofs.scanning.ScanLookups.find.Goals as goal
+use Rattle.xlate_pipeline.proofs.scanning.ScanLookups.find.Goals as goal
 
 pub actions-requires-clause-live : goal.actions-requires-clause-live
 actions-requires-clause-live c =
