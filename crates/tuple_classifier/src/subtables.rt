@@ -1,4 +1,4 @@
-ghost use Rattle.std.specs.Prelude.{◌≡◌, ◌<◌, [], ℕ, List, true, length, slice_get, Some, None, IfSome, IsNone, IfOk, OnOk, OnErr};
+ghost use Rattle.std.specs.Prelude.{◌≡◌, ◌<◌, [], ◌∷◌, ◌++◌, ℕ, List, true, length, slice_get, Some, None, IfSome, IsNone, IfOk, OnOk, OnErr};
 ghost use Rattle.indexmap.specs.IndexMap.{values, index_map_len, get_by};
 ghost use Rattle.spec_keys.specs.Keys.{same};
 ghost use Rattle.spec_tables.specs.Rules.{Rule};
@@ -103,9 +103,9 @@ impl Subtables {
         let Ok(place) = u32::try_from(self.by_mask.len()) else {
             return Err(AllocError);
         };
-        let subtable = one_rule(alloc, matching, rank)?;
         self.order.reserve(1)?;
-        self.by_mask.insert(matching.mask, subtable)?;
+        let subtable = one_rule(alloc, matching, rank)?;
+        add_subtable(&mut self.by_mask, &matching.mask, subtable)?;
         enter(&self.by_mask, &mut self.order, place);
         Ok(())
     }
@@ -156,6 +156,16 @@ fn one_rule(alloc: Global, matching: &Match, rank: Rank) -> Result<Subtable, All
     let mut subtable = Subtable::new(alloc, &matching.mask);
     subtable.insert(matching, rank)?;
     Ok(subtable)
+}
+
+/// Adds a subtable of a mask that none has. The only error is out of memory, and then they are as they were.
+fn add_subtable(by_mask: &mut ByMask, mask: &Mask, subtable: Subtable) -> Result<(), AllocError>
+    requires { get_by (λ m. same (bits mask.now) (bits m)) by_mask.old ≡ None }
+    ensures ok { OnOk result (by_mask.new.entries ≡ by_mask.old.entries ++ (mask.now, subtable) ∷ []) }
+    ensures err { OnErr result (by_mask.new.entries ≡ by_mask.old.entries) }
+{
+    by_mask.insert(*mask, subtable)?;
+    Ok(())
 }
 
 /// The place of the subtable of a mask.

@@ -1,8 +1,6 @@
 use Rattle.std.proofs.Common.{◌+◌, ◌∷◌, ◌++◌, [], length, subst, sym, ap, ◌∙◌, arith}
 use Rattle.indexmap.specs.IndexMap.{values}
-use Rattle.indexmap.proofs.CallerLemmas.{insert_entry-new}
 use Rattle.spec_keys.specs.Keys.{same}
-use Rattle.ovs_fields.specs.declared.mask.Mask.{Mask}
 use Rattle.ovs_fields.specs.Packed.{bits}
 use Rattle.tuple_classifier.specs.Numbers.{times}
 use Rattle.tuple_classifier.specs.Order.{IsFallingAlong}
@@ -17,16 +15,16 @@ enter-requires-clause-places c =
     let es = c.args.self.now.by_mask.entries in
     let m = c.args.matching.now.mask in
     let t = c.in_ok-subtable.subtable in
-    let more = c.in_ok-insert.ensures.entries ∙ insert_entry-new (λ (a b : Mask). same (bits a) (bits b)) c.args.self.now.by_mask m t c.requires.absent in
-    within_more es c.insert.new.self.entries m t more c.reserve.new.self.items (subst (IsOrderOf (length es)) (sym c.reserve.ensures.items) c.args.self.now.placed)
+    let more = c.in_ok-add_subtable.ensures.ok in
+    within_more es c.add_subtable.new.by_mask.entries m t more c.reserve.new.self.items (subst (IsOrderOf (length es)) (sym c.reserve.ensures.items) c.args.self.now.placed)
 
 pub invariant_of-self-2 : goal.invariant_of-self-2
 invariant_of-self-2 c =
     let es = c.args.self.now.by_mask.entries in
-    let new = c.insert.new.self.entries in
+    let new = c.add_subtable.new.by_mask.entries in
     let m = c.args.matching.now.mask in
     let t = c.in_ok-subtable.subtable in
-    let more = c.in_ok-insert.ensures.entries ∙ insert_entry-new (λ (a b : Mask). same (bits a) (bits b)) c.args.self.now.by_mask m t c.requires.absent in
+    let more = c.in_ok-add_subtable.ensures.ok in
     let order = c.args.self.now.order.items in
     record {
       keyed = keyed_more es new m t more (sym c.in_ok-subtable.ensures.mask_is) c.args.self.now.keyed;
@@ -36,15 +34,15 @@ invariant_of-self-2 c =
 pub returns-clause-ok : goal.returns-clause-ok
 returns-clause-ok c rs r are is of_rank =
     let es = c.args.self.now.by_mask.entries in
-    let new = c.insert.new.self.entries in
+    let new = c.add_subtable.new.by_mask.entries in
     let ss = values c.args.self.now.by_mask in
     let m = c.args.matching.now.mask in
     let t = c.in_ok-subtable.subtable in
     let one = c.in_ok-subtable.ensures in
-    let more = c.in_ok-insert.ensures.entries ∙ insert_entry-new (λ (a b : Mask). same (bits a) (bits b)) c.args.self.now.by_mask m t c.requires.absent in
+    let more = c.in_ok-add_subtable.ensures.ok in
     let order = c.args.self.now.order.items in
     record {
       subtables = rules_more es new m t more (rs ++ r ∷ [])
           (insert_at_end ss rs t r are.subtables (one.mask_is ∙ sym (ap (λ k. k.mask) is)) (λ j s at. ap (same (bits s.staged.mask)) (ap (λ k. k.mask) is) ∙ c.requires.none j s at) (one.has_one r is of_rank));
-      falling = c.enter.ensures.falling (subst (IsFallingAlong (values c.insert.new.self)) (sym c.reserve.ensures.items) (falls_more es new m t more order c.args.self.now.placed are.falling));
+      falling = c.enter.ensures.falling (subst (IsFallingAlong (values c.add_subtable.new.by_mask)) (sym c.reserve.ensures.items) (falls_more es new m t more order c.args.self.now.placed are.falling));
     }
