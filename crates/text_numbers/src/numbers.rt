@@ -1,7 +1,8 @@
-ghost use Rattle.std.specs.Prelude.{◌≡◌, ◌^◌, ◌<◌, ◌≤◌, ◌==◌, position, IfSome, length};
+ghost use Rattle.std.specs.Prelude.{◌≡◌, ◌^◌, ◌<◌, ◌≤◌, ◌==◌, ◌∷◌, [], position, IfSome, length};
 ghost use Rattle.std.specs.Option.{option_map};
 ghost use Rattle.std.specs.List.{list_all};
 ghost use Rattle.std.specs.Char.{is_digit};
+ghost use Rattle.spec_flow_text.specs.Characters.{colon};
 ghost use Rattle.spec_flow_text.specs.Numbers.{split_once, strip_prefix, are_digits, digits_upto, is_hexadecimal, has_leading_zero, decimal_upto, number_upto, last_port, nonzero, octet, octet_before_colon, mac};
 ghost use Rattle.text_numbers.specs.Digits.{number_of_digits};
 
@@ -187,14 +188,49 @@ fn read_octet(text: &[u8]) -> Option<u64>
     }
 }
 
+// The octet that two digits write.
+#[tactic(auto, using(crate::proofs::Octets::two_digits, crate::proofs::Octets::no_high_digit, crate::proofs::Octets::no_low_digit))]
+fn read_two_digits(high: u8, low: u8) -> Option<u64>
+    ensures value { result ≡ octet (high ∷ low ∷ []) }
+    ensures fits { IfSome result (λ n. n < 256) }
+{
+    let high = char::from(high).to_digit(16)?;
+    let low = char::from(low).to_digit(16)?;
+    Some(u64::from(high * 16 + low))
+}
+
+// Two bytes before a colon, and what stands after it.
+fn two_before_colon(text: &[u8]) -> Option<(u8, u8, &[u8])>
+    ensures { IfSome result (λ p. text.now ≡ p.0 ∷ p.1 ∷ colon ∷ p.2.now) }
+{
+    match text {
+        [high, low, b':', rest @ ..] => Some((*high, *low, rest)),
+        _ => None,
+    }
+}
+
+// An octet of however many digits before a colon.
 #[tactic(auto, unfolding(spec_flow_text::specs::Numbers::octet_before_colon))]
-fn read_octet_before_colon(text: &[u8]) -> Option<(u64, &[u8])>
+fn read_any_octet_before_colon(text: &[u8]) -> Option<(u64, &[u8])>
     ensures value { option_map (λ p. (p.0, p.1.now)) result ≡ octet_before_colon text.now }
     ensures fits { IfSome result (λ p. p.0 < 256) }
 {
     let (group, rest) = cut_at(text, b':')?;
     let n = read_octet(group)?;
     Some((n, rest))
+}
+
+// An octet before a colon. Mostly it has two digits, and then no colon is searched.
+fn read_octet_before_colon(text: &[u8]) -> Option<(u64, &[u8])>
+    ensures value { option_map (λ p. (p.0, p.1.now)) result ≡ octet_before_colon text.now }
+    ensures fits { IfSome result (λ p. p.0 < 256) }
+{
+    if let Some((high, low, rest)) = two_before_colon(text) {
+        if let Some(n) = read_two_digits(high, low) {
+            return Some((n, rest));
+        }
+    }
+    read_any_octet_before_colon(text)
 }
 
 /// An Ethernet address of 48 bits: six octets in hexadecimal, of one or two digits, with colons between them.

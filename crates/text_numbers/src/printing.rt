@@ -17,9 +17,13 @@ pub fn print_word(out: &mut String, word: &str) -> Result<(), AllocError>
 }
 
 /// Adds a number in decimal.
+#[tactic(auto, using(crate::proofs::DecimalDigits::one_digit))]
 pub fn print_decimal(out: &mut String, number: u128) -> Result<(), AllocError>
     ensures { Adds out.old out.new (decimal number) result }
 {
+    if number < 10 {
+        return print_digit(out, number as u32);
+    }
     let mut buffer = Buffer::new();
     out.push_str(buffer.format(number))
 }
