@@ -19,7 +19,8 @@
 //! # How
 //!
 //! Where blocks end is found in one walk along a trace, once. The block of a place is then a count over as many ends as
-//! there are blocks, and a port is found by going through the ports: there are few of both.
+//! there are blocks, and a port is found at the place of its number, or else by going through the ports: there are few of
+//! both.
 //!
 //! # What is left to others
 //!

@@ -163,6 +163,16 @@ impl<C: Case> RunData<C> {
         self.ends[self.place_of(port)].as_slice()
     }
 
+    // The trace of a port, and the ends of its blocks.
+    fn of_port(&self, port: u16) -> (&Trace, &[u32])
+        requires { HasPort C.run.ports port }
+        ensures frames { result.0.now.frames ≡ frames_of C.run port }
+        ensures ends { result.1.now ≡ block_ends C.run port }
+    {
+        let place = self.place_of(port);
+        (&self.traces[place], self.ends[place].as_slice())
+    }
+
     /// How many frames the trace of a port has. Each has at most 262,144 captured bytes.
     pub fn frames(&self, port: u16) -> u32
         requires { HasPort C.run.ports port }
@@ -226,14 +236,15 @@ impl<C: Case> RunData<C> {
         ensures port { result.port ≡ port }
         ensures place { result.place ≡ place }
     {
-        let frame = self.frame(port, place);
+        let (trace, ends) = self.of_port(port);
+        let frame = trace.frame(place);
         Keyed {
             port,
             place,
             key: key_of(port, frame),
             length: frame.len() as u32,
-            time: self.time(port, place),
-            block: block_of(self.block_ends(port), place),
+            time: trace.time(place),
+            block: block_of(ends, place),
             of: PhantomData,
         }
     }

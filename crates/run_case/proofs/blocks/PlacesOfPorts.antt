@@ -4,9 +4,10 @@ use Rattle.std.specs.Prelude.{◌==◌, nat_lt, nat_eq, position, slice_get, is_
 use Rattle.std.specs.List.{list_any, position_or_len, IsDistinct}
 use Rattle.std.proofs.lemmas.Bool.{cases_lt, lt-ltb, le-ltb, ltb-true, eqb-true, eq-eqb}
 use Rattle.std.proofs.lemmas.List.Folds.{list_any_at}
-use Rattle.std.proofs.lemmas.List.Sums.{passes_at_first}
+use Rattle.std.proofs.lemmas.List.Sums.{passes_at_first, position_or_len_is}
 use Rattle.std.proofs.lemmas.List.Quantifiers.{position-Some}
 use Rattle.std.proofs.lemmas.Option.{slice_get-get_or, get_or_from_slice_get}
+use Rattle.std.proofs.lemmas.Map.Keys.{apart_from_distinct}
 use Rattle.std.proofs.lemmas.Map.Steps.{length-le_from_distinct_below}
 use Rattle.spec_pcap.specs.Pcap.{Capture}
 use Rattle.spec_case.specs.Run.{frames_in}
@@ -49,6 +50,16 @@ module _ (port : ℕ) where
 
   pub position-within : (ports : List ℕ) (place : ℕ) → position is_port ports ≡ Some place → place < length ports
   position-within ports place is = (position-Some is_port ports place 0 is).0
+
+  -- where ports differ, a port stands at no other place
+  pub position-at : (ports : List ℕ) (place : ℕ) → IsDistinct nat_eq ports → place < length ports → get_or ports place 0 ≡ port
+      → position is_port ports ≡ Some place
+  position-at ports place distinct within at =
+      let others : (k : ℕ) → k < place → is_port (get_or ports k 0) ≡ false =
+      λ k less. rw (← at) (apart_from_distinct nat_eq ports k place 0 distinct less within) in
+      let first : position_or_len is_port ports ≡ place =
+      position_or_len_is is_port ports place 0 (omega arith) others (λ _. eq-eqb _ _ at) in
+      rw (first, lt-ltb place (length ports) within) refl
 
   -- a port that stands at a place is among the ports
   pub HasPort-from_get : (ports : List ℕ) (place : ℕ) → slice_get ports place ≡ Some port → place < length ports → HasPort ports port

@@ -21,9 +21,16 @@ impl Model for Ports {
     ghost invariant = { λ p. (1 ≤ length p.0.items) × (length p.0.items ≤ 2 ^ 16) × IsDistinct nat_eq p.0.items };
 }
 
+// Where a port stands among different ones. Mostly they are numbered from 1, in the order of the words; so that is where it
+// is looked for first.
 fn place_in(list: &[u16], port: u16) -> Option<usize>
+    requires { IsDistinct nat_eq list.now }
     ensures { result ≡ position (λ p. p == port) list.now }
 {
+    let by_number = usize::from(port.saturating_sub(1));
+    if by_number < list.len() && list[by_number] == port {
+        return Some(by_number);
+    }
     list.iter().position(|listed| *listed == port)
 }
 
@@ -58,7 +65,7 @@ impl Ports {
 
     /// The place at which a port stands, counted from 0; `None` where it isn't among the ports.
     ///
-    /// It looks at one port after the other.
+    /// It looks where the port stands if they are numbered from 1, and then at one port after the other.
     pub fn find(&self, port: u16) -> Option<u32>
         ensures place { result ≡ position (λ p. p == port) self.now }
         ensures found { is_some result ≡ list_any (λ p. p == port) self.now }
