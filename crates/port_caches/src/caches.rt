@@ -91,12 +91,14 @@ impl PortCaches {
         ensures limit { IfOk result (λ c. c.limit ≡ limit) }
         ensures rules { IfOk result (λ c. c.rules ≡ rules) }
     {
+        let exact = ExactCache::new(alloc)?;
+        let totals = Totals::new(alloc, rules)?;
         Ok(PortCaches {
             alloc,
             flows: Megaflows::new(alloc, limit),
             made: 0,
-            exact: ExactCache::new(alloc)?,
-            totals: Totals::new(alloc, rules)?,
+            exact,
+            totals,
             lists: Vec::new(alloc),
         })
     }
