@@ -33,7 +33,7 @@ pub fn closes<C: Case, T: RunTables<C>>(
     tables.follow(run.hi(block))?;
     let other = Board::new(alloc, run, board.port(), flow_limit)?;
     let boards = vec![in alloc; mem::replace(board, other)]?;
-    let (left, fitted) = close_phase(alloc, run, store, boards, &mut tables, block, flow_limit)?;
+    let (left, fitted) = close_phase(alloc, run, store, boards, &tables, block, flow_limit)?;
     let mut left = left.into_vec();
     if let Some(only) = left.pop() {
         *board = only;

@@ -116,6 +116,32 @@ fn least_block<C: Case>(run: &RunData<C>, boards: &[Board<C>]) -> u32
     least
 }
 
+// Finishes the least block that a board is in, where the tables are of its last version: each board in it is carried to its
+// end, whatever was done of it before.
+pub(crate) fn finish_least_block<C: Case, T: RunTables<C>>(
+    alloc: Global,
+    run: &RunData<C>,
+    boards: Boards<C>,
+    tables: &Tables<C, T>,
+    block: u32,
+) -> Result<Boards<C>, AllocError>
+    requires least { block ≡ block_to_finish C.run boards }
+    requires version { tables.now ≡ hi C.run block }
+    ensures version { IfOk result (λ left. tables.now ≤ hi C.run (block_to_finish C.run left)) }
+    ensures done { IfOk result (λ left. (blocks : ℕ) → blocks ≤ last_block C.run
+        → All (HasDone C.run blocks) boards → All (HasDone C.run (blocks + 1)) left) }
+    ensures only_plans { IfOk result (AreOnlyPlanned C.run boards) }
+
+    // However many of the block's bundles were published before.
+    ensures scheduled { IfOk result (λ left. (newest : ℕ) → newest ≤ tables.now
+        → schedule_of C.run tables.now left ≡ schedules.finish_block C.run (schedule_of C.run newest boards)) }
+{
+    let _ = run.last_block();
+    let mut left = boards.into_vec();
+    finish_boards(alloc, run, tables, &mut left, block)?;
+    Ok(Boards::from_vec(left))
+}
+
 /// Finishes the least block that a board is in: all of its bundles are published, and each board in it is carried to its
 /// end, whatever was done of it before. A sweep that runs is ended, frames that are pending are settled, a sweep of the
 /// block's last version is made where none was completed, the frames that are left are decided, and the next block is
@@ -137,11 +163,10 @@ pub fn finish_block<C: Case, T: RunTables<C>>(
     ensures scheduled { IfOk result (λ left. schedule_of C.run tables.new left
         ≡ schedules.finish_block C.run (schedule_of C.run tables.old boards)) }
 {
-    let mut left = boards.into_vec();
-    let block = least_block(run, &left);
+    let block = least_block(run, boards.as_slice());
     tables.follow(run.hi(block))?;
-    finish_boards(alloc, run, tables, &mut left, block)?;
-    Ok(Boards::from_vec(left))
+    let left = finish_least_block(alloc, run, boards, tables, block)?;
+    Ok(left)
 }
 
 // Finishes all blocks, one after the other, whatever was done of them before.

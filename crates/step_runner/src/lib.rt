@@ -11,9 +11,9 @@
 //! - `finish_block` and `finish` take the steps of the schedule that `spec_board` defines, from the boards and the
 //!   version at which they find them. Where they find new boards, each frame is decided under the last version of its
 //!   block.
-//! - `close_phase` ends what workers did of a block. It asks nothing of the boards that they leave: those that fit
-//!   finish the block, and in the place of others new ones are carried through the whole run. It says which of these it
-//!   was.
+//! - `close_phase` ends what workers did of a block, by tables of the block's last version, which it only reads. It asks
+//!   nothing of the boards that they leave: those that fit finish the block, and in the place of others new ones are
+//!   carried through the whole run, by tables of its own. It says which of these it was.
 //!
 //! # How
 //!

@@ -14,6 +14,8 @@
 //! are legal, by their type; which boards they are, and how far they have come, no contract says. The only error is out of
 //! memory.
 //!
+//! Between phases the pool lends the tables that it published last, to whoever names their version (`tables_of`).
+//!
 //! By its bounds the call may wait, so that it returns is no part of what is proved; nor is which thread took a step, and
 //! whether frames were decided by workers at all or at the end of their block. That is tested.
 //!

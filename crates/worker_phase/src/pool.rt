@@ -1,5 +1,5 @@
 //! What the workers of a run keep from phase to phase.
-ghost use Rattle.std.specs.Prelude.{◌≡◌, ◌≤◌, All, IsTrue};
+ghost use Rattle.std.specs.Prelude.{◌≡◌, ◌≤◌, All, IfSome, IsTrue};
 ghost use Rattle.std.specs.List.{list_all};
 ghost use Rattle.spec_case.specs.Blocks.{last_block};
 ghost use Rattle.spec_tables.specs.Edits.{has_sound_actions};
@@ -15,7 +15,7 @@ use std::marker::Brand;
 use std::sync::Wait;
 use std::thread::Threads;
 use table_publish::{Editor, Seer, publish};
-use table_versions::RunTables;
+use table_versions::{RunTables, Tables};
 use upcall_queue::UpcallQueue;
 
 /// How many workers of each kind a run has, the editor of its tables, and a seer of them for each handler and for the
@@ -104,6 +104,18 @@ impl<C: Case + Send + Sync, T: RunTables<C> + Send + Sync> WorkerPool<C, T> {
                 editor.end(rt);
                 Err(e)
             }
+        }
+    }
+
+    /// The tables of a version, if that is the one that was published last. After a phase that is the last version of its
+    /// block, where there was memory for it.
+    pub fn tables_of(&self, version: u32) -> Option<&Tables<C, T>>
+        ensures { IfSome result (λ t. t.now ≡ version) }
+    {
+        if self.editor.version() == version {
+            Some(self.editor.tables())
+        } else {
+            None
         }
     }
 

@@ -1,7 +1,7 @@
 //! A run, decided by workers.
-ghost use Rattle.std.specs.Prelude.{◌≡◌, ◌≤◌, true, IsTrue, IfOk, MatchBool};
+ghost use Rattle.std.specs.Prelude.{◌≡◌, ◌≤◌, IsTrue, IfOk, MatchBool};
 ghost use Rattle.std.specs.List.{list_all};
-ghost use Rattle.spec_case.specs.Blocks.{hi, last_block};
+ghost use Rattle.spec_case.specs.Blocks.{last_block};
 ghost use Rattle.spec_tables.specs.Edits.{has_sound_actions};
 ghost use Rattle.spec_words.specs.Words.{most_workers};
 ghost use Rattle.run_boards.specs.Finished.{AreFinished};
@@ -23,33 +23,30 @@ struct Left<C: Case, T: RunTables<C>> {
     boards: Boards<C>,
 }
 
-// Ends a phase: the tables, which aren't the published ones, are carried to the last version of its block, and the boards
-// finish it. It says whether they fitted; where they didn't, the whole run is finished.
-fn close_block<C: Case, T: RunTables<C>>(
+// Ends a phase: the boards finish its block, by the tables that were published last. Where memory was wanting while they
+// were published, they are no tables of the block's last version, and others are made. It says whether the boards fitted;
+// where they didn't, the whole run is finished.
+fn close_block<C: Case + Send + Sync, T: RunTables<C> + Send + Sync>(
     alloc: Global,
     run: &WorkedRun<'_, C>,
     store: T::Store,
+    pool: &WorkerPool<C, T>,
     boards: Vec<Board<C>>,
-    tables: &mut Tables<C, T>,
     block: u32,
 ) -> Result<(Boards<C>, bool), AllocError>
     requires sound { IsTrue (list_all has_sound_actions C.run.edits) }
     requires there { block ≤ last_block C.run }
-    requires version { tables.old ≤ hi C.run block }
-    ensures version { IfOk result (λ r. r.1 ≡ true → tables.new ≡ hi C.run block) }
-    ensures finished { IfOk result (λ r. MatchBool r.1
+    ensures { IfOk result (λ r. MatchBool r.1
         (block ≡ last_block C.run → AreFinished C.run r.0) (AreFinished C.run r.0)) }
 {
-    tables.follow(run.data.hi(block))?;
-    close_phase(
-        alloc,
-        run.data,
-        store,
-        boards,
-        tables,
-        block,
-        run.flow_limit,
-    )
+    let (data, flow_limit) = (run.data, run.flow_limit);
+    let version = data.hi(block);
+    if let Some(tables) = pool.tables_of(version) {
+        return close_phase(alloc, data, store, boards, tables, block, flow_limit);
+    }
+    let mut own = Tables::<C, T>::new(alloc, store);
+    own.follow(version)?;
+    close_phase(alloc, data, store, boards, &own, block, flow_limit)
 }
 
 // A phase, and its end.
@@ -64,20 +61,17 @@ fn decide_block<
     run: &WorkedRun<'_, C>,
     store: T::Store,
     left: Left<C, T>,
-    tables: &mut Tables<C, T>,
     block: u32,
     gate: &G,
 ) -> Result<(Left<C, T>, bool), AllocError>
     requires sound { IsTrue (list_all has_sound_actions C.run.edits) }
     requires there { block ≤ last_block C.run }
-    requires version { tables.old ≤ hi C.run block }
-    ensures version { IfOk result (λ r. r.1 ≡ true → tables.new ≡ hi C.run block) }
-    ensures finished { IfOk result (λ r. MatchBool r.1
+    ensures { IfOk result (λ r. MatchBool r.1
         (block ≡ last_block C.run → AreFinished C.run r.0.boards) (AreFinished C.run r.0.boards)) }
 {
     let Left { pool, boards } = left;
     let (pool, boards) = pool.work(rt, alloc, run, boards.into_vec(), block, gate)?;
-    match close_block(alloc, run, store, boards, tables, block) {
+    match close_block(alloc, run, store, &pool, boards, block) {
         Ok((boards, fit)) => Ok((Left { pool, boards }, fit)),
         Err(e) => {
             pool.end(rt);
@@ -105,9 +99,8 @@ fn decide_blocks<
 {
     let last = run.data.last_block();
     let mut left = left;
-    let mut tables = Tables::<C, T>::new(alloc, store);
     'blocks: for block in 0..last + 1 {
-        let (next, fit) = decide_block(rt, alloc, run, store, left, &mut tables, block, gate)?;
+        let (next, fit) = decide_block(rt, alloc, run, store, left, block, gate)?;
         if !fit {
             let Left { pool, boards } = next;
             pool.end(rt);

@@ -16,9 +16,12 @@
 //!
 //! # How
 //!
-//! At the end of a phase the calling thread carries tables of its own on by the block's bundles, and with these `close_phase`
-//! (`step_runner`) tests whether the boards are those of the block, and completes it. If they weren't, it would decide the
-//! whole run anew, and no further phase would be started.
+//! At the end of a phase the calling thread has the editor of the published tables back, and no other thread is left. By
+//! the tables that were published last `close_phase` (`step_runner`) tests whether the boards are those of the block, and
+//! completes it: so there are two copies of the tables, the two of the publication. Where memory was wanting while they
+//! were published, they aren't of the block's last version; then the calling thread makes tables of its own for the block.
+//! If the boards weren't those of the block, `close_phase` would decide the whole run anew, and no further phase would be
+//! started.
 //!
 //! # What is left to others
 //!

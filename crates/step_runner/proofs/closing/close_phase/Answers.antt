@@ -1,27 +1,18 @@
-use Rattle.std.proofs.Common.{◌+◌, [], length, ap, ◌∙◌, arith}
+use Rattle.std.proofs.Common.{◌+◌, [], length, ap, sym, arith}
 use Rattle.spec_case.specs.Run.{Run}
-use Rattle.spec_case.specs.Blocks.{hi}
 use Rattle.run_boards.specs.Boards.{AreOfPhase}
 use Rattle.step_runner.proofs.Turns.{all_done}
-use Rattle.run_boards.proofs.BoardLists.{fit_version, fit_block, fit_done}
+use Rattle.run_boards.proofs.BoardLists.{fit_block, fit_done}
 use Rattle.step_runner.proofs.closing.close_phase.Goals as goal
 
-pub finish_block-requires : goal.finish_block-requires
-finish_block-requires g c =
-    let run : Run = g.C.Case.run in
-    let fit : AreOfPhase run c.args.flow_limit c.args.block c.in-Some.fitting = rw c.in-Some.ensures.list c.in-Some.ensures.fit in
-    let version = fit_version run c.args.flow_limit c.args.block c.in-Some.fitting fit c.requires.there c.last_block.ensures.in_order c.args.tables.now c.requires.version in
-    (c.type_bounds.send-T-Store, (c.type_bounds.sync-T-Store, version))
-
-pub returns-in_ok-left-in-Some-clause-version : goal.returns-in_ok-left-in-Some-clause-version
-returns-in_ok-left-in-Some-clause-version g c = λ _.
+pub finish_least_block-requires-clause-least : goal.finish_least_block-requires-clause-least
+finish_least_block-requires-clause-least g c _ _ =
     let run : Run = g.C.Case.run in
     let fit : AreOfPhase run c.args.flow_limit c.args.block c.in-Some.fitting = rw c.in-Some.ensures.list c.in-Some.ensures.fit in
     let ports = c.ports.ensures in
     let some = c.len.ensures.some in
     let count = c.len.ensures.len in
-    c.in_ok-left-in-Some.ensures.published
-    ∙ ap (hi run) (fit_block run c.args.flow_limit c.args.block c.in-Some.fitting fit c.requires.there (let e = ap length ports in omega (arith, some, count, e)) (record { port = 0; flow_limit = 0; journal = [] }))
+    sym (fit_block run c.args.flow_limit c.args.block c.in-Some.fitting fit c.requires.there (let e = ap length ports in omega (arith, some, count, e)) (record { port = 0; flow_limit = 0; journal = [] }))
 
 pub returns-in_ok-left-in-Some-clause-finished : goal.returns-in_ok-left-in-Some-clause-finished
 returns-in_ok-left-in-Some-clause-finished g c = λ is.
