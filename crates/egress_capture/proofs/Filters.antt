@@ -38,7 +38,7 @@ module _ (port : ℕ) where
 
 -- ---- bits
 
-neither : (a b : ℕ) → max a b ≡ 0 → (a ≡ 0) × (b ≡ 0)
+pub neither : (a b : ℕ) → max a b ≡ 0 → (a ≡ 0) × (b ≡ 0)
 neither a b none = (omega (arith, none), omega (arith, none))
 
 -- a filter to which the bit of an output was added

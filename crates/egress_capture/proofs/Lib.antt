@@ -6,3 +6,4 @@ mod First
 mod Filters
 pub mod Unsent
 mod Batches
+mod Passed

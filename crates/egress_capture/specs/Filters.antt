@@ -1,5 +1,5 @@
 -- Filters of ports: what they say of actions, and of the arrivals of a run.
-use Rattle.std.specs.Prelude.{◌≡◌, ℕ, ◌%◌, ◌<◌, false, IsTrue, List, [], ◌∷◌, length, get_or, All}
+use Rattle.std.specs.Prelude.{◌≡◌, ℕ, ◌%◌, ◌<◌, ◌≤◌, false, IsTrue, List, [], ◌∷◌, length, get_or, All}
 use Rattle.std.specs.Int.{bit_at}
 use Rattle.spec_actions.specs.declared.action.DpAction.{DpAction}
 use Rattle.spec_actions.specs.declared.action.DpAction.TheVariants.{Output}
@@ -31,6 +31,10 @@ IsSingle actions filter = IsTrue filter.single → actions ≡ Output filter.por
 pub record SendsOnlyTo (port : ℕ) (filter : PortFilter) : Type 0 where
   pub single : IsTrue filter.single
   pub port_is : filter.port ≡ port
+
+-- None of the filters from one place on and before another has the bit of a port.
+abbrev pub LackBit : List PortFilter → ℕ → ℕ → ℕ → Type 0
+LackBit filters port from to = (k : ℕ) (f : PortFilter) → from ≤ k → k < to → bit_at (get_or filters k f).bits (bit_of port) ≡ 0
 
 -- the actions that journals decided for an arrival
 abbrev pub actions_at : Run → List Journal → Arrival → List DpAction

@@ -18,9 +18,9 @@
 //! # How
 //!
 //! The arrivals are there once for all ports, and so are their *filters*: a number for each, with a bit for each port
-//! that its actions send to (`filters_of`). Each port's file is one walk along the filters, so that a frame costs a
-//! port that doesn't get it no more than the test of a bit. Where the port's bit is there, the finished boards lend the
-//! frame with its actions, and its bytes go from its trace to the shelf. Ports whose numbers leave the same remainder
+//! that its actions send to (`filters_of`). Each port's file is one walk along the filters, eight at once, so that a frame
+//! costs a port that doesn't get it a part of the test of a bit. Where the port's bit is there, the finished boards lend
+//! the frame with its actions, and its bytes go from its trace to the shelf. Ports whose numbers leave the same remainder
 //! by 32 share a bit, and then the actions tell.
 //!
 //! A filter also tells whether one output is all that the actions are. Arrivals of frames that came in one after the other

@@ -10,7 +10,7 @@ ghost use Rattle.run_boards.specs.Arrivals.{IsArrival};
 ghost use Rattle.egress_capture.specs.Filters.{AreFilters};
 
 use crate::batch::{batch_at, send_batch};
-use crate::port_filter::PortFilter;
+use crate::port_filter::{PortFilter, next_with_bit};
 use crate::sending::send;
 use action_exec::FrameBuffer;
 use edge_io::{Failed, Shelf, write_file};
@@ -66,13 +66,8 @@ fn write_frames<C: Case, S: Shelf>(
     let mut buffer = FrameBuffer::new(alloc);
     let nanos = run.nanos();
     let mut writer = PcapWriter::begin(shelf, nanos)?;
-    let mut at = 0;
+    let mut at = next_with_bit(filters, 0, port);
     'arrivals: while at < came.len() {
-        // Of what the port doesn't get this bit is all that is looked at.
-        if !filters[at].may_send_to(port) {
-            at += 1;
-            continue;
-        }
         let count = batch_at(came, filters, at, port);
         if count > 0 {
             send_batch(
@@ -86,7 +81,7 @@ fn write_frames<C: Case, S: Shelf>(
                 port,
                 nanos,
             )?;
-            at += count as usize;
+            at = next_with_bit(filters, at + count as usize, port);
             continue;
         }
         send_decided(
@@ -98,7 +93,7 @@ fn write_frames<C: Case, S: Shelf>(
             port,
             &mut buffer,
         )?;
-        at += 1;
+        at = next_with_bit(filters, at + 1, port);
     }
     Ok(())
 }

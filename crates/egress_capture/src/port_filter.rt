@@ -1,10 +1,10 @@
 //! Which ports actions may send to, told in a number, so that a port passes over the frames of others quickly, and
 //! whether all that they do is to send once.
-ghost use Rattle.std.specs.Prelude.{◌≡◌, ◌%◌, ℕ, false, All, IfOk, IsTrue};
+ghost use Rattle.std.specs.Prelude.{◌≡◌, ◌%◌, ◌^◌, ◌<◌, ◌≤◌, ℕ, false, All, IfOk, IsTrue, length, get_or};
 ghost use Rattle.std.specs.Int.{bit_at};
 ghost use Rattle.spec_case.specs.Arrivals.{in_order, arrivals as came_in};
 ghost use Rattle.egress_capture.specs.Sending.{sends_to};
-ghost use Rattle.egress_capture.specs.Filters.{bit_of, PassesAll, IsSingle, SendsOnlyTo, AreFilters};
+ghost use Rattle.egress_capture.specs.Filters.{bit_of, PassesAll, IsSingle, SendsOnlyTo, LackBit, AreFilters};
 
 use run_boards::Finished;
 use run_case::{Case, RunData};
@@ -13,6 +13,9 @@ use std::alloc::{AllocError, Global};
 
 /// How many bits a filter has.
 const BITS: u16 = 32;
+
+/// How many filters are passed over at once.
+const AT_ONCE: usize = 8;
 
 /// A bit for each port that a list of actions sends to: that of the port's number modulo `BITS`.
 ///
@@ -99,6 +102,47 @@ impl PortFilter {
         }
         false
     }
+}
+
+// The bit of a port, alone.
+fn mask_of(port: u16) -> u32
+    ensures { result ≡ 2 ^ bit_of port }
+{
+    1 << (port % BITS)
+}
+
+// The bits that some filters have together.
+fn joined_bits(filters: &[PortFilter]) -> u32
+    ensures { (n : ℕ) → bit_at result n ≡ 0
+        → (k : ℕ) (f : PortFilter) → k < length filters.now → bit_at (get_or filters.now k f).bits n ≡ 0 }
+{
+    let mut joined = 0;
+    'filters: for filter in filters {
+        joined |= filter.bits;
+    }
+    joined
+}
+
+/// The place of the next filter, from one on, that has the bit of a port; as many as there are where none has it.
+///
+/// Of what a port doesn't get this is all that is done for it, so several filters are looked at together.
+pub(crate) fn next_with_bit(filters: &[PortFilter], from: usize, port: u16) -> usize
+    requires { from ≤ length filters.now }
+    ensures from { from ≤ result }
+    ensures within { result ≤ length filters.now }
+    ensures passed { LackBit filters.now port from result }
+{
+    let mask = mask_of(port);
+    let mut at = from;
+    'several: while filters.len() - at >= AT_ONCE
+        && joined_bits(&filters[at..at + AT_ONCE]) & mask == 0
+    {
+        at += AT_ONCE;
+    }
+    'each: while at < filters.len() && filters[at].bits & mask == 0 {
+        at += 1;
+    }
+    at
 }
 
 /// The filters of what was decided of each arrival, in the order of the arrivals. They are made once, for the files of

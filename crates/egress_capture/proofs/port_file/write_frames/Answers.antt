@@ -1,16 +1,20 @@
-use Rattle.std.proofs.Common.{Err, ap, ◌∙◌, arith}
+use Rattle.std.proofs.Common.{◌+◌, ◌≤◌, false, length, Err, ap, ◌∙◌, arith}
 use Rattle.std.proofs.lemmas.List.{append-nil, take_all}
 use Rattle.std.proofs.lemmas.Result.{err_from_is_err_and}
 use Rattle.spec_pcap.specs.Pcap.{record_of, header}
 use Rattle.spec_case.specs.Run.{is_nanos}
 use Rattle.spec_run.specs.Outputs.{sent_to}
-use Rattle.edge_io.proofs.InTurn.{none_yet, has_written, first_cut, cut_within, more}
+use Rattle.edge_io.proofs.InTurn.{has_written, first_cut, cut_within, more}
+use Rattle.egress_capture.specs.declared.port_filter.PortFilter.{PortFilter}
 use Rattle.egress_capture.specs.Filters.{AreFilters}
 use Rattle.egress_capture.specs.Batches.{no_arrival}
 use Rattle.egress_capture.proofs.Prefixes.{around_pieces, pieces_more}
 use Rattle.egress_capture.proofs.Batches.{around_batch, batch_more}
-use Rattle.egress_capture.proofs.Skipped.{unsent}
+use Rattle.egress_capture.proofs.Passed.{same_file}
 use Rattle.egress_capture.proofs.port_file.write_frames.Goals as goal
+
+abbrev no_filter : PortFilter
+no_filter = record { bits = 0; port = 0; single = false }
 
 pub returns-in_err-writer : goal.returns-in_err-writer
 returns-in_err-writer g c =
@@ -19,29 +23,22 @@ returns-in_err-writer g c =
     first_cut g.S.Shelf _ _ c.from_residual.result _ _ _ (p.1 ∙ ap Err p.2) begun
 
 pub arrivals-init : goal.arrivals-init
-arrivals-init g c = record {
-  within = omega arith;
-  nanos = c.in_ok-writer.ensures.nanos ∙ c.nanos-nanos.ensures;
-  wrote =
-      let begun = rw c.nanos-nanos.ensures at c.in_ok-writer.ensures.writes in
-      rw (append-nil (header (is_nanos g.C.Case.run))) (has_written g.S.Shelf _ _ _ _ begun);
-}
-
-pub arrivals-preserved-then-not-may_send_to : goal.arrivals-preserved-then-not-may_send_to
-arrivals-preserved-then-not-may_send_to g c = record {
-  within = omega (arith, c.arrivals-test.true);
-  nanos = c.arrivals.invariant.nanos;
-  wrote =
-      let run = g.C.Case.run in
-      let journals = c.args.finished.now in
-      let filters = c.args.filters.now in
-      let came = c.arrivals-came.result.now in
-      let at = c.arrivals.at in
-      let are : AreFilters run journals came filters = rw c.arrivals-came.ensures.list c.requires.filters in
-      let nothing = unsent run journals filters c.args.port (record_of (is_nanos run)) came at no_arrival _ are c.arrivals-test.true (c.may_send_to.ensures c.if-not-may_send_to.true) in
-      let all = pieces_more (sent_to run journals c.args.port) (record_of (is_nanos run)) (header (is_nanos run)) came at no_arrival c.arrivals-test.true in
-      more g.S.Shelf _ _ _ _ _ _ all c.arrivals.invariant.wrote (tt {0}) (rw nothing (none_yet g.S.Shelf c.arrivals.shelf c.arrivals.invariant.wrote.in_use));
-}
+arrivals-init g c =
+    let run = g.C.Case.run in
+    let came = c.arrivals-came.result.now in
+    let next = c.next_with_bit-at in
+    let are : AreFilters run c.args.finished.now came c.args.filters.now = rw c.arrivals-came.ensures.list c.requires.filters in
+    let within : next.result ≤ length came = omega (arith, next.ensures.within, are.count) in
+    record {
+      within = within;
+      nanos = c.in_ok-writer.ensures.nanos ∙ c.nanos-nanos.ensures;
+      wrote =
+          let begun = rw c.nanos-nanos.ensures at c.in_ok-writer.ensures.writes in
+          let same =
+          same_file run c.args.finished.now c.args.filters.now c.args.port (record_of (is_nanos run)) came no_arrival no_filter are (header (is_nanos run)) 0
+          next.result next.ensures.from within next.ensures.passed in
+          rw (same, append-nil (header (is_nanos run))) (has_written g.S.Shelf _ _ _ _ begun);
+    }
 
 pub returns-in_err-send_decided : goal.returns-in_err-send_decided
 returns-in_err-send_decided g c =
@@ -52,15 +49,24 @@ returns-in_err-send_decided g c =
     rw (← c.arrivals-came.ensures.list) (cut_within g.S.Shelf _ _ _ _ _ _ _ all c.arrivals.invariant.wrote _ _ (p.1 ∙ ap Err p.2) w)
 
 pub arrivals-preserved : goal.arrivals-preserved
-arrivals-preserved g c = record {
-  within = omega (arith, c.arrivals-test.true);
-  nanos = c.send_decided.ensures.nanos ∙ c.arrivals.invariant.nanos;
-  wrote =
-      let run = g.C.Case.run in
-      let w = rw c.arrivals.invariant.nanos at c.in_ok-send_decided.ensures.writes in
-      let all = pieces_more (sent_to run c.args.finished.now c.args.port) (record_of (is_nanos run)) (header (is_nanos run)) c.arrivals-came.result.now c.arrivals.at _ c.arrivals-test.true in
-      more g.S.Shelf _ _ _ _ _ _ all c.arrivals.invariant.wrote _ w;
-}
+arrivals-preserved g c =
+    let run = g.C.Case.run in
+    let came = c.arrivals-came.result.now in
+    let at = c.arrivals.at in
+    let next = c.next_with_bit-at-in-arrivals in
+    let are : AreFilters run c.args.finished.now came c.args.filters.now = rw c.arrivals-came.ensures.list c.requires.filters in
+    let within : next.result ≤ length came = omega (arith, next.ensures.within, are.count) in
+    record {
+      within = within;
+      nanos = c.send_decided.ensures.nanos ∙ c.arrivals.invariant.nanos;
+      wrote =
+          let w = rw c.arrivals.invariant.nanos at c.in_ok-send_decided.ensures.writes in
+          let all = pieces_more (sent_to run c.args.finished.now c.args.port) (record_of (is_nanos run)) (header (is_nanos run)) came at _ c.arrivals-test.true in
+          let same =
+          same_file run c.args.finished.now c.args.filters.now c.args.port (record_of (is_nanos run)) came no_arrival no_filter are (header (is_nanos run))
+          (at + 1) next.result next.ensures.from within next.ensures.passed in
+          rw same (more g.S.Shelf _ _ _ _ _ _ all c.arrivals.invariant.wrote _ w);
+    }
 
 pub send_batch-requires-clause-within : goal.send_batch-requires-clause-within
 send_batch-requires-clause-within g c = rw (← c.arrivals-came.ensures.list) c.batch_at-count.ensures.within
@@ -77,15 +83,25 @@ returns-in_err-send_batch g c =
     rw (← c.arrivals-came.ensures.list) (cut_within g.S.Shelf _ _ _ _ _ _ _ all c.arrivals.invariant.wrote _ _ (p.1 ∙ ap Err p.2) w)
 
 pub arrivals-preserved-then-count-gt0 : goal.arrivals-preserved-then-count-gt0
-arrivals-preserved-then-count-gt0 g c = record {
-  within = c.batch_at-count.ensures.within;
-  nanos = c.send_batch.ensures.nanos ∙ c.arrivals.invariant.nanos;
-  wrote =
-      let run = g.C.Case.run in
-      let w = rw (← c.arrivals-came.ensures.list, c.nanos-nanos.ensures) at c.in_ok-send_batch.ensures.writes in
-      let all = batch_more (sent_to run c.args.finished.now c.args.port) (record_of (is_nanos run)) (header (is_nanos run)) c.arrivals-came.result.now c.arrivals.at c.batch_at-count.result in
-      more g.S.Shelf _ _ _ _ _ _ all c.arrivals.invariant.wrote _ w;
-}
+arrivals-preserved-then-count-gt0 g c =
+    let run = g.C.Case.run in
+    let came = c.arrivals-came.result.now in
+    let at = c.arrivals.at in
+    let count = c.batch_at-count.result in
+    let next = c.next_with_bit-at-then-count-gt0 in
+    let are : AreFilters run c.args.finished.now came c.args.filters.now = rw c.arrivals-came.ensures.list c.requires.filters in
+    let within : next.result ≤ length came = omega (arith, next.ensures.within, are.count) in
+    record {
+      within = within;
+      nanos = c.send_batch.ensures.nanos ∙ c.arrivals.invariant.nanos;
+      wrote =
+          let w = rw (← c.arrivals-came.ensures.list, c.nanos-nanos.ensures) at c.in_ok-send_batch.ensures.writes in
+          let all = batch_more (sent_to run c.args.finished.now c.args.port) (record_of (is_nanos run)) (header (is_nanos run)) came at count in
+          let same =
+          same_file run c.args.finished.now c.args.filters.now c.args.port (record_of (is_nanos run)) came no_arrival no_filter are (header (is_nanos run))
+          (at + count) next.result next.ensures.from within next.ensures.passed in
+          rw same (more g.S.Shelf _ _ _ _ _ _ all c.arrivals.invariant.wrote _ w);
+    }
 
 pub returns : goal.returns
 returns g c =
