@@ -6,4 +6,3 @@ pub mod RuleTexts
 pub mod Counted
 pub mod Sums
 pub mod LookLines
-pub mod KeptLooks

@@ -12,6 +12,7 @@ use board_steps::{Step, push_step};
 use edge_io::{Failed, Shelf, write_all};
 use pmd_board::Board;
 use run_case::Case;
+use spec_board::Looked;
 use std::alloc::{AllocError, Global};
 use std::fmt::Write;
 
@@ -41,25 +42,38 @@ fn write_port<S: Shelf>(shelf: &mut S, line: &mut String, port: u16) -> Result<(
 }
 
 // Adds the line of a step. After an error it isn't said what the text has.
-fn push_line(text: &mut String, looks: &mut LookLine, step: &Step) -> Result<(), AllocError>
+fn push_line(
+    text: &mut Vec<u8>,
+    looks: &mut LookLine,
+    line: &mut String,
+    step: &Step,
+) -> Result<(), AllocError>
     ensures text { OnOk result
-        (string_bytes text.new ≡ string_bytes text.old ++ line_of (step_text (step_view step.now))) }
+        (text.new.items ≡ text.old.items ++ line_of (step_text (step_view step.now))) }
     ensures printable { OnOk result (IsPrintableStep (step_view step.now)) }
 {
     if let Step::Look { place, result } = step {
         return looks.push_to(text, *place, *result);
     }
-    push_step(text, step)?;
-    text.push('\n')
+    line.clear();
+    push_step(line, step)?;
+    text.extend_from_slice(line.as_bytes())?;
+    text.push(b'\n')?;
+    Ok(())
 }
 
 // Adds the lines of steps. After an error it isn't said what the text has.
-fn push_lines(text: &mut String, looks: &mut LookLine, steps: &[Step]) -> Result<(), AllocError>
-    ensures text { OnOk result (string_bytes text.new ≡ string_bytes text.old ++ steps_text (steps_view steps.now)) }
+fn push_lines(
+    text: &mut Vec<u8>,
+    looks: &mut LookLine,
+    line: &mut String,
+    steps: &[Step],
+) -> Result<(), AllocError>
+    ensures text { OnOk result (text.new.items ≡ text.old.items ++ steps_text (steps_view steps.now)) }
     ensures printable { OnOk result (All (λ step. IsPrintableStep (step_view step)) steps.now) }
 {
     'steps: for step in steps {
-        push_line(text, looks, step)?;
+        push_line(text, looks, line, step)?;
     }
     Ok(())
 }
@@ -67,8 +81,9 @@ fn push_lines(text: &mut String, looks: &mut LookLine, steps: &[Step]) -> Result
 // Writes the lines of steps in one piece.
 fn write_lines<S: Shelf>(
     shelf: &mut S,
-    text: &mut String,
+    text: &mut Vec<u8>,
     looks: &mut LookLine,
+    line: &mut String,
     steps: &[Step],
 ) -> Result<(), Failed>
     requires { S.in_use shelf.old ≡ Created }
@@ -77,15 +92,15 @@ fn write_lines<S: Shelf>(
     ensures printable { OnOk result (All (λ step. IsPrintableStep (step_view step)) steps.now) }
 {
     text.clear();
-    push_lines(text, looks, steps)?;
-    write_all(shelf, text.as_bytes())
+    push_lines(text, looks, line, steps)?;
+    write_all(shelf, text)
 }
 
 // Writes the lines of steps, so many at once that the calls of the shelf are few.
 fn write_steps<S: Shelf>(
     alloc: Global,
     shelf: &mut S,
-    text: &mut String,
+    line: &mut String,
     steps: &[Step],
 ) -> Result<(), Failed>
     requires { S.in_use shelf.old ≡ Created }
@@ -93,11 +108,12 @@ fn write_steps<S: Shelf>(
         WritesAll S.Shelf shelf.old shelf.new text result }
     ensures printable { OnOk result (All IsPrintableStep (steps_view steps.now)) }
 {
-    let mut looks = LookLine::new(alloc);
+    let mut text = Vec::new(alloc);
+    let mut looks = LookLine::of(alloc, 0, Looked::Miss)?;
     let mut done = 0;
     'pieces: while done < steps.len() {
         let end = steps.len().min(done + STEPS_AT_ONCE);
-        write_lines(shelf, text, &mut looks, &steps[done..end])?;
+        write_lines(shelf, &mut text, &mut looks, line, &steps[done..end])?;
         done = end;
     }
     Ok(())

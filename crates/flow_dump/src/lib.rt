@@ -25,8 +25,8 @@
 //! One buffer holds what is written next: a line, or of a journal the lines of 64 steps. It is emptied and used again, so
 //! that after the first few times no memory is taken. A shelf gathers small writes itself, if it likes.
 //!
-//! Lines of looks are made of parts of those before (`look_line`), since most steps are looks, and most of them found what
-//! the one before did.
+//! The line of a look is mostly that of the look before with another last digit (`look_line`): most steps are looks, their
+//! places rise by one, and most of them found what the one before did.
 //!
 //! What is written of each board, its journal or its megaflows, is a choice that one walk over the boards takes.
 //!

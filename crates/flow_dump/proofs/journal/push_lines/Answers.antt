@@ -1,4 +1,4 @@
-use Rattle.std.proofs.Common.{arith, string_bytes}
+use Rattle.std.proofs.Common.{arith}
 use Rattle.std.proofs.lemmas.List.{take_all}
 use Rattle.std.proofs.lemmas.List.Elements.{All-more}
 use Rattle.board_steps.specs.StepViews.{step_view}
@@ -8,7 +8,7 @@ use Rattle.flow_dump.proofs.journal.push_lines.Goals as goal
 
 pub steps-preserved : goal.steps-preserved
 steps-preserved c = record {
-  text = lines_more c.args.steps.now c.steps.step-index _ c.steps-test.true (string_bytes c.args.text.now) _ _ c.steps.invariant.text (rw c.step-item.is at c.in_ok-push_line.ensures.text);
+  text = lines_more c.args.steps.now c.steps.step-index _ c.steps-test.true c.args.text.now.items _ _ c.steps.invariant.text (rw c.step-item.is at c.in_ok-push_line.ensures.text);
   printable =
       let step = rw c.step-item.is at c.in_ok-push_line.ensures.printable in
       All-more (λ step. IsPrintableStep (step_view step)) c.args.steps.now c.steps.step-index _ c.steps-test.true c.steps.invariant.printable step;

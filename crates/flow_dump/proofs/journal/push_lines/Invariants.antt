@@ -1,4 +1,4 @@
-use Rattle.std.proofs.Common.{◌≡◌, ◌++◌, take, string_bytes}
+use Rattle.std.proofs.Common.{◌≡◌, ◌++◌, take}
 use Rattle.std.specs.Prelude.{All}
 use Rattle.std.specs.List.{flat_map}
 use Rattle.board_steps.specs.StepViews.{step_view}
@@ -8,6 +8,6 @@ use Rattle.flow_dump.proofs.journal.push_lines.Given as goal
 
 abbrev pub invariant-steps : goal.invariant-steps
 invariant-steps l = record {
-  text : string_bytes l.text ≡ string_bytes l.fn.text ++ flat_map line_of_step (take l.step-index l.steps);
+  text : l.text.items ≡ l.fn.text.items ++ flat_map line_of_step (take l.step-index l.steps);
   printable : All (λ step. IsPrintableStep (step_view step)) (take l.step-index l.steps);
 }

@@ -16,7 +16,7 @@ lines = flat_map line_of_step
 
 pub returns-in_err-write_lines-clause-writes : goal.returns-in_err-write_lines-clause-writes
 returns-in_err-write_lines-clause-writes g c =
-    let p = err_from_is_err_and c.from_residual.result c.from_residual.ensures.1 in
+    let p = err_from_is_err_and c.from_residual-in_err-write_lines.result c.from_residual-in_err-write_lines.ensures.1 in
     let n = c.min-end.result - c.pieces.done in
     let steps = c.args.steps.now in
     let behind = drop c.pieces.done steps in

@@ -1,10 +1,12 @@
-use Rattle.std.proofs.Common.{arith}
-use Rattle.flow_dump.proofs.LookLines.{look_added}
+use Rattle.std.proofs.Common.{ℕ, List, ◌++◌, ap, ◌∙◌, arith}
+use Rattle.flow_dump.proofs.LookLines.{is_still, line_at}
 use Rattle.flow_dump.proofs.look_line.LookLine.push_to.Goals as goal
+
+pub invariant_of-self : goal.invariant_of-self
+invariant_of-self c = record { is_line = is_still _ _ _ _ _ c.turn_to.new.self.is_line }
 
 pub returns-clause-text : goal.returns-clause-text
 returns-clause-text c =
-    let head = rw c.in_ok-at.ensures at c.in_ok-push_str.ensures.bytes in
-    let digit = rw (c.in_ok-push.ensures.ascii (omega arith)) at c.in_ok-push.ensures.bytes in
-    let tail = rw c.in_ok-of.ensures at c.in_ok-push_str-2.ensures.bytes in
-    look_added c.args.place c.args.found (omega (arith, c.ranges.place.fits)) _ _ _ _ head digit tail
+    let kept = rw (c.in_ok-turn_to.ensures.tens, c.in_ok-turn_to.ensures.found) at c.turn_to.new.self.is_line in
+    let line = line_at c.args.place c.args.found c.turn_to.new.self.digit c.turn_to.new.self.text.items (omega (arith, c.ranges.place.fits)) kept in
+    c.in_ok-extend_from_slice.ensures.items ∙ ap (λ (l : List ℕ). c.args.text.now.items ++ l) (c.deref.ensures.value ∙ line)
