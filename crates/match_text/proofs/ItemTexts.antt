@@ -2,6 +2,7 @@
 use Rattle.std.proofs.Common.{◌≡◌, ℕ, ◌+◌, ◌<◌, ◌≤◌, Bool, true, false, List, [], ◌∷◌, ◌++◌, map, length, get_or, drop, refl, sym, ap, ◌∙◌, append_assoc, append-nil}
 use Rattle.std.specs.List.{join_with_byte, flat_map}
 use Rattle.std.proofs.lemmas.List.{drop_more, drop_all}
+use Rattle.std.proofs.lemmas.Grind.{flat_map-append}
 use Rattle.spec_flow_text.specs.Characters.{comma}
 use Rattle.spec_flow_text.specs.Printed.{Shown, shown_text}
 use Rattle.text_numbers.specs.Added.{IsPrefix}
@@ -48,6 +49,14 @@ pub none_left : {A : Type 0} (f : A → List Shown) (begun : Bool) (old : List �
 unfolding items_text
 none_left f begun old xs i le = rw (drop_all i xs le) (append-nil old)
 
+pub one_more_begun : {A : Type 0} (f : A → List Shown) (begun : Bool) (xs : List A) (i : ℕ) (d : A) → i < length xs
+    → begun_after (begun_after begun (f (get_or xs i d))) (flat_map f (drop (i + 1) xs)) ≡ begun_after begun (flat_map f (drop i xs))
+one_more_begun f begun xs i d lt =
+    rw (drop_more xs i d lt) (sym (begun_after_both begun (f (get_or xs i d)) (flat_map f (drop (i + 1) xs))))
+
+pub none_left_begun : {A : Type 0} (f : A → List Shown) (begun : Bool) (xs : List A) (i : ℕ) → length xs ≤ i → begun_after begun (flat_map f (drop i xs)) ≡ begun
+none_left_begun f begun xs i le = rw (drop_all i xs le) refl
+
 -- ---- what a text begins with
 
 pub begins_with_itself : (text : List ℕ) → IsPrefix text text
@@ -71,3 +80,9 @@ both_printed begun after xs ys zs is_after whole = rw (is_after, ← whole, text
 pub both_begun : (begun after later : Bool) (xs ys zs : List Shown) → after ≡ begun_after begun xs → xs ++ ys ≡ zs → later ≡ begun_after after ys
     → later ≡ begun_after begun zs
 both_begun begun after later xs ys zs is_after whole is_later = is_later ∙ rw (is_after, ← whole) (sym (begun_after_both begun xs ys))
+
+-- the items of fields in two parts
+pub parts_printed : {A : Type 0} (f : A → List Shown) (begun after : Bool) (xs ys : List A) → after ≡ begun_after begun (flat_map f xs)
+    → items_text begun (flat_map f xs) ++ items_text after (flat_map f ys) ≡ items_text begun (flat_map f (xs ++ ys))
+parts_printed f begun after xs ys is_after =
+    both_printed begun after (flat_map f xs) (flat_map f ys) (flat_map f (xs ++ ys)) is_after (sym (flat_map-append f xs ys))

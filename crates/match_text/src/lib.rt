@@ -27,19 +27,23 @@
 //! whether a part repeats another is a walk over the list.
 //!
 //! What is kept can't be told before the last item, since items come in any order. So the type and the protocol are looked
-//! up at the end, and then the parts that are met are joined to one key and one mask.
+//! up at the end, and then the parts that are met are joined to one key and one mask. `read_flow` leaves that to whoever
+//! knows where the match is to stand, since it has hundreds of bytes.
 //!
 //! A match is printed field by field, in their order, straight into the text: each item behind a comma where one stands
-//! before it. No list of items is made.
+//! before it. No list of items is made. Most matches state bits of few fields, so registers, the IP header and the fields
+//! behind it are passed over where no bit of them is stated.
 //!
 //! # What is left to others
 //!
 //! Names and values (`field_text`), the actions, the word before the flow, and which lines of a file are flows.
 #![tactic(auto)]
 
+mod flows;
 mod items;
 mod naming;
 mod normal;
+mod parts;
 mod printing;
 mod reading;
 mod showing;
@@ -47,5 +51,6 @@ mod shown;
 mod sofar;
 mod stating;
 
+pub use flows::Flow;
 pub use printing::print_match;
-pub use reading::{MatchText, read_match};
+pub use reading::{MatchText, read_flow, read_match};

@@ -6,10 +6,14 @@ ghost use Rattle.rule_tables.specs.Views.{match_view};
 ghost use Rattle.text_numbers.specs.Added.{Adds};
 ghost use Rattle.match_text.specs.Shown.{shown_view, IsFit, item_of, lead, items_text, begun_after};
 
+use crate::parts::{
+    ETHERNET, NETWORK, OTHERS, REGISTERS, network_is_unstated, others_are_unstated,
+    registers_are_unstated,
+};
 use crate::showing::{shorthand_of, shown_field};
 use crate::shown::Shown;
 use field_text::{Shorthand, name_of, print_value, word_of};
-use ovs_fields::{FieldId, all_fields};
+use ovs_fields::FieldId;
 use rule_tables::Match;
 use std::alloc::AllocError;
 
@@ -89,25 +93,62 @@ fn print_fields(
     m: &Match,
     shorthand: Option<Shorthand>,
     fields: &[FieldId],
+    mut begun: bool,
     out: &mut String,
-) -> Result<(), AllocError>
-    ensures { Adds out.old out.new
-        (items_text false (flat_map (printed.shown_field (match_view m.now) shorthand) fields.now))
+) -> Result<bool, AllocError>
+    ensures added { Adds out.old out.new
+        (items_text begun (flat_map (printed.shown_field (match_view m.now) shorthand) fields.now))
         result }
+    ensures begun { IfOk result (λ after. after
+        ≡ begun_after begun (flat_map (printed.shown_field (match_view m.now) shorthand) fields.now)) }
 {
-    let mut begun = false;
     'fields: for field in fields {
         begun = print_field(m, shorthand, *field, begun, out)?;
     }
-    Ok(())
+    Ok(begun)
+}
+
+// The items of some fields, which aren't gone through where no bit of them is stated.
+fn print_part(
+    m: &Match,
+    shorthand: Option<Shorthand>,
+    are_unstated: bool,
+    fields: &[FieldId],
+    begun: bool,
+    out: &mut String,
+) -> Result<bool, AllocError>
+    requires { are_unstated ≡ true
+        → flat_map (printed.shown_field (match_view m.now) shorthand) fields.now ≡ [] }
+    ensures added { Adds out.old out.new
+        (items_text begun (flat_map (printed.shown_field (match_view m.now) shorthand) fields.now))
+        result }
+    ensures begun { IfOk result (λ after. after
+        ≡ begun_after begun (flat_map (printed.shown_field (match_view m.now) shorthand) fields.now)) }
+{
+    if are_unstated {
+        return Ok(begun);
+    }
+    print_fields(m, shorthand, fields, begun, out)
 }
 
 /// Adds the text of a match: its items in the order of the fields, with commas between them.
 ///
 /// Where memory runs out the text begins with what it was.
-#[tactic(auto, unfolding(spec_flow_text::specs::Printed::shown, spec_flow_text::specs::Printed::match_printed))]
 pub fn print_match(m: &Match, out: &mut String) -> Result<(), AllocError>
     ensures { Adds out.old out.new (printed.match_printed (match_view m.now)) result }
 {
-    print_fields(m, shorthand_of(m), all_fields(), out)
+    let shorthand = shorthand_of(m);
+    let begun = print_field(m, shorthand, FieldId::InPort, false, out)?;
+    let begun = print_part(
+        m,
+        shorthand,
+        registers_are_unstated(m),
+        &REGISTERS,
+        begun,
+        out,
+    )?;
+    let begun = print_fields(m, shorthand, &ETHERNET, begun, out)?;
+    let begun = print_part(m, shorthand, network_is_unstated(m), &NETWORK, begun, out)?;
+    print_part(m, shorthand, others_are_unstated(m), &OTHERS, begun, out)?;
+    Ok(())
 }

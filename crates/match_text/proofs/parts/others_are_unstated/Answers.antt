@@ -1,0 +1,8 @@
+use Rattle.std.proofs.Common.{refl, sym, ◌∙◌}
+use Rattle.rule_tables.specs.Views.{match_view}
+use Rattle.match_text.specs.Parts.{others}
+use Rattle.match_text.proofs.Unstated.{none_shown}
+use Rattle.match_text.proofs.parts.others_are_unstated.Goals as goal
+
+pub returns : goal.returns
+returns c all s = none_shown (match_view c.args.m.now) s others refl (sym c.others_have_no_bit.ensures ∙ all)
