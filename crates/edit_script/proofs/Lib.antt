@@ -1,4 +1,5 @@
 pub mod FirstWords
+pub mod Fronts
 pub mod WellFormed
 pub mod Changes
 pub mod Bundling

@@ -3,3 +3,4 @@ pub mod Kept
 pub mod Made
 pub mod ScriptViews
 pub mod WellFormed
+pub mod Fronts

@@ -2,7 +2,8 @@ ghost use Rattle.std.specs.Prelude.{◌≡◌, ℕ, ◌+◌, ◌^◌, ◌<◌, �
 ghost use Rattle.std.specs.Option.{ForSome};
 ghost use Rattle.std.specs.List.{list_all};
 ghost use Rattle.spec_case.specs.Blocks.{AreInOrder};
-ghost use Rattle.spec_flow_text.specs.Lines.{edit_in};
+ghost use Rattle.spec_flow_text.specs.Lines.{edit_in, first_word as word_at_start};
+ghost use Rattle.spec_flow_text.specs.Matches.{uncommented};
 ghost use Rattle.spec_flow_text.specs.declared.fault.TextFault.TheVariants.{Syntax};
 ghost use Rattle.spec_script.specs.declared.fault.FileFault.TheVariants.{Line};
 ghost use Rattle.spec_script.specs.Given.{Gives};
@@ -12,16 +13,18 @@ ghost use Rattle.spec_script.specs.Script.{most_edits, most_syncs, last_time, sy
 ghost use Rattle.spec_tables.specs.Bundles.{edits_through, AreBundles};
 ghost use Rattle.spec_tables.specs.Edits.{Edit as SpecEdit, has_sound_actions};
 ghost use Rattle.rule_tables.specs.History.{applied};
+ghost use Rattle.field_text.specs.WordViews.{word_view};
 ghost use Rattle.edit_script.specs.Begun.{begun_view};
+ghost use Rattle.edit_script.specs.Fronts.{IsFront};
 ghost use Rattle.edit_script.specs.Kept.{AreKept};
 ghost use Rattle.edit_script.specs.Made.{AreRules, unboxed};
 ghost use Rattle.edit_script.specs.ScriptViews.{kept_view, reading_view, read_view};
 ghost use Rattle.edit_script.specs.WellFormed.{IsWellFormed};
 
-use crate::edit_line::read_edit;
-use crate::line_words::{is_word, word_in_front};
+use crate::edit_line::read_edit_behind;
+use crate::line_words::{begins_with, front_of};
 use crate::word_lines::{Begun, read_sync_time, read_word_alone};
-use field_text::TextFault;
+use field_text::{TextFault, Word};
 use line_files::{LineReader, in_line, read_lines};
 use rule_tables::{Edit, SyncPoint, VersionedRules};
 use spec_script::FileFault;
@@ -77,12 +80,14 @@ struct Reading {
     begun: Option<Begun>,
 }
 
-fn edit_in_line(alloc: Global, number: u32, line: &[u8]) -> Result<Edit, FileFault>
-    requires { length line.now ≤ most_line_bytes }
+fn edit_in_line(alloc: Global, number: u32, line: &[u8], front: Word<'_>) -> Result<Edit, FileFault>
+    requires short { length line.now ≤ most_line_bytes }
+    requires front { IsFront (word_view front) (word_at_start (uncommented line.now)) }
+    requires within { front.at + length front.text.now ≤ length line.now }
     ensures value { Gives (λ e. e) result (in_line number (edit_in line.now)) }
     ensures sound { IfOk result (λ e. IsTrue (has_sound_actions e)) }
 {
-    in_line(number, read_edit(alloc, line))
+    in_line(number, read_edit_behind(alloc, line, front))
 }
 
 fn time_in_line(number: u32, begun: Option<Begun>, line: &[u8]) -> Result<u64, FileFault>
@@ -155,9 +160,12 @@ fn with_edit(
     alloc: Global,
     number: u32,
     line: &[u8],
+    front: Word<'_>,
     reading: Reading,
 ) -> Result<Reading, FileFault>
     requires short { length line.now ≤ most_line_bytes }
+    requires front { IsFront (word_view front) (word_at_start (uncommented line.now)) }
+    requires within { front.at + length front.text.now ≤ length line.now }
     requires formed { IsWellFormed (reading_view reading) }
     requires kept { AreKept reading.kept }
     ensures value { Gives reading_view result (with_edit number line.now (reading_view reading)) }
@@ -168,7 +176,7 @@ fn with_edit(
     if kept.said.edits.len() >= MOST_EDITS {
         return Err(FileFault::TooManyEdits);
     }
-    let edit = edit_in_line(alloc, number, line)?;
+    let edit = edit_in_line(alloc, number, line, front)?;
     let kept = with_edit_in(begun, edit, kept)?;
     Ok(Reading { kept, begun })
 }
@@ -258,18 +266,18 @@ impl LineReader for ScriptReader {
     // The script with what one more line says.
     #[tactic(auto, unfolding(spec_script::specs::Script::with_line))]
     fn read_line(&self, number: u32, line: &[u8], reading: Reading) -> Result<Reading, FileFault> {
-        let word = word_in_front(line);
-        if word.is_empty() {
+        let front = front_of(line);
+        if front.text.is_empty() {
             return Ok(reading);
         }
-        if is_word("sync", word) {
+        if begins_with("sync", line, front) {
             with_sync(number, line, reading)
-        } else if is_word("begin", word) {
+        } else if begins_with("begin", line, front) {
             with_begin(number, line, reading)
-        } else if is_word("commit", word) {
+        } else if begins_with("commit", line, front) {
             with_commit(number, line, reading)
         } else {
-            with_edit(self.alloc, number, line, reading)
+            with_edit(self.alloc, number, line, front, reading)
         }
     }
 }
