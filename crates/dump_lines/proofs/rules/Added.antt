@@ -232,13 +232,9 @@ live_as h of n live =
     let all : live_in (history_of of.edits of.bundles) ≡ after_edits of.edits (length of.edits) = live_in-history of.edits of.bundles of.whole in
     subst P (sym of.history) (λ there. live_of of.edits of.sound of.bundles of.whole n (rw all at there)) live
 
--- a rule that wasn't added isn't live, and so isn't gone
-pub not_added : (h : History) → IsOfEdits h → (n : ℕ) → added_as h.edits n ≡ None → false ≡ is_gone_in h n
-not_added h of n none = by_live (is_live n (live_in h)) refl
-  where
-    by_live : (t : Bool) → is_live n (live_in h) ≡ t → false ≡ (if t then not (is_some (added_as h.edits n)) else is_some (added_as h.edits n))
-    by_live true now = let clash = sym none ∙ (live_as h of n now).was in absurd (cc clash)
-    by_live false now = sym (ap is_some none)
+-- a live rule isn't gone
+pub not_gone : (h : History) → IsOfEdits h → (n : ℕ) → is_live n (live_in h) ≡ true → false ≡ is_gone_in h n
+not_gone h of n now = rw (now, (live_as h of n now).was) refl
 
 -- what is known of a live rule, by the rule as it was added
 module _ (h : History) (of : IsOfEdits h) (n : ℕ) (live : is_live n (live_in h) ≡ true) (r : stored.Rule) (was : IsAdded h.edits n r) where

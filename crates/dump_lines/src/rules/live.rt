@@ -98,5 +98,6 @@ pub fn is_gone(rules: &VersionedRules, number: u32) -> bool
     requires { IsOfEdits rules.now }
     ensures { result ≡ is_gone_in rules.now number }
 {
-    rules.rule(number).is_some() && !rules.live(rules.version(), number)
+    // Most rules are live, and then it doesn't matter that an edit added them.
+    !rules.live(rules.version(), number) && rules.rule(number).is_some()
 }
