@@ -3,7 +3,7 @@
 //!
 //! A contract says what is found where there was memory to insert it, so a body that always says that there is none would
 //! meet it. Such a body fails here. The tests stand in a crate of their own, since a crate with tests is proved twice, and
-//! apart from `table_tests`, which take longest of all.
+//! apart from `table_tests`, so that the two are proved side by side.
 #![tactic(auto)]
 
 #[cfg(test)]

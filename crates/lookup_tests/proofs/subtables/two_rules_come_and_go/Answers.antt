@@ -4,7 +4,7 @@ use Rattle.ovs_fields.specs.Packed.{bits}
 use Rattle.ovs_fields.specs.Equality.{same_from_equal}
 use Rattle.rule_tables.specs.Views.{match_view}
 use Rattle.staged_lookup.specs.Numbered.{HasNoNumber}
-use Rattle.lookup_tests.proofs.subtables.of_two_rules_with_one_key_the_greater_priority_wins.Goals as goal
+use Rattle.lookup_tests.proofs.subtables.two_rules_come_and_go.Goals as goal
 
 abbrev rule : ℕ → ℕ → Match → Rule
 rule number priority matching = record { number = number; table = 0; priority = priority; cookie = 0; matching = matching; actions = [] }
@@ -14,25 +14,25 @@ other m r (inl is) e = let f : 7 ≡ 8 = sym (ap (λ (x : Rule). x.number) is) �
 other m r (inr none) e = absurd none
 
 pub insert-requires-clause-mask : goal.insert-requires-clause-mask
-insert-requires-clause-mask g c = same_from_equal _ _ (c.match_of-matching.ensures ∙ sym c.new-subtable.ensures.mask)
+insert-requires-clause-mask g c = same_from_equal _ _ c.requires.mask
 
 pub insert-requires-2-clause-mask : goal.insert-requires-2-clause-mask
-insert-requires-2-clause-mask g c = same_from_equal _ _ (c.match_of-matching.ensures ∙ sym c.new-subtable.ensures.mask ∙ ap bits (sym c.insert.ensures.mask))
+insert-requires-2-clause-mask g c = same_from_equal _ _ (c.requires.mask ∙ ap bits (sym c.insert.ensures.mask))
 
 pub insert-requires-2-clause-new : goal.insert-requires-2-clause-new
 insert-requires-2-clause-new g c =
-    let m = match_view c.match_of-matching.result in
-    (rule 7 100 m ∷ [], c.in_ok-insert.ensures.ok [] (rule 7 100 m) c.new-subtable.ensures.rules refl refl refl, other m)
+    let m = match_view c.args.matching.now in
+    (rule 7 100 m ∷ [], c.in_ok-insert.ensures.ok [] (rule 7 100 m) c.requires.empty refl refl refl, other m)
 
 pub remove-requires : goal.remove-requires
 remove-requires g c =
-    let m = match_view c.match_of-matching.result in
-    let one = c.in_ok-insert.ensures.ok [] (rule 7 100 m) c.new-subtable.ensures.rules refl refl refl in
+    let m = match_view c.args.matching.now in
+    let one = c.in_ok-insert.ensures.ok [] (rule 7 100 m) c.requires.empty refl refl refl in
     (rule 7 100 m ∷ rule 8 200 m ∷ [], c.in_ok-insert-2.ensures.ok (rule 7 100 m ∷ []) (rule 8 200 m) one refl refl refl, (rule 8 200 m, inr (inl refl), refl))
 
 pub remove-requires-2 : goal.remove-requires-2
 remove-requires-2 g c =
-    let m = match_view c.match_of-matching.result in
-    let one = c.in_ok-insert.ensures.ok [] (rule 7 100 m) c.new-subtable.ensures.rules refl refl refl in
+    let m = match_view c.args.matching.now in
+    let one = c.in_ok-insert.ensures.ok [] (rule 7 100 m) c.requires.empty refl refl refl in
     let two = c.in_ok-insert-2.ensures.ok (rule 7 100 m ∷ []) (rule 8 200 m) one refl refl refl in
     (rule 7 100 m ∷ [], c.remove.ensures.removed (rule 7 100 m ∷ rule 8 200 m ∷ []) two, (rule 7 100 m, inl refl, refl))

@@ -3,7 +3,7 @@ use Rattle.std.proofs.lemmas.List.Sums.{sum_by-cons}
 use Rattle.spec_tables.specs.Rules.{Match, Rule}
 use Rattle.rule_tables.specs.Views.{match_view}
 use Rattle.address_prefixes.specs.RuleLists.{HasOneMore}
-use Rattle.lookup_tests.proofs.addresses.a_mask_whose_prefixes_no_rule_states_ends_without_a_bit.Goals as goal
+use Rattle.lookup_tests.proofs.addresses.test_by_two_masks.Goals as goal
 
 one_of_none : (r : Rule) → HasOneMore r [] (r ∷ [])
 one_of_none r p = let one = sum_by-cons (λ (x : Rule). if p x then 1 else 0) r [] in omega (arith, one)
@@ -13,19 +13,19 @@ abbrev rule_with : Match → Rule
 rule_with m = record { number = 7; table = 0; priority = 100; cookie = 0; matching = m; actions = [] }
 
 pub insert-requires : goal.insert-requires
-insert-requires g c = ([], c.new-prefixes.ensures, lit< tt)
+insert-requires g c = ([], c.requires, lit< tt)
 
 pub test-requires : goal.test-requires
 test-requires g c =
-    let r = rule_with (match_view c.any-every.result) in
-    (r ∷ [], c.in_ok-insert.ensures.ok [] (r ∷ []) r c.new-prefixes.ensures refl (one_of_none r))
+    let r = rule_with (match_view c.args.every.now) in
+    (r ∷ [], c.in_ok-insert.ensures.ok [] (r ∷ []) r c.requires refl (one_of_none r))
 
 pub test-requires-2 : goal.test-requires-2
 test-requires-2 g c =
-    let r = rule_with (match_view c.any-every.result) in
-    (r ∷ [], c.in_ok-insert.ensures.ok [] (r ∷ []) r c.new-prefixes.ensures refl (one_of_none r))
+    let r = rule_with (match_view c.args.every.now) in
+    (r ∷ [], c.in_ok-insert.ensures.ok [] (r ∷ []) r c.requires refl (one_of_none r))
 
 pub remove-requires : goal.remove-requires
 remove-requires g c =
-    let r = rule_with (match_view c.any-every.result) in
-    (r ∷ [], r, c.in_ok-insert.ensures.ok [] (r ∷ []) r c.new-prefixes.ensures refl (one_of_none r), inl refl, refl)
+    let r = rule_with (match_view c.args.every.now) in
+    (r ∷ [], r, c.in_ok-insert.ensures.ok [] (r ∷ []) r c.requires refl (one_of_none r), inl refl, refl)
