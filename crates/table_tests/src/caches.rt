@@ -1,5 +1,6 @@
 use exact_cache::{ExactCache, HashedKey};
 use ovs_fields::{FieldId, Key};
+use std::process::Abort;
 use std::test::Fail;
 
 /// More keys than a cache has slots.
@@ -12,19 +13,25 @@ fn from_address(address: u32) -> Key {
     key
 }
 
+/// Asserts which entry a cache names for a key.
+fn expect_entry(rt: &impl Abort, cache: &ExactCache, key: &Key, entry: Option<u32>) {
+    assert_eq!(rt; cache.look(key).entry, entry);
+}
+
 #[test]
 fn a_key_is_named_the_entry_that_was_put_last(rt: HostRuntime) -> Result<(), Fail> {
     let mut cache = ExactCache::new(rt.alloc())?;
     let key = from_address(0x0a00_0001);
     let other = from_address(0x0a00_0002);
+    expect_entry(&rt, &cache, &key, None);
     let missed = cache.look(&key);
-    assert_eq!(rt; missed.entry, None);
     cache.put(missed.key, 1, 0);
+    expect_entry(&rt, &cache, &key, Some(1));
     let hit = cache.look(&key);
-    assert_eq!(rt; hit.entry, Some(1));
     cache.put(hit.key, 2, 0);
-    assert_eq!(rt; cache.look(&key).entry, Some(2));
-    assert_eq!(rt; cache.look(&other).entry, None);
+    expect_entry(&rt, &cache, &key, Some(2));
+    expect_entry(&rt, &cache, &other, None);
+    drop(cache);
     Ok(())
 }
 
@@ -35,8 +42,9 @@ fn keys_that_share_a_hint_keep_their_own_entries(rt: HostRuntime) -> Result<(), 
     let other = from_address(0x0a00_0ed0);
     cache.put(HashedKey::of(&key), 1, 0);
     cache.put(HashedKey::of(&other), 2, 0);
-    assert_eq!(rt; cache.look(&key).entry, Some(1));
-    assert_eq!(rt; cache.look(&other).entry, Some(2));
+    expect_entry(&rt, &cache, &key, Some(1));
+    expect_entry(&rt, &cache, &other, Some(2));
+    drop(cache);
     Ok(())
 }
 
@@ -46,7 +54,8 @@ fn a_full_cache_takes_more_keys(rt: HostRuntime) -> Result<(), Fail> {
     for address in 0..MANY {
         let key = from_address(address);
         cache.put(HashedKey::of(&key), address, 0);
-        assert_eq!(rt; cache.look(&key).entry, Some(address));
+        expect_entry(&rt, &cache, &key, Some(address));
     }
+    drop(cache);
     Ok(())
 }

@@ -6,7 +6,11 @@ use dp_actions::Visits;
 use megaflow_table::{Entry, Megaflows};
 use ovs_fields::{FieldId, Key, Mask};
 use std::alloc::{AllocError, Global};
+use std::process::Abort;
 use std::test::Fail;
+
+/// The flow limit, which is more than the entries of any test.
+const LIMIT: u32 = 10;
 
 const IN_PORT_BITS: u128 = 0xffff;
 
@@ -121,71 +125,122 @@ fn remove(table: &mut Megaflows, number: u32) {
 }
 
 /// An entry of each of two masks.
-fn two_megaflows(alloc: Global) -> Result<Megaflows, AllocError> {
-    let mut table = Megaflows::new(alloc, 10);
-    install(&mut table, entry(alloc, 1, key_of(7, 0), port_mask()))?;
-    install(&mut table, entry(alloc, 4, key_of(8, 2), whole_mask()))?;
-    Ok(table)
+fn install_two(alloc: Global, table: &mut Megaflows) -> Result<(), AllocError> {
+    install(table, entry(alloc, 1, key_of(7, 0), port_mask()))?;
+    install(table, entry(alloc, 4, key_of(8, 2), whole_mask()))
+}
+
+/// Asserts which entry covers a key.
+fn expect_found(rt: &impl Abort, table: &Megaflows, key: &Key, number: Option<u32>) {
+    assert_eq!(rt; table.find(key), number);
+}
+
+/// Asserts which entries an entry of this key and mask would overlap.
+fn expect_overlapping(
+    rt: &impl Abort,
+    table: &Megaflows,
+    key: &Key,
+    mask: &Mask,
+    numbers: &[u32],
+) -> Result<(), AllocError> {
+    let overlapping = table.overlaps(key, mask)?;
+    assert_eq!(rt; overlapping.as_slice(), numbers);
+    Ok(())
+}
+
+/// Two entries, of which the second one goes.
+fn keys_find_their_entries(
+    rt: &impl Abort,
+    alloc: Global,
+    table: &mut Megaflows,
+) -> Result<(), AllocError> {
+    install_two(alloc, table)?;
+    assert_eq!(rt; table.len(), 2);
+    expect_found(rt, table, &key_of(7, 2), Some(1));
+    expect_found(rt, table, &key_of(8, 2), Some(4));
+    expect_found(rt, table, &key_of(8, 3), None);
+    assert_eq!(rt; table.after(1), Some(4));
+    expect_overlapping(rt, table, &key_of(8, 0), &port_mask(), &[4])?;
+    remove(table, 4);
+    assert_eq!(rt; table.numbers(), &[1][..]);
+    expect_found(rt, table, &key_of(8, 2), None);
+    Ok(())
 }
 
 #[test]
 fn a_key_has_the_one_entry_that_covers_it(rt: HostRuntime) -> Result<(), Fail> {
-    let mut table = two_megaflows(rt.alloc())?;
-    assert_eq!(rt; table.len(), 2);
-    assert_eq!(rt; table.find(&key_of(7, 2)), Some(1));
-    assert_eq!(rt; table.find(&key_of(8, 2)), Some(4));
-    assert_eq!(rt; table.find(&key_of(8, 3)), None);
-    assert_eq!(rt; table.after(1), Some(4));
-    let overlapping = table.overlaps(&key_of(8, 0), &port_mask())?;
-    assert_eq!(rt; overlapping.as_slice(), &[4][..]);
-    remove(&mut table, 4);
-    assert_eq!(rt; table.numbers(), &[1][..]);
-    assert_eq!(rt; table.find(&key_of(8, 2)), None);
-    Ok(())
+    let mut table = Megaflows::new(rt.alloc(), LIMIT);
+    let done = keys_find_their_entries(&rt, rt.alloc(), &mut table);
+    drop(table);
+    Ok(done?)
+}
+
+/// Three entries, and what overlaps one of them, none and all.
+fn covered_masks_overlap(
+    rt: &impl Abort,
+    alloc: Global,
+    table: &mut Megaflows,
+) -> Result<(), AllocError> {
+    install_two(alloc, table)?;
+    install(table, entry(alloc, 6, key_of(9, 0), port_mask()))?;
+    expect_overlapping(rt, table, &key_of(9, 2), &whole_mask(), &[6])?;
+    expect_overlapping(rt, table, &key_of(8, 3), &whole_mask(), &[])?;
+    expect_overlapping(rt, table, &key_of(5, 2), &address_mask(), &[1, 4, 6])
 }
 
 #[test]
 fn entries_overlap_where_one_mask_covers_the_other(rt: HostRuntime) -> Result<(), Fail> {
-    let alloc = rt.alloc();
-    let mut table = two_megaflows(alloc)?;
-    install(&mut table, entry(alloc, 6, key_of(9, 0), port_mask()))?;
-    let probed = table.overlaps(&key_of(9, 2), &whole_mask())?;
-    assert_eq!(rt; probed.as_slice(), &[6][..]);
-    let apart = table.overlaps(&key_of(8, 3), &whole_mask())?;
-    assert_eq!(rt; apart.is_empty(), true);
-    let tested = table.overlaps(&key_of(5, 2), &address_mask())?;
-    assert_eq!(rt; tested.as_slice(), &[1, 4, 6][..]);
-    Ok(())
+    let mut table = Megaflows::new(rt.alloc(), LIMIT);
+    let done = covered_masks_overlap(&rt, rt.alloc(), &mut table);
+    drop(table);
+    Ok(done?)
+}
+
+/// Two entries, and what overlaps each of them alone and none.
+fn crossing_masks_overlap(
+    rt: &impl Abort,
+    alloc: Global,
+    table: &mut Megaflows,
+) -> Result<(), AllocError> {
+    install(table, entry(alloc, 2, key_of(7, 3), whole_mask()))?;
+    install(table, entry(alloc, 5, key_of(8, 0), type_mask()))?;
+    expect_overlapping(rt, table, &key_of(8, 3), &whole_mask(), &[5])?;
+    expect_overlapping(rt, table, &key_of(7, 4), &type_mask(), &[2])?;
+    expect_overlapping(rt, table, &key_of(9, 3), &whole_mask(), &[])
 }
 
 #[test]
 fn entries_overlap_where_neither_mask_covers_the_other(rt: HostRuntime) -> Result<(), Fail> {
-    let alloc = rt.alloc();
-    let mut table = Megaflows::new(alloc, 10);
-    install(&mut table, entry(alloc, 2, key_of(7, 3), whole_mask()))?;
-    install(&mut table, entry(alloc, 5, key_of(8, 0), type_mask()))?;
-    let typed = table.overlaps(&key_of(8, 3), &whole_mask())?;
-    assert_eq!(rt; typed.as_slice(), &[5][..]);
-    let addressed = table.overlaps(&key_of(7, 4), &type_mask())?;
-    assert_eq!(rt; addressed.as_slice(), &[2][..]);
-    let apart = table.overlaps(&key_of(9, 3), &whole_mask())?;
-    assert_eq!(rt; apart.is_empty(), true);
-    Ok(())
+    let mut table = Megaflows::new(rt.alloc(), LIMIT);
+    let done = crossing_masks_overlap(&rt, rt.alloc(), &mut table);
+    drop(table);
+    Ok(done?)
 }
 
-#[test]
-fn an_entry_counts_its_packets(rt: HostRuntime) -> Result<(), Fail> {
-    let alloc = rt.alloc();
-    let mut table = two_megaflows(alloc)?;
-    hit(&mut table, 4, 60, 5);
-    pay(&mut table, 4);
-    hit(&mut table, 4, 64, 9);
-    change(&mut table, 4, 2, Visits::new(vec![in alloc; 3]?));
+/// An entry that decides two packets, is paid for the first one, and changes.
+fn packets_are_counted(
+    rt: &impl Abort,
+    alloc: Global,
+    table: &mut Megaflows,
+) -> Result<(), AllocError> {
+    install_two(alloc, table)?;
+    hit(table, 4, 60, 5);
+    pay(table, 4);
+    hit(table, 4, 64, 9);
+    change(table, 4, 2, Visits::new(vec![in alloc; 3]?));
     let counts = table
         .get(4)
         .map(|e| (e.bytes, e.owed_bytes, e.used, e.version));
     assert_eq!(rt; counts, Some((124, 64, 9, 2)));
     Ok(())
+}
+
+#[test]
+fn an_entry_counts_its_packets(rt: HostRuntime) -> Result<(), Fail> {
+    let mut table = Megaflows::new(rt.alloc(), LIMIT);
+    let done = packets_are_counted(&rt, rt.alloc(), &mut table);
+    drop(table);
+    Ok(done?)
 }
 
 /// An entry decides packets of one byte, so many.
@@ -195,22 +250,44 @@ fn hit_often(table: &mut Megaflows, number: u32, times: u32) {
     }
 }
 
-#[test]
-fn masks_stand_by_their_hits(rt: HostRuntime) -> Result<(), Fail> {
-    let mut table = two_megaflows(rt.alloc())?;
-    assert!(rt; table.rank(0) == Some((port_mask(), 0)));
-    hit_often(&mut table, 4, 100);
-    hit(&mut table, 1, 60, 5);
-    assert!(rt; table.rank(0) == Some((whole_mask(), 100)));
-    assert!(rt; table.rank(1) == Some((port_mask(), 1)));
-    assert!(rt; table.rank(2) == None);
+/// Asserts which mask stands at a place of the order, and with how many hits.
+fn expect_rank(rt: &impl Abort, table: &Megaflows, place: u32, mask: Mask, hits: u64) {
+    assert!(rt; table.rank(place) == Some((mask, hits)));
+}
+
+/// Asserts that so many masks stand in the order.
+fn expect_masks(rt: &impl Abort, table: &Megaflows, count: u32) {
+    assert!(rt; table.rank(count) == None);
+}
+
+/// Two entries, of which the second one is hit more often, and then goes.
+fn masks_are_ranked(
+    rt: &impl Abort,
+    alloc: Global,
+    table: &mut Megaflows,
+) -> Result<(), AllocError> {
+    install_two(alloc, table)?;
+    expect_rank(rt, table, 0, port_mask(), 0);
+    hit_often(table, 4, 100);
+    hit(table, 1, 60, 5);
+    expect_rank(rt, table, 0, whole_mask(), 100);
+    expect_rank(rt, table, 1, port_mask(), 1);
+    expect_masks(rt, table, 2);
     assert_eq!(rt; table.after(0), Some(1));
-    assert_eq!(rt; table.find(&key_of(7, 2)), Some(1));
-    assert_eq!(rt; table.find(&key_of(8, 2)), Some(4));
+    expect_found(rt, table, &key_of(7, 2), Some(1));
+    expect_found(rt, table, &key_of(8, 2), Some(4));
     let counts = table.get(1).map(|e| (e.packets, e.bytes, e.used));
     assert_eq!(rt; counts, Some((1, 60, 5)));
-    remove(&mut table, 4);
-    assert!(rt; table.rank(0) == Some((port_mask(), 1)));
-    assert!(rt; table.rank(1) == None);
+    remove(table, 4);
+    expect_rank(rt, table, 0, port_mask(), 1);
+    expect_masks(rt, table, 1);
     Ok(())
+}
+
+#[test]
+fn masks_stand_by_their_hits(rt: HostRuntime) -> Result<(), Fail> {
+    let mut table = Megaflows::new(rt.alloc(), LIMIT);
+    let done = masks_are_ranked(&rt, rt.alloc(), &mut table);
+    drop(table);
+    Ok(done?)
 }

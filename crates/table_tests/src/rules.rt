@@ -1,9 +1,10 @@
-ghost use Rattle.std.specs.Prelude.{◌≡◌, IfOk};
-ghost use Rattle.rule_tables.specs.History.{newest};
+ghost use Rattle.std.specs.Prelude.{◌≡◌, ◌+◌, ◌≤◌, ◌<◌, ◌^◌, [], ◌∷◌, OnOk};
+ghost use Rattle.rule_tables.specs.History.{newest, applied, bundled_by, no_bundles};
 
 use ovs_fields::{FieldId, Key, Mask};
 use rule_tables::{Actions, Edit, EditWord, Match, OfAction, VersionedRules};
 use std::alloc::{AllocError, Global};
+use std::process::Abort;
 use std::test::Fail;
 
 /// The priority of a rule that states none (ovs-ofctl(8)).
@@ -63,106 +64,201 @@ pub fn edit(
     })
 }
 
-/// Two rules, of which the second is more specific; both modified; the first one deleted; the second one replaced.
-fn five_versions(alloc: Global) -> Result<VersionedRules, AllocError>
-    ensures { IfOk result (λ rules. newest rules ≡ 5) }
+/// Applies a bundle of one edit.
+pub fn apply_one(rules: &mut VersionedRules, edit: Edit) -> Result<u32, AllocError>
+    requires { applied rules.old.edits + 1 < 2 ^ 32 }
+    ensures { OnOk result (rules.new ≡ bundled_by (edit ∷ []) rules.old) }
 {
-    let mut rules = VersionedRules::new(alloc);
-    rules.apply(&[edit(alloc, EditWord::Add, Some(7), port_1(), 2)?])?;
-    rules.apply(&[edit(alloc, EditWord::Add, None, port_1_to_2(), 3)?])?;
-    rules.apply(&[edit(alloc, EditWord::Modify, None, port_1(), 4)?])?;
-    rules.apply(&[edit(alloc, EditWord::DeleteStrict, None, port_1(), 0)?])?;
-    rules.apply(&[edit(alloc, EditWord::Add, None, port_1_to_2(), 5)?])?;
-    Ok(rules)
+    let bundle = [edit];
+    let version = rules.apply(&bundle);
+    drop(bundle);
+    version
+}
+
+/// Two rules, of which the second is more specific; both modified; the first one deleted; the second one replaced.
+fn make_five_versions(alloc: Global, rules: &mut VersionedRules) -> Result<(), AllocError>
+    requires { rules.old ≡ no_bundles }
+    ensures { OnOk result (newest rules.new ≡ 5) }
+{
+    apply_one(rules, edit(alloc, EditWord::Add, Some(7), port_1(), 2)?)?;
+    apply_one(rules, edit(alloc, EditWord::Add, None, port_1_to_2(), 3)?)?;
+    apply_one(rules, edit(alloc, EditWord::Modify, None, port_1(), 4)?)?;
+    apply_one(
+        rules,
+        edit(alloc, EditWord::DeleteStrict, None, port_1(), 0)?,
+    )?;
+    apply_one(rules, edit(alloc, EditWord::Add, None, port_1_to_2(), 5)?)?;
+    Ok(())
+}
+
+/// Asserts that a rule of a version is live, and has one action, an output.
+fn expect_output(rt: &impl Abort, rules: &VersionedRules, version: u32, number: u32, port: u16)
+    requires { version ≤ newest rules.now }
+{
+    assert!(rt; rules.live(version, number));
+    assert!(rt; rules.actions(version, number) == [OfAction::Output(port)].as_slice());
+}
+
+/// Asserts that a rule of a version is live, and which cookie it has.
+fn expect_cookie(rt: &impl Abort, rules: &VersionedRules, version: u32, number: u32, cookie: u64)
+    requires { version ≤ newest rules.now }
+{
+    assert!(rt; rules.live(version, number));
+    assert_eq!(rt; rules.cookie(version, number), cookie);
+}
+
+/// The versions in which both rules were added and modified.
+fn both_rules_are_modified(
+    rt: &impl Abort,
+    alloc: Global,
+    rules: &mut VersionedRules,
+) -> Result<(), AllocError>
+    requires { rules.old ≡ no_bundles }
+{
+    make_five_versions(alloc, rules)?;
+    expect_output(rt, rules, 2, 1, 2);
+    expect_output(rt, rules, 3, 1, 4);
+    expect_cookie(rt, rules, 3, 1, 7);
+    expect_output(rt, rules, 3, 2, 4);
+    Ok(())
 }
 
 #[test]
 fn a_modify_gives_its_actions_to_both_rules_from_its_version_on(
     rt: HostRuntime,
 ) -> Result<(), Fail> {
-    let rules = five_versions(rt.alloc())?;
-    assert!(rt; rules.live(2, 1));
-    assert!(rt; rules.actions(2, 1) == [OfAction::Output(2)].as_slice());
-    assert!(rt; rules.live(3, 1));
-    assert!(rt; rules.actions(3, 1) == [OfAction::Output(4)].as_slice());
-    assert_eq!(rt; rules.cookie(3, 1), 7);
-    assert!(rt; rules.live(3, 2));
-    assert!(rt; rules.actions(3, 2) == [OfAction::Output(4)].as_slice());
-    Ok(())
+    let mut rules = VersionedRules::new(rt.alloc());
+    let done = both_rules_are_modified(&rt, rt.alloc(), &mut rules);
+    drop(rules);
+    Ok(done?)
 }
 
-#[test]
-fn the_last_version_has_the_last_rule_alone(rt: HostRuntime) -> Result<(), Fail> {
-    let rules = five_versions(rt.alloc())?;
+/// The versions in which one rule was deleted and the other one replaced.
+fn one_rule_is_left(
+    rt: &impl Abort,
+    alloc: Global,
+    rules: &mut VersionedRules,
+) -> Result<(), AllocError>
+    requires { rules.old ≡ no_bundles }
+{
+    make_five_versions(alloc, rules)?;
     assert!(rt; !rules.live(4, 1));
     assert!(rt; rules.live(4, 2));
     assert!(rt; !rules.live(5, 2));
-    assert!(rt; rules.live(5, 5));
-    assert!(rt; rules.actions(5, 5) == [OfAction::Output(5)].as_slice());
+    expect_output(rt, rules, 5, 5, 5);
     assert_eq!(rt; rules.changes(), 7);
     Ok(())
 }
 
 #[test]
-fn a_rule_is_told_as_it_was_added_and_found_where_it_matches(rt: HostRuntime) -> Result<(), Fail> {
-    let rules = five_versions(rt.alloc())?;
+fn the_last_version_has_the_last_rule_alone(rt: HostRuntime) -> Result<(), Fail> {
+    let mut rules = VersionedRules::new(rt.alloc());
+    let done = one_rule_is_left(&rt, rt.alloc(), &mut rules);
+    drop(rules);
+    Ok(done?)
+}
+
+/// Asserts which rule wins for a key in table 0 of a version.
+fn expect_winner(
+    rt: &impl Abort,
+    rules: &VersionedRules,
+    version: u32,
+    key: &Key,
+    rule: Option<u32>,
+)
+    requires { version ≤ newest rules.now }
+{
+    assert_eq!(rt; rules.scan(version, 0, key), rule);
+}
+
+/// The rules as they were added, and where a packet that comes in by port 1 finds one.
+fn rules_are_told_and_found(
+    rt: &impl Abort,
+    alloc: Global,
+    rules: &mut VersionedRules,
+) -> Result<(), AllocError>
+    requires { rules.old ≡ no_bundles }
+{
+    make_five_versions(alloc, rules)?;
     assert_eq!(rt; rules.rule(1).map(|rule| rule.cookie), Some(7));
     assert!(rt; rules.rule(3).is_none());
     let mut key = Key::zero();
     key.set(FieldId::InPort, 1);
-    assert_eq!(rt; rules.scan(0, 0, &key), None);
-    assert_eq!(rt; rules.scan(3, 0, &key), Some(1));
-    assert_eq!(rt; rules.scan(4, 0, &key), None);
+    expect_winner(rt, rules, 0, &key, None);
+    expect_winner(rt, rules, 3, &key, Some(1));
+    expect_winner(rt, rules, 4, &key, None);
     Ok(())
 }
 
-/// A rule for the packets whose outer tag is of VLAN 10.
-fn rule_of_vlan_10(alloc: Global) -> Result<VersionedRules, AllocError>
-    ensures { IfOk result (λ rules. newest rules ≡ 1) }
-{
-    let mut rules = VersionedRules::new(alloc);
-    rules.apply(&[edit(alloc, EditWord::Add, None, vlan_10(), 2)?])?;
-    Ok(rules)
+#[test]
+fn a_rule_is_told_as_it_was_added_and_found_where_it_matches(rt: HostRuntime) -> Result<(), Fail> {
+    let mut rules = VersionedRules::new(rt.alloc());
+    let done = rules_are_told_and_found(&rt, rt.alloc(), &mut rules);
+    drop(rules);
+    Ok(done?)
 }
 
-#[test]
-fn of_two_tags_the_outer_one_is_matched(rt: HostRuntime) -> Result<(), Fail> {
-    let rules = rule_of_vlan_10(rt.alloc())?;
+/// A rule for the packets whose outer tag is of VLAN 10, and what it matches of packets with two tags.
+fn outer_tags_are_matched(
+    rt: &impl Abort,
+    alloc: Global,
+    rules: &mut VersionedRules,
+) -> Result<(), AllocError>
+    requires { rules.old ≡ no_bundles }
+{
+    apply_one(rules, edit(alloc, EditWord::Add, None, vlan_10(), 2)?)?;
     let mut key = Key::zero();
     key.set(FieldId::VlanTpid, 0x88a8);
     key.set(FieldId::VlanTci, 0x1014);
     key.set(FieldId::VlanTpid2, 0x8100);
     key.set(FieldId::VlanTci2, 0x100a);
-    assert_eq!(rt; rules.scan(1, 0, &key), None);
+    expect_winner(rt, rules, 1, &key, None);
     key.set(FieldId::VlanTci, 0x100a);
     key.set(FieldId::VlanTci2, 0x1014);
-    assert_eq!(rt; rules.scan(1, 0, &key), Some(1));
+    expect_winner(rt, rules, 1, &key, Some(1));
     Ok(())
 }
 
+#[test]
+fn of_two_tags_the_outer_one_is_matched(rt: HostRuntime) -> Result<(), Fail> {
+    let mut rules = VersionedRules::new(rt.alloc());
+    let done = outer_tags_are_matched(&rt, rt.alloc(), &mut rules);
+    drop(rules);
+    Ok(done?)
+}
+
 /// A rule that is modified strictly, an edit that fits nothing, and a delete of all rules.
-fn strict_words(alloc: Global) -> Result<VersionedRules, AllocError>
-    ensures { IfOk result (λ rules. newest rules ≡ 4) }
+fn strict_words_are_applied(
+    rt: &impl Abort,
+    alloc: Global,
+    rules: &mut VersionedRules,
+) -> Result<(), AllocError>
+    requires { rules.old ≡ no_bundles }
 {
-    let mut rules = VersionedRules::new(alloc);
-    rules.apply(&[edit(alloc, EditWord::Add, Some(7), port_1(), 2)?])?;
-    rules.apply(&[edit(alloc, EditWord::ModifyStrict, Some(9), port_1(), 3)?])?;
-    rules.apply(&[edit(alloc, EditWord::ModifyStrict, None, port_1_to_2(), 4)?])?;
-    rules.apply(&[edit(alloc, EditWord::Delete, None, Match::any(), 0)?])?;
-    Ok(rules)
+    apply_one(rules, edit(alloc, EditWord::Add, Some(7), port_1(), 2)?)?;
+    apply_one(
+        rules,
+        edit(alloc, EditWord::ModifyStrict, Some(9), port_1(), 3)?,
+    )?;
+    apply_one(
+        rules,
+        edit(alloc, EditWord::ModifyStrict, None, port_1_to_2(), 4)?,
+    )?;
+    apply_one(rules, edit(alloc, EditWord::Delete, None, Match::any(), 0)?)?;
+    expect_cookie(rt, rules, 1, 1, 7);
+    expect_cookie(rt, rules, 3, 1, 9);
+    expect_output(rt, rules, 3, 1, 3);
+    assert!(rt; !rules.live(4, 1));
+    assert_eq!(rt; rules.changes(), 3);
+    Ok(())
 }
 
 #[test]
 fn a_strict_modify_gives_its_cookie_to_its_rule_and_none_where_it_fits_no_rule(
     rt: HostRuntime,
 ) -> Result<(), Fail> {
-    let rules = strict_words(rt.alloc())?;
-    assert!(rt; rules.live(1, 1));
-    assert_eq!(rt; rules.cookie(1, 1), 7);
-    assert!(rt; rules.live(3, 1));
-    assert_eq!(rt; rules.cookie(3, 1), 9);
-    assert!(rt; rules.actions(3, 1) == [OfAction::Output(3)].as_slice());
-    assert!(rt; !rules.live(4, 1));
-    assert_eq!(rt; rules.changes(), 3);
-    Ok(())
+    let mut rules = VersionedRules::new(rt.alloc());
+    let done = strict_words_are_applied(&rt, rt.alloc(), &mut rules);
+    drop(rules);
+    Ok(done?)
 }

@@ -1,14 +1,16 @@
-ghost use Rattle.std.specs.Prelude.{◌≡◌, IfOk};
+ghost use Rattle.std.specs.Prelude.{◌≡◌, IfOk, OnOk};
 ghost use Rattle.spec_actions.specs.Sound.{AreSound};
 ghost use Rattle.spec_tables.specs.declared.edit_word.EditWord.TheVariants.{Add};
-ghost use Rattle.rule_tables.specs.History.{newest, rules_of};
+ghost use Rattle.rule_tables.specs.History.{newest, rules_of, no_bundles};
 ghost use Rattle.pipe_model.specs.Runnable.{AreRunnable};
 
+use crate::rules::apply_one;
 use dp_actions::{ActionList, DpAction, Visits};
 use ovs_fields::{FieldId, Key};
 use pipe_model::{Plain, SpareLists, Translating};
 use rule_tables::{Actions, Edit, EditWord, Match, OfAction, VersionedRules};
 use std::alloc::{AllocError, Global};
+use std::process::Abort;
 use std::test::Fail;
 use xlate_pipeline::plain;
 
@@ -33,20 +35,61 @@ fn adding(alloc: Global, table: u8, actions: &[OfAction]) -> Result<Edit, AllocE
 }
 
 /// A rule for every packet in each of the tables 0 and 1.
-fn two_tables(
+fn add_two_tables(
+    alloc: Global,
+    rules: &mut VersionedRules,
+    first: &[OfAction],
+    second: &[OfAction],
+) -> Result<(), AllocError>
+    requires none { rules.old ≡ no_bundles }
+    requires first { AreSound first.now }
+    requires second { AreSound second.now }
+    ensures version { OnOk result (newest rules.new ≡ 2) }
+    ensures runnable { OnOk result (AreRunnable (rules_of rules.new 2)) }
+{
+    apply_one(rules, adding(alloc, 0, first)?)?;
+    apply_one(rules, adding(alloc, 1, second)?)?;
+    Ok(())
+}
+
+/// What is made of a packet, where a rule of table 0 and one of table 1 have these actions.
+fn translated(
+    alloc: Global,
+    rules: &mut VersionedRules,
+    first: &[OfAction],
+    second: &[OfAction],
+    key: &Key,
+) -> Result<Plain, AllocError>
+    requires none { rules.old ≡ no_bundles }
+    requires first { AreSound first.now }
+    requires second { AreSound second.now }
+{
+    add_two_tables(alloc, rules, first, second)?;
+    plain(alloc, rules, 2, &PORTS, key)
+}
+
+/// The same, with the rules made and dropped.
+fn made_of(
     alloc: Global,
     first: &[OfAction],
     second: &[OfAction],
-) -> Result<VersionedRules, AllocError>
+    key: &Key,
+) -> Result<Plain, AllocError>
     requires first { AreSound first.now }
     requires second { AreSound second.now }
-    ensures version { IfOk result (λ r. newest r ≡ 2) }
-    ensures runnable { IfOk result (λ r. AreRunnable (rules_of r 2)) }
 {
     let mut rules = VersionedRules::new(alloc);
-    rules.apply(&[adding(alloc, 0, first)?])?;
-    rules.apply(&[adding(alloc, 1, second)?])?;
-    Ok(rules)
+    let made = translated(alloc, &mut rules, first, second, key);
+    drop(rules);
+    made
+}
+
+/// Asserts how many datapath actions a translation has, and how many visits.
+fn expect_lengths(rt: &impl Abort, made: &Plain, actions: usize, visits: usize) {
+    assert_eq!(rt;
+        (made.actions.len(), made.visits.as_slice().len()),
+        (actions, visits)
+    );
 }
 
 /// The key of an IPv4 packet with this TTL.
@@ -63,13 +106,12 @@ fn ipv4_key(ttl: u8) -> Key {
 fn lookups_are_made_64_deep(rt: HostRuntime) -> Result<(), Fail> {
     let first = [OfAction::Resubmit(1), OfAction::Output(2)];
     let second = [OfAction::DecTtl, OfAction::Resubmit(1)];
-    let rules = two_tables(rt.alloc(), &first, &second)?;
-    let deep = plain(rt.alloc(), &rules, 2, &PORTS, &ipv4_key(64))?;
-    assert_eq!(rt; deep.actions.len(), 2, "a set of the TTL and an output");
-    assert_eq!(rt; deep.visits.as_slice().len(), 65);
-    let deeper = plain(rt.alloc(), &rules, 2, &PORTS, &ipv4_key(65))?;
-    assert_eq!(rt; deeper.actions.len(), 0);
-    assert_eq!(rt; deeper.visits.as_slice().len(), 65);
+    let deep = made_of(rt.alloc(), &first, &second, &ipv4_key(64))?;
+    // A set of the TTL and an output.
+    expect_lengths(&rt, &deep, 2, 65);
+    drop(deep);
+    let deeper = made_of(rt.alloc(), &first, &second, &ipv4_key(65))?;
+    expect_lengths(&rt, &deeper, 0, 65);
     Ok(())
 }
 
@@ -88,10 +130,9 @@ fn a_translation_makes_512_lookups(rt: HostRuntime) -> Result<(), Fail> {
         again,
         OfAction::Output(2),
     ];
-    let rules = two_tables(rt.alloc(), &most, &second)?;
-    let done = plain(rt.alloc(), &rules, 2, &PORTS, &Key::zero())?;
-    assert_eq!(rt; done.actions.len(), 1);
-    assert_eq!(rt; done.visits.as_slice().len(), 8);
+    let done = made_of(rt.alloc(), &most, &second, &Key::zero())?;
+    expect_lengths(&rt, &done, 1, 8);
+    drop(done);
     let more = [
         OfAction::Resubmit(2),
         again,
@@ -103,31 +144,41 @@ fn a_translation_makes_512_lookups(rt: HostRuntime) -> Result<(), Fail> {
         again,
         OfAction::Output(2),
     ];
-    let rules = two_tables(rt.alloc(), &more, &second)?;
-    let stopped = plain(rt.alloc(), &rules, 2, &PORTS, &Key::zero())?;
-    assert_eq!(rt; stopped.actions.len(), 0);
-    assert_eq!(rt; stopped.visits.as_slice().len(), 8);
+    let stopped = made_of(rt.alloc(), &more, &second, &Key::zero())?;
+    expect_lengths(&rt, &stopped, 0, 8);
     Ok(())
 }
 
 #[test]
 fn a_translation_emits_128_actions(rt: HostRuntime) -> Result<(), Fail> {
-    let rules = two_tables(rt.alloc(), &[OfAction::Output(2); 128], &[])?;
-    let most = plain(rt.alloc(), &rules, 2, &PORTS, &Key::zero())?;
-    assert_eq!(rt; most.actions.len(), 128);
-    let rules = two_tables(rt.alloc(), &[OfAction::Output(2); 129], &[])?;
-    let stopped = plain(rt.alloc(), &rules, 2, &PORTS, &Key::zero())?;
-    assert_eq!(rt; stopped.actions.len(), 0);
+    let most = made_of(rt.alloc(), &[OfAction::Output(2); 128], &[], &Key::zero())?;
+    expect_lengths(&rt, &most, 128, 1);
+    drop(most);
+    let stopped = made_of(rt.alloc(), &[OfAction::Output(2); 129], &[], &Key::zero())?;
+    expect_lengths(&rt, &stopped, 0, 1);
     assert_eq!(rt; stopped.visits.as_slice(), [1].as_slice());
     Ok(())
 }
 
-/// What comes of a packet that visits a rule and is sent to all these ports but the first one.
+/// Sends a packet that visits a rule to all these ports but the first one.
+fn send(state: &mut Translating, ports: &[u16]) -> Result<(), AllocError> {
+    state.visit(7)?;
+    state.step(ports, OfAction::All)
+}
+
+/// What comes of that.
 fn sent_to(lists: SpareLists, ports: &[u16]) -> Result<Plain, AllocError> {
     let mut state = Translating::start(lists, &ipv4_key(64));
-    state.visit(7)?;
-    state.step(ports, OfAction::All)?;
-    Ok(state.finish())
+    let sent = send(&mut state, ports);
+    let made = state.finish();
+    sent?;
+    Ok(made)
+}
+
+/// Asserts that a packet visited the rule, and is sent to port 2.
+fn expect_sent_to_2(rt: &impl Abort, made: &Plain) {
+    assert!(rt; made.actions.as_slice() == [DpAction::Output(2)].as_slice());
+    assert_eq!(rt; made.visits.as_slice(), [7].as_slice());
 }
 
 /// The lists for another translation, and for how many actions and visits they have room.
@@ -145,16 +196,15 @@ fn room_of(made: Plain) -> (SpareLists, (usize, usize)) {
 #[test]
 fn lists_that_are_handed_in_are_used_again(rt: HostRuntime) -> Result<(), Fail> {
     let many = sent_to(SpareLists::new(rt.alloc()), &[9, 8, 7, 6, 5, 4, 3, 2, 1])?;
-    assert_eq!(rt; many.actions.len(), 8);
+    expect_lengths(&rt, &many, 8, 1);
     let (many, room) = room_of(many);
     let few = sent_to(many, &PORTS)?;
-    assert!(rt; few.actions.as_slice() == [DpAction::Output(2)].as_slice());
-    assert_eq!(rt; few.visits.as_slice(), [7].as_slice());
-    let fresh = sent_to(SpareLists::new(rt.alloc()), &PORTS)?;
-    assert!(rt; fresh.actions.as_slice() == few.actions.as_slice());
-    assert_eq!(rt; fresh.visits.as_slice(), few.visits.as_slice());
-    let (_, room_after) = room_of(few);
+    expect_sent_to_2(&rt, &few);
+    let (few, room_after) = room_of(few);
+    drop(few);
     assert_eq!(rt; room_after, room);
+    let fresh = sent_to(SpareLists::new(rt.alloc()), &PORTS)?;
+    expect_sent_to_2(&rt, &fresh);
     Ok(())
 }
 
@@ -164,6 +214,7 @@ fn a_flood_goes_out_in_rising_order(rt: HostRuntime) -> Result<(), Fail> {
     let sent = sent_to(SpareLists::new(rt.alloc()), &[65535, 2, 1, 3, 0, 2])?;
     let rising = [0, 2, 2, 3, 65535].map(DpAction::Output);
     assert!(rt; sent.actions.as_slice() == rising.as_slice());
+    drop(sent);
     let nowhere = sent_to(SpareLists::new(rt.alloc()), &[1, 1])?;
     assert_eq!(rt; nowhere.actions.len(), 0);
     Ok(())
@@ -194,13 +245,19 @@ fn two_tags() -> Key {
     key
 }
 
-/// What is done with a packet of this key by these actions.
-fn done(alloc: Global, actions: &[OfAction], key: &Key) -> Result<Vec<DpAction>, AllocError>
+/// Asserts what is done with a packet of this key by these actions.
+fn expect_done(
+    rt: &impl Abort,
+    alloc: Global,
+    actions: &[OfAction],
+    key: &Key,
+    done: &[DpAction],
+) -> Result<(), AllocError>
     requires { AreSound actions.now }
 {
-    let rules = two_tables(alloc, actions, &[])?;
-    let made = plain(alloc, &rules, 2, &PORTS, key)?;
-    Ok(made.actions.into_vec())
+    let made = made_of(alloc, actions, &[], key)?;
+    assert!(rt; made.actions.as_slice() == done);
+    Ok(())
 }
 
 #[test]
@@ -214,8 +271,8 @@ fn a_tag_is_pushed_outside_of_another(rt: HostRuntime) -> Result<(), Fail> {
         tpid: SERVICE,
         tci: 0x1014,
     };
-    let actions = done(rt.alloc(), &actions, &one_tag())?;
-    assert!(rt; actions.as_slice() == [pushed, DpAction::Output(2)].as_slice());
+    let done = [pushed, DpAction::Output(2)];
+    expect_done(&rt, rt.alloc(), &actions, &one_tag(), &done)?;
     Ok(())
 }
 
@@ -226,8 +283,7 @@ fn a_third_tag_ends_a_translation(rt: HostRuntime) -> Result<(), Fail> {
         OfAction::PushVlan(CUSTOMER),
         OfAction::Output(2),
     ];
-    let actions = done(rt.alloc(), &actions, &two_tags())?;
-    assert_eq!(rt; actions.len(), 0);
+    expect_done(&rt, rt.alloc(), &actions, &two_tags(), &[])?;
     Ok(())
 }
 
@@ -239,9 +295,9 @@ fn a_pop_takes_the_outer_tag(rt: HostRuntime) -> Result<(), Fail> {
         OfAction::PopVlan,
         OfAction::Output(2),
     ];
-    let actions = done(rt.alloc(), &actions, &two_tags())?;
     let out = DpAction::Output(2);
-    assert!(rt; actions.as_slice() == [DpAction::PopVlan, out, DpAction::PopVlan, out].as_slice());
+    let done = [DpAction::PopVlan, out, DpAction::PopVlan, out];
+    expect_done(&rt, rt.alloc(), &actions, &two_tags(), &done)?;
     Ok(())
 }
 
@@ -253,8 +309,8 @@ fn after_a_pop_the_inner_tag_is_written(rt: HostRuntime) -> Result<(), Fail> {
         tpid: CUSTOMER,
         tci: 0x101e,
     };
-    let actions = done(rt.alloc(), &actions, &two_tags())?;
     let pop = DpAction::PopVlan;
-    assert!(rt; actions.as_slice() == [pop, pop, pushed, DpAction::Output(2)].as_slice());
+    let done = [pop, pop, pushed, DpAction::Output(2)];
+    expect_done(&rt, rt.alloc(), &actions, &two_tags(), &done)?;
     Ok(())
 }
