@@ -43,10 +43,10 @@ fn is_plain_cookie(word: EditWord, value: &[u8]) -> bool
     !deletes(word) & !has_slash(value)
 }
 
-fn with_table(col: u32, value_col: u32, value: &[u8], mut sofar: Sofar) -> Result<Sofar, TextFault>
-    ensures { Gives sofar_view result
-        (number_once col value_col (sofar_view sofar).table last_table value.now
-        then (λ n. Ok (record (sofar_view sofar) { table = Some n }))) }
+fn with_table(col: u32, value_col: u32, value: &[u8], sofar: &mut Sofar) -> Result<(), TextFault>
+    ensures { Gives (λ _. sofar_view sofar.new) result
+        (number_once col value_col (sofar_view sofar.old).table last_table value.now
+        then (λ n. Ok (record (sofar_view sofar.old) { table = Some n }))) }
 {
     let table = number_once(
         col,
@@ -56,33 +56,28 @@ fn with_table(col: u32, value_col: u32, value: &[u8], mut sofar: Sofar) -> Resul
         value,
     )?;
     sofar.table = Some(table as u8);
-    Ok(sofar)
+    Ok(())
 }
 
-fn with_priority(
-    col: u32,
-    value_col: u32,
-    value: &[u8],
-    mut sofar: Sofar,
-) -> Result<Sofar, TextFault>
-    ensures { Gives sofar_view result
-        (number_once col value_col (sofar_view sofar).priority last_priority value.now
-        then (λ n. Ok (record (sofar_view sofar) { priority = Some n }))) }
+fn with_priority(col: u32, value_col: u32, value: &[u8], sofar: &mut Sofar) -> Result<(), TextFault>
+    ensures { Gives (λ _. sofar_view sofar.new) result
+        (number_once col value_col (sofar_view sofar.old).priority last_priority value.now
+        then (λ n. Ok (record (sofar_view sofar.old) { priority = Some n }))) }
 {
     let most = u64::from(u16::MAX);
     let priority = number_once(col, value_col, sofar.priority.map(u64::from), most, value)?;
     sofar.priority = Some(priority as u16);
-    Ok(sofar)
+    Ok(())
 }
 
-fn with_cookie(col: u32, value_col: u32, value: &[u8], mut sofar: Sofar) -> Result<Sofar, TextFault>
-    ensures { Gives sofar_view result
-        (number_once col value_col (sofar_view sofar).cookie greatest_cookie value.now
-        then (λ n. Ok (record (sofar_view sofar) { cookie = Some n }))) }
+fn with_cookie(col: u32, value_col: u32, value: &[u8], sofar: &mut Sofar) -> Result<(), TextFault>
+    ensures { Gives (λ _. sofar_view sofar.new) result
+        (number_once col value_col (sofar_view sofar.old).cookie greatest_cookie value.now
+        then (λ n. Ok (record (sofar_view sofar.old) { cookie = Some n }))) }
 {
     let cookie = number_once(col, value_col, sofar.cookie, u64::MAX, value)?;
     sofar.cookie = Some(cookie);
-    Ok(sofar)
+    Ok(())
 }
 
 // What is stated with an item of this name and value.
@@ -93,10 +88,10 @@ fn with_valued(
     value_col: u32,
     name: Option<ItemName>,
     value: &[u8],
-    sofar: Sofar,
-) -> Result<Sofar, TextFault>
-    ensures { Gives sofar_view result
-        (with_valued word col value_col name value.now (sofar_view sofar)) }
+    sofar: &mut Sofar,
+) -> Result<(), TextFault>
+    ensures { Gives (λ _. sofar_view sofar.new) result
+        (with_valued word col value_col name value.now (sofar_view sofar.old)) }
 {
     let name = match name {
         None => return Err(TextFault::UnknownName { col }),
@@ -119,7 +114,7 @@ fn with_valued(
         }
         ItemName::Field(field) => with_value(col, value_col, field_stated(field, value), sofar),
         ItemName::DlVlan => with_value(col, value_col, vlan_stated(value), sofar),
-        ItemName::Statistic => Ok(sofar),
+        ItemName::Statistic => Ok(()),
     }
 }
 
@@ -129,9 +124,9 @@ fn with_bare(
     word: EditWord,
     col: u32,
     name: Option<ItemName>,
-    sofar: Sofar,
-) -> Result<Sofar, TextFault>
-    ensures { Gives sofar_view result (with_bare word col name (sofar_view sofar)) }
+    sofar: &mut Sofar,
+) -> Result<(), TextFault>
+    ensures { Gives (λ _. sofar_view sofar.new) result (with_bare word col name (sofar_view sofar.old)) }
 {
     if let Some(ItemName::Shorthand(shorthand)) = name {
         return with_shorthand(col, shorthand, sofar);
@@ -141,8 +136,8 @@ fn with_bare(
 
 // One item.
 #[tactic(auto, unfolding(spec_flow_text::specs::Items::with_item))]
-fn with_item(word: EditWord, item: Word<'_>, sofar: Sofar) -> Result<Sofar, TextFault>
-    ensures { Gives sofar_view result (with_item word (word_view item.entry) (sofar_view sofar)) }
+fn with_item(word: EditWord, item: Word<'_>, sofar: &mut Sofar) -> Result<(), TextFault>
+    ensures { Gives (λ _. sofar_view sofar.new) result (with_item word (word_view item.entry) (sofar_view sofar.old)) }
 {
     let col = item.column();
     match cut_at(item.text, b'=') {
@@ -203,7 +198,7 @@ pub fn read_items(word: EditWord, stretch: Word<'_>, start: Sofar) -> Result<Sta
                 list: Some((item.column(), place)),
             });
         }
-        sofar = with_item(word, item, sofar)?;
+        with_item(word, item, &mut sofar)?;
         left = behind;
     }
     Ok(Stated { sofar, list: None })

@@ -57,33 +57,35 @@ fn is_stated(parts: &[Part], part: &Part) -> bool
 
 /// Bits that no earlier item has stated.
 #[tactic(auto, unfolding(spec_flow_text::specs::Items::with_part))]
-pub fn with_part(col: u32, part: Part, mut sofar: Sofar) -> Result<Sofar, TextFault>
+pub fn with_part(col: u32, part: Part, sofar: &mut Sofar) -> Result<(), TextFault>
     requires { IsWithin part }
-    ensures { Gives sofar_view result (items.with_part col part (sofar_view sofar)) }
+    ensures { Gives (λ _. sofar_view sofar.new) result
+        (items.with_part col part (sofar_view sofar.old)) }
 {
     if is_stated(&sofar.parts, &part) {
         return Err(TextFault::Repeated { col });
     }
     sofar.parts.push(part)?;
-    Ok(sofar)
+    Ok(())
 }
 
-fn with_protocol(col: u32, shorthand: Shorthand, sofar: Sofar) -> Result<Sofar, TextFault>
-    ensures { Gives sofar_view result
-        (items.with_protocol col (protocol_stated shorthand) (sofar_view sofar)) }
+fn with_protocol(col: u32, shorthand: Shorthand, sofar: &mut Sofar) -> Result<(), TextFault>
+    ensures { Gives (λ _. sofar_view sofar.new) result
+        (items.with_protocol col (protocol_stated shorthand) (sofar_view sofar.old)) }
 {
     match protocol_part(shorthand) {
-        None => Ok(sofar),
+        None => Ok(()),
         Some(part) => with_part(col, part, sofar),
     }
 }
 
 /// A shorthand states a type, and a protocol where it has one.
 #[tactic(auto, unfolding(spec_flow_text::specs::Items::with_shorthand))]
-pub fn with_shorthand(col: u32, shorthand: Shorthand, sofar: Sofar) -> Result<Sofar, TextFault>
-    ensures { Gives sofar_view result (items.with_shorthand col shorthand (sofar_view sofar)) }
+pub fn with_shorthand(col: u32, shorthand: Shorthand, sofar: &mut Sofar) -> Result<(), TextFault>
+    ensures { Gives (λ _. sofar_view sofar.new) result
+        (items.with_shorthand col shorthand (sofar_view sofar.old)) }
 {
-    let sofar = with_part(col, type_part(shorthand), sofar)?;
+    with_part(col, type_part(shorthand), sofar)?;
     with_protocol(col, shorthand, sofar)
 }
 
@@ -92,10 +94,11 @@ pub fn with_value(
     col: u32,
     value_col: u32,
     part: Option<Part>,
-    sofar: Sofar,
-) -> Result<Sofar, TextFault>
+    sofar: &mut Sofar,
+) -> Result<(), TextFault>
     requires { IfSome part (λ p. IsWithin p) }
-    ensures { Gives sofar_view result (items.with_value col value_col part (sofar_view sofar)) }
+    ensures { Gives (λ _. sofar_view sofar.new) result
+        (items.with_value col value_col part (sofar_view sofar.old)) }
 {
     match part {
         None => Err(TextFault::BadValue { col: value_col }),
