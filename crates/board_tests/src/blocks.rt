@@ -90,14 +90,22 @@ fn in_run<C: Case>(
     requires counted { AreCounted C.run.traces }
 {
     let run = RunData::<C>::new(alloc, ports, 0, 0, syncs, traces)?;
+    frames_are_read(rt, &run, want);
+    drop(run);
+    Ok(())
+}
+
+fn frames_are_read<C: Case>(rt: &impl Abort, run: &RunData<C>, want: [u32; 3])
+    requires full { HasPort C.run.ports FULL_PORT }
+    requires empty { HasPort C.run.ports EMPTY_PORT }
+{
     assert_eq!(rt; run.frames(EMPTY_PORT), 0);
     assert_eq!(rt; run.frames(FULL_PORT), 3);
     for index in 0..3u32 {
         let keyed = run.keyed(FULL_PORT, index + 1);
         assert_eq!(rt; keyed.block, want[index as usize], "at {index}");
     }
-    the_second_frame_is_read(rt, &run);
-    Ok(())
+    the_second_frame_is_read(rt, run);
 }
 
 fn the_second_frame_is_read<C: Case>(rt: &impl Abort, run: &RunData<C>)

@@ -20,6 +20,7 @@ use pmd_board::{
 use port_caches::stats::Counts;
 use run_case::{Case, RunData};
 use std::alloc::{AllocError, Global};
+use std::mem;
 use table_versions::{RunTables, Tables};
 
 /// A call of a board, with what it is to answer.
@@ -76,6 +77,24 @@ fn translation<C: Case, T: RunTables<C>>(
     ensures { IfOk result (λ x. x.key ≡ numbers key.now) }
 {
     let mut tables = Tables::<C, T>::new(alloc, store);
+    let made = translated(alloc, run, &mut tables, version, key);
+    drop(tables);
+    made
+}
+
+/// The same by tables, which follow to the version.
+fn translated<C: Case, T: RunTables<C>>(
+    alloc: Global,
+    run: &RunData<C>,
+    tables: &mut Tables<C, T>,
+    version: u32,
+    key: &Key,
+) -> Result<Xlated<C>, AllocError>
+    requires sound { IsTrue (list_all has_sound_actions C.run.edits) }
+    requires made { version ≤ last_version C.run }
+    requires order { tables.old ≤ version }
+    ensures { IfOk result (λ x. x.key ≡ numbers key.now) }
+{
     tables.follow(version)?;
     tables.translate(run, key, SpareLists::new(alloc))
 }
@@ -235,7 +254,8 @@ fn answers<C: Case, T: RunTables<C>>(
         Call::After(number, next) => Ok(board.entries().after(number) == next),
         Call::Rank(at, expected) => Ok(has_rank(board, at, expected)),
         Call::Renew(limit) => {
-            *board = Board::new(alloc, run, board.port(), limit)?;
+            let renewed = Board::new(alloc, run, board.port(), limit)?;
+            drop(mem::replace(board, renewed));
             Ok(true)
         }
         Call::Close(block, fits) => closes::<C, T>(
@@ -257,8 +277,25 @@ pub fn first_wrong<C: Case, T: RunTables<C>>(
     requires limit { flow_limit ≡ C.run.flow_limit }
 {
     let mut board = Board::new(alloc, run, PORT, flow_limit)?;
+    let wrong = first_wrong_on::<C, T>(alloc, run, store, &mut board, flow_limit, calls);
+    drop(board);
+    wrong
+}
+
+/// The same of calls of this board.
+fn first_wrong_on<C: Case, T: RunTables<C>>(
+    alloc: Global,
+    run: &RunData<C>,
+    store: T::Store,
+    board: &mut Board<C>,
+    flow_limit: u32,
+    calls: &[Call],
+) -> Result<Option<usize>, AllocError>
+    requires sound { IsTrue (list_all has_sound_actions C.run.edits) }
+    requires limit { flow_limit ≡ C.run.flow_limit }
+{
     for (place, call) in calls.iter().enumerate() {
-        if !answers::<C, T>(alloc, run, store, &mut board, flow_limit, *call)? {
+        if !answers::<C, T>(alloc, run, store, board, flow_limit, *call)? {
             return Ok(Some(place));
         }
     }

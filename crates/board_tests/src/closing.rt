@@ -28,18 +28,57 @@ pub fn closes<C: Case, T: RunTables<C>>(
     requires sound { IsTrue (list_all has_sound_actions C.run.edits) }
     requires limit { flow_limit ≡ C.run.flow_limit }
 {
-    let block = block.min(run.last_block());
     let mut tables = Tables::<C, T>::new(alloc, store);
+    let closed = closes_by::<C, T>(
+        alloc,
+        run,
+        store,
+        &mut tables,
+        board,
+        block,
+        flow_limit,
+        fits,
+    );
+    drop(tables);
+    closed
+}
+
+/// The same by tables, which follow to the newest version that the block allows.
+fn closes_by<C: Case, T: RunTables<C>>(
+    alloc: Global,
+    run: &RunData<C>,
+    store: T::Store,
+    tables: &mut Tables<C, T>,
+    board: &mut Board<C>,
+    block: u32,
+    flow_limit: u32,
+    fits: bool,
+) -> Result<bool, AllocError>
+    requires sound { IsTrue (list_all has_sound_actions C.run.edits) }
+    requires limit { flow_limit ≡ C.run.flow_limit }
+    requires new { tables.old ≡ 0 }
+{
+    let block = block.min(run.last_block());
     tables.follow(run.hi(block))?;
     let other = Board::new(alloc, run, board.port(), flow_limit)?;
     let boards = vec![in alloc; mem::replace(board, other)]?;
-    let (left, fitted) = close_phase(alloc, run, store, boards, &tables, block, flow_limit)?;
-    let mut left = left.into_vec();
-    if let Some(only) = left.pop() {
-        *board = only;
-        return Ok(fitted == fits && left.is_empty());
+    let (left, fitted) = close_phase(alloc, run, store, boards, tables, block, flow_limit)?;
+    Ok(takes_place(board, left.into_vec()) && fitted == fits)
+}
+
+/// Whether one board is left. The last one, if there is one, takes the board's place.
+fn takes_place<C: Case>(board: &mut Board<C>, left: Vec<Board<C>>) -> bool {
+    let mut left = left;
+    let last = left.pop();
+    let is_only = left.is_empty();
+    drop(left);
+    match last {
+        Some(last) => {
+            drop(mem::replace(board, last));
+            is_only
+        }
+        None => false,
     }
-    Ok(false)
 }
 
 // In each row two frames to 9 come in the first block, whose one rule sends to port 2, and a third one in the second

@@ -192,14 +192,35 @@ fn in_run<C: Case + Send + Sync>(
     requires counted { AreCounted C.run.traces }
     requires limit { row.now.flow_limit ≡ C.run.flow_limit }
 {
-    let run = RunData::<C>::new(
-        alloc,
-        ports,
-        edits.len() as u32,
-        bundles.len() as u32,
-        syncs,
-        traces,
-    )?;
+    let (edit_count, bundle_count) = (edits.len() as u32, bundles.len() as u32);
+    drop(edits);
+    drop(bundles);
+    let made = RunData::<C>::new(alloc, ports, edit_count, bundle_count, syncs, traces);
     let rules = RunRules::new(rules);
-    first_wrong::<C, ClassifierTables<'_, C>>(alloc, &run, &rules, row.flow_limit, row.calls)
+    let wrong = first_wrong_in(alloc, made, &rules, row);
+    drop(rules);
+    wrong
+}
+
+/// The same in a run, where there was memory for it.
+fn first_wrong_in<C: Case + Send + Sync>(
+    alloc: Global,
+    made: Result<RunData<C>, AllocError>,
+    rules: &RunRules<C>,
+    row: &Row,
+) -> Result<Option<usize>, AllocError>
+    requires port { HasPort C.run.ports PORT }
+    requires sound { IsTrue (list_all has_sound_actions C.run.edits) }
+    requires limit { row.now.flow_limit ≡ C.run.flow_limit }
+{
+    let run = made?;
+    let wrong = first_wrong::<C, ClassifierTables<'_, C>>(
+        alloc,
+        &run,
+        rules,
+        row.flow_limit,
+        row.calls,
+    );
+    drop(run);
+    wrong
 }
