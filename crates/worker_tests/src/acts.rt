@@ -172,7 +172,7 @@ fn answers<C: Case, T: RunTables<C>, R: Wait>(
     }
 }
 
-/// The place of the first act, from 0, that doesn't answer as it says.
+/// The place of the first act, from 0, that doesn't answer as it says, on a stage with this board.
 pub fn first_wrong<C: Case, T: RunTables<C>, R: Wait>(
     rt: &R,
     alloc: Global,
@@ -191,13 +191,30 @@ pub fn first_wrong<C: Case, T: RunTables<C>, R: Wait>(
         },
         points: Points::new(),
     };
+    let (seer, wrong) = first_wrong_on(rt, alloc, seer, run, &mut stage, acts);
+    drop(seer);
+    drop(stage);
+    wrong
+}
+
+/// The same on this stage. The seer is handed back.
+fn first_wrong_on<C: Case, T: RunTables<C>, R: Wait>(
+    rt: &R,
+    alloc: Global,
+    seer: Seer<C, T>,
+    run: &RunData<C>,
+    stage: &mut Stage<C>,
+    acts: &[Act<'_>],
+) -> (Seer<C, T>, Result<Option<usize>, AllocError>) {
     let mut seer = seer;
     for (place, act) in acts.iter().enumerate() {
-        let (back, right) = answers(rt, alloc, seer, run, &mut stage, *act);
+        let (back, right) = answers(rt, alloc, seer, run, stage, *act);
         seer = back;
-        if !right? {
-            return Ok(Some(place));
+        match right {
+            Ok(true) => {}
+            Ok(false) => return (seer, Ok(Some(place))),
+            Err(error) => return (seer, Err(error)),
         }
     }
-    Ok(None)
+    (seer, Ok(None))
 }

@@ -118,6 +118,8 @@ fn edits_said(alloc: Global, edits: &[u8]) -> Result<ReadEdits, Fail>
 impl LiteralRun {
     /// A run of a file of edits, and of frames that come in at 1 second, each to a destination of this last byte.
     pub fn new(alloc: Global, edits: &[u8], frames: &[u8]) -> Result<LiteralRun, Fail> {
+        let mut traces = Vec::new(alloc);
+        traces.push(trace_of(alloc, frames)?)?;
         let mut list = Vec::new(alloc);
         list.push(PORT)?;
         let ports = Ports::new(list);
@@ -125,8 +127,6 @@ impl LiteralRun {
         let Some(rules) = rules else {
             return Err(Fail::new("the edits change few rules"));
         };
-        let mut traces = Vec::new(alloc);
-        traces.push(trace_of(alloc, frames)?)?;
         Ok(LiteralRun {
             ports,
             script,
@@ -153,14 +153,20 @@ impl LiteralRun {
             traces,
         } = self;
         let rules = RunRules::<C>::new(rules);
-        let run = RunData::<C>::new(
+        let made = RunData::<C>::new(
             alloc,
             ports,
             rules.edits(),
             rules.versions(),
             script.syncs,
             traces,
-        )?;
-        Ok((run, rules))
+        );
+        match made {
+            Ok(run) => Ok((run, rules)),
+            Err(error) => {
+                drop(rules);
+                Err(error)
+            }
+        }
     }
 }

@@ -87,7 +87,10 @@ fn in_run<C: Case + Send + Sync, R: Wait + Abort>(
     requires { C.run ≡ literal }
 {
     let (run, rules) = literal.named::<C>(alloc)?;
-    one_told::<C, ClassifierTables<'_, C>, R>(rt, alloc, &run, &rules)
+    let done = one_told::<C, ClassifierTables<'_, C>, R>(rt, alloc, &run, &rules);
+    drop(run);
+    drop(rules);
+    done
 }
 
 fn one_told<C: Case, T: RunTables<C>, R: Wait + Abort>(
@@ -101,6 +104,7 @@ fn one_told<C: Case, T: RunTables<C>, R: Wait + Abort>(
     let (editor, mut seers) = publish::<C, T, R>(rt, alloc, store, 1)?;
     let editor = publishes(rt, editor, run, Ok(1));
     in_publication::<C, T, Brand, R>(rt, editor, seers.remove(0));
+    drop(seers);
     Ok(())
 }
 
@@ -120,6 +124,7 @@ fn in_publication<C: Case, T: RunTables<C>, P: Publication, R: Wait + Abort>(
     assert_eq!(rt; seer.version(), 0);
     let seer = mailbox.lock(rt).inform(seer);
     assert_eq!(rt; seer.version(), 1);
-    enters(rt, seer, 1);
+    drop(enters(rt, seer, 1));
+    drop(mailbox);
     editor.end(rt);
 }

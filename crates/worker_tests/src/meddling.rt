@@ -73,5 +73,7 @@ pub fn swept_beside<C: Case, T: RunTables<C>, R: Wait>(
         made: Mutex::new(Some(made)),
         again,
     };
-    sweep_board(rt, alloc, seer, run, PORT, board, &meddler)
+    let swept = sweep_board(rt, alloc, seer, run, PORT, board, &meddler);
+    drop(meddler);
+    swept
 }

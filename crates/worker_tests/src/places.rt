@@ -12,7 +12,7 @@ use std::marker::Brand;
 use std::process::Abort;
 use std::sync::Wait;
 use std::test::*;
-use table_publish::{MOST_SEERS, publish};
+use table_publish::{Editor, MOST_SEERS, News, publish};
 use table_versions::RunTables;
 
 #[test]
@@ -36,8 +36,11 @@ fn without_edits<C: Case + Send + Sync, R: Wait + Abort>(
     requires run { C.run ≡ literal }
     requires seers { (1 ≤ seers) × (seers ≤ MOST_SEERS) }
 {
-    let (_run, rules) = literal.named::<C>(alloc)?;
-    has_places::<C, ClassifierTables<'_, C>, R>(rt, alloc, &rules, seers, places)
+    let (run, rules) = literal.named::<C>(alloc)?;
+    let done = has_places::<C, ClassifierTables<'_, C>, R>(rt, alloc, &rules, seers, places);
+    drop(run);
+    drop(rules);
+    done
 }
 
 // So many seers are published with so many places.
@@ -51,8 +54,9 @@ fn has_places<C: Case, T: RunTables<C>, R: Wait + Abort>(
     requires sound { IsTrue (list_all has_sound_actions C.run.edits) }
     requires seers { (1 ≤ seers) × (seers ≤ MOST_SEERS) }
 {
-    let (editor, _seers) = publish::<C, T, R>(rt, alloc, store, seers)?;
+    let (editor, seers) = publish::<C, T, R>(rt, alloc, store, seers)?;
     assert_eq!(rt; editor.places(), places);
+    drop(seers);
     editor.end(rt);
     Ok(())
 }
@@ -74,7 +78,21 @@ fn in_run<C: Case + Send + Sync, R: Wait + Abort>(
     requires { C.run ≡ literal }
 {
     let (run, rules) = literal.named::<C>(alloc)?;
-    told_twice::<C, ClassifierTables<'_, C>, R>(rt, alloc, &run, &rules)
+    let done = told_twice::<C, ClassifierTables<'_, C>, R>(rt, alloc, &run, &rules);
+    drop(run);
+    drop(rules);
+    done
+}
+
+// The news of an editor, which are to be of this version.
+fn told<C: Case, T: RunTables<C>, R: Wait + Abort>(
+    rt: &R,
+    editor: &mut Editor<C, T>,
+    version: u32,
+) -> News<C, T> {
+    let news = editor.tell(rt);
+    assert_eq!(rt; news.version(), version);
+    news
 }
 
 // Two seers are told of two versions, and learn of none. The older news are given up when the newer ones are made, as
@@ -89,18 +107,19 @@ fn told_twice<C: Case, T: RunTables<C>, R: Wait + Abort>(
 {
     let (editor, seers) = publish::<C, T, R>(rt, alloc, store, SEERS)?;
     let mut editor = publishes(rt, editor, run, Ok(1));
-    let mut one = editor.tell(rt);
-    let mut other = editor.tell(rt);
-    assert_eq!(rt; one.version(), 1);
-    assert_eq!(rt; other.version(), 1);
-    editor = publishes(rt, editor, run, Ok(2));
-    one = editor.tell(rt);
-    other = editor.tell(rt);
-    assert_eq!(rt; one.version(), 2);
-    assert_eq!(rt; other.version(), 2);
+    let one = told(rt, &mut editor, 1);
+    let other = told(rt, &mut editor, 1);
+    let mut editor = publishes(rt, editor, run, Ok(2));
+    let newer_one = told(rt, &mut editor, 2);
+    drop(one);
+    let newer_other = told(rt, &mut editor, 2);
+    drop(other);
     for seer in seers.iter() {
         assert_eq!(rt; seer.version(), 0);
     }
+    drop(newer_one);
+    drop(newer_other);
+    drop(seers);
     editor.end(rt);
     Ok(())
 }

@@ -14,7 +14,7 @@ use std::marker::Brand;
 use std::process::Abort;
 use std::sync::Wait;
 use std::test::Fail;
-use table_publish::{Editor, publish};
+use table_publish::{Editor, Seer, publish};
 use table_versions::RunTables;
 
 /// A flow limit that no row reaches.
@@ -71,7 +71,10 @@ fn in_run<C: Case + Send + Sync, R: Wait>(
     requires { C.run ≡ literal }
 {
     let (run, rules) = literal.named::<C>(alloc)?;
-    over_tables::<C, ClassifierTables<'_, C>, R>(rt, alloc, &run, &rules, row)
+    let wrong = over_tables::<C, ClassifierTables<'_, C>, R>(rt, alloc, &run, &rules, row);
+    drop(run);
+    drop(rules);
+    wrong
 }
 
 fn over_tables<C: Case, T: RunTables<C>, R: Wait>(
@@ -84,13 +87,32 @@ fn over_tables<C: Case, T: RunTables<C>, R: Wait>(
     requires port { HasPort C.run.ports PORT }
     requires sound { IsTrue (list_all has_sound_actions C.run.edits) }
 {
-    let board = Board::new(alloc, run, PORT, AMPLE)?;
     let (editor, mut seers) = publish::<C, T, R>(rt, alloc, store, 1)?;
     let editor = published(rt, editor, run, row.published);
-    let wrong = match seers.pop() {
-        Some(seer) => first_wrong(rt, alloc, seer, run, board, row.room, row.acts),
+    let seer = seers.pop();
+    drop(seers);
+    let wrong = match seer {
+        Some(seer) => on_new_board(rt, alloc, seer, run, row),
         None => Err(AllocError),
     };
     editor.end(rt);
     wrong
+}
+
+fn on_new_board<C: Case, T: RunTables<C>, R: Wait>(
+    rt: &R,
+    alloc: Global,
+    seer: Seer<C, T>,
+    run: &RunData<C>,
+    row: &Row<'_>,
+) -> Result<Option<usize>, AllocError>
+    requires { HasPort C.run.ports PORT }
+{
+    match Board::new(alloc, run, PORT, AMPLE) {
+        Ok(board) => first_wrong(rt, alloc, seer, run, board, row.room, row.acts),
+        Err(error) => {
+            drop(seer);
+            Err(error)
+        }
+    }
 }

@@ -32,7 +32,10 @@ fn in_run<C: Case + Send + Sync, R: Wait + Abort>(
     requires { C.run ≡ literal }
 {
     let (run, rules) = literal.named::<C>(alloc)?;
-    in_turn::<C, ClassifierTables<'_, C>, R>(rt, alloc, &run, &rules)
+    let done = in_turn::<C, ClassifierTables<'_, C>, R>(rt, alloc, &run, &rules);
+    drop(run);
+    drop(rules);
+    done
 }
 
 fn in_turn<C: Case, T: RunTables<C>, R: Wait + Abort>(
@@ -45,7 +48,9 @@ fn in_turn<C: Case, T: RunTables<C>, R: Wait + Abort>(
 {
     let (editor, mut seers) = publish::<C, T, R>(rt, alloc, store, SEERS)?;
     assert_eq!(rt; seers.len(), SEERS);
-    let guard = seers.remove(0).enter(rt);
+    let first = seers.remove(0);
+    drop(seers);
+    let guard = first.enter(rt);
     let editor = publishes(rt, editor, run, Ok(1));
     assert_eq!(rt; guard.tables().version(), 0);
     let seer = enters(rt, guard.leave(), 1);
@@ -54,7 +59,7 @@ fn in_turn<C: Case, T: RunTables<C>, R: Wait + Abort>(
     let editor = publishes(rt, editor, run, Err(none_left));
     assert_eq!(rt; editor.tables().version(), 2);
     assert_eq!(rt; seer.version(), 1);
-    enters(rt, seer, 2);
+    drop(enters(rt, seer, 2));
     editor.end(rt);
     Ok(())
 }

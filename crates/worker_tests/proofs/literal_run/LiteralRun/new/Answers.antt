@@ -10,12 +10,12 @@ one_counted trace is (suc k) d within = absurd (omega arith)
 
 pub new-ports-requires-clause-distinct : goal.new-ports-requires-clause-distinct
 unfolding IsDistinct
-new-ports-requires-clause-distinct c = rw (c.in_ok-push.ensures.items, c.new-list.ensures.items) (tt, tt)
+new-ports-requires-clause-distinct c = rw (c.in_ok-push-2.ensures.items, c.new-list.ensures.items) (tt, tt)
 
 pub invariant_of-result : goal.invariant_of-result
 invariant_of-result c =
-    let ports : c.new-ports.result ≡ 1 ∷ [] = rw (c.new-ports.ensures, c.in_ok-push.ensures.items, c.new-list.ensures.items) refl in
-    let traces = rw c.new-traces.ensures.items at c.in_ok-push-2.ensures.items in
+    let ports : c.new-ports.result ≡ 1 ∷ [] = rw (c.new-ports.ensures, c.in_ok-push-2.ensures.items, c.new-list.ensures.items) refl in
+    let traces = rw c.new-traces.ensures.items at c.in_ok-push.ensures.items in
     let script = c.in_ok-script.ensures in
     let rules = (rw c.in-Some.is at script.rules).0 in (
       rw ports refl,
