@@ -6,8 +6,9 @@ ghost use Rattle.edge_io.specs.ReadAll.{read_fault_of, was_read, ReadCause, Only
 use crate::{Failed, InUse, Shelf};
 use std::alloc::{AllocError, Global};
 
-/// How many bytes are asked for at once.
-const PIECE: usize = 256 * 1024;
+/// How many bytes are asked for at once: so few that they stay in the cache of a processor, and that the allocator has
+/// their memory at hand for the next file.
+const PIECE: usize = 64 * 1024;
 
 /// Why a file was not read.
 #[derive(Clone, Copy, Debug, PartialEq, Eq)]
