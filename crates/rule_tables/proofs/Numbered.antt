@@ -59,6 +59,12 @@ partitioned number xs in_order i j d le within less =
       | inr ge ↦ let same : i ≡ j = omega arith in subst (λ (k : ℕ). is_less number (slice_index_or xs k d) ≡ true) (sym same) less
     ]
 
+-- a rule of this number is the one that is found, wherever it stands
+pub at_its_place : (number place : ℕ) (xs : List StoredRule) → AreInOrder xs → (s : StoredRule) → slice_get xs place ≡ Some s → s.rule.number ≡ number
+    → stored_numbered number xs ≡ Some s
+at_its_place number place xs in_order s at is =
+    first_found number place xs s at is (λ k t lt there same. let rises : t.rule.number < s.rule.number = in_order k place t s there at lt in absurd (omega arith))
+
 module _ (number place : ℕ) (xs : List StoredRule) (in_order : AreInOrder xs) (halves : IsPartitionPoint (λ s. is_less number s ≡ true) (λ s. is_less number s ≡ false) xs place) where
   before : (k : ℕ) (t : StoredRule) → k < place → slice_get xs k ≡ Some t → t.rule.number < number
   before k t lt at =

@@ -97,17 +97,6 @@ fn is_in_table(table: Option<u8>, rule: &Rule) -> bool
     }
 }
 
-/// The same edits again, in their order.
-pub(crate) fn copies(alloc: Global, list: &[Edit]) -> Result<Vec<Edit>, AllocError>
-    ensures { IfOk result (λ v. v.items ≡ list.now) }
-{
-    let mut edits = Vec::with_capacity(alloc, list.len())?;
-    'list: for edit in list {
-        edits.push_reserved(edit.copy(alloc)?);
-    }
-    Ok(edits)
-}
-
 /// How many edits of a list add rules.
 pub(crate) fn count_adds(list: &[Edit]) -> usize
     ensures { result ≡ adds_in list.now }

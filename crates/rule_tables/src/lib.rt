@@ -65,12 +65,11 @@
 //! On which rules a loose word acts no hash tells. It passes over the signatures of the matches of all stored rules
 //! (`signatures`), which stand side by side, and only those rules are tested whose signature includes that of the edit.
 //!
-//! `apply` takes all memory of a bundle before it changes anything: copies of the edits, and room for a rule, its
-//! signature, its end and its place for each add, for a modification for each modify, and for the bundle.
-//! From there on nothing can fail. Only the log takes its memory later: on how many rules a modify acts is known once
-//! the edits before it were applied, and a bound beforehand could be too large by far. So each modify takes it in its
-//! turn. Where it is refused the log ends, and no answer changes; so nothing is undone, and no call fails for want of
-//! it.
+//! `apply` takes the edits of a bundle, and all memory before it changes anything: room for a rule, its signature, its
+//! end and its place for each add, for a modification for each modify, and for the bundle. From there on nothing can
+//! fail. Only the log takes its memory later: on how many rules a modify acts is known once the edits before it were
+//! applied, and a bound beforehand could be too large by far. So each modify takes it in its turn. Where it is refused the
+//! log ends, and no answer changes; so nothing is undone, and no call fails for want of it.
 //!
 //! # What it costs
 //!
@@ -80,7 +79,7 @@
 //! - A loose delete passes once over the signatures of the stored rules, and a loose modify twice: it counts, and then
 //!   gives. A signature is 16 bytes. It tests the rules that it reaches, and of the others, also of those that are
 //!   gone, the few whose signature includes its own; of one that is gone it reads the end of its life alone.
-//! - `cookie` and `actions` find the rule by binary search, and go back along what it was given. In the last version
+//! - `cookie` and `actions` find the rule at the place of its number, or else by binary search, and go back along what it was given. In the last version
 //!   that is one step for the actions, and for the cookie as many as it was given without one. Then they test each
 //!   modification of which the log doesn't tell. `scan` tests each stored rule.
 //! - `change` takes two binary searches each over the stored rules and the ends, and then the time of what the bundle

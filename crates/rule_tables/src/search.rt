@@ -30,8 +30,21 @@ pub(crate) fn added_between(rules: &[StoredRule], before: u32, after: u32) -> &[
     added
 }
 
-/// The stored rule of a number. They stand in the order of their numbers.
-pub(crate) fn stored_at(rules: &[StoredRule], number: u32) -> Option<&StoredRule>
+// The stored rule at a place, if it has a number.
+fn numbered_at(rules: &[StoredRule], place: usize, number: u32) -> Option<&StoredRule>
+    requires { AreInOrder rules.now }
+    ensures { IfSome result (λ s. stored_numbered number rules.now ≡ Some s.now) }
+{
+    let stored = rule_at(rules, place)?;
+    if stored.rule.number == number {
+        Some(stored)
+    } else {
+        None
+    }
+}
+
+// The stored rule of a number, wherever it stands.
+fn search_number(rules: &[StoredRule], number: u32) -> Option<&StoredRule>
     requires { AreInOrder rules.now }
     ensures { option_map (λ s. s.now) result ≡ stored_numbered number rules.now }
 {
@@ -41,6 +54,19 @@ pub(crate) fn stored_at(rules: &[StoredRule], number: u32) -> Option<&StoredRule
         Some(stored)
     } else {
         None
+    }
+}
+
+/// The stored rule of a number. They stand in the order of their numbers.
+pub(crate) fn stored_at(rules: &[StoredRule], number: u32) -> Option<&StoredRule>
+    requires { AreInOrder rules.now }
+    ensures { option_map (λ s. s.now) result ≡ stored_numbered number rules.now }
+{
+    // It stands there where each edit before it added a rule.
+    let usual = (number as usize).saturating_sub(1);
+    match numbered_at(rules, usual, number) {
+        Some(stored) => Some(stored),
+        None => search_number(rules, number),
     }
 }
 

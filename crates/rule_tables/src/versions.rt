@@ -11,7 +11,7 @@ ghost use Rattle.rule_tables.specs.Edited.{adds_in, modifies_in};
 ghost use Rattle.rule_tables.specs.History.{applied, newest, rules_of, added_as, bundled_by};
 
 use crate::changes::Change;
-use crate::edit::{Edit, copies, count_adds, count_modifies};
+use crate::edit::{Edit, count_adds, count_modifies};
 use crate::edited::EditedRules;
 use crate::rule::Rule;
 use ovs_fields::Key;
@@ -22,7 +22,6 @@ use std::marker::Model;
 /// The rules of every version that bundles of edits made, version 0 of none included.
 #[derive(Drop)]
 pub struct VersionedRules {
-    alloc: Global,
     /// The rules after each edit.
     edited: EditedRules,
     /// How many edits stand through each bundle.
@@ -50,7 +49,6 @@ impl VersionedRules {
         ensures { result ≡ no_bundles }
     {
         VersionedRules {
-            alloc,
             edited: EditedRules::new(alloc),
             bundles: Vec::new(alloc),
         }
@@ -85,17 +83,17 @@ impl VersionedRules {
     /// and match. A word that finds no rule changes none.
     ///
     /// The only error is out of memory, and then nothing changed.
-    pub fn apply(&mut self, list: &[Edit]) -> Result<u32, AllocError>
-        requires some { 0 < length list.now }
-        requires few { applied self.old.edits + length list.now < 2 ^ 32 }
-        ensures bundled { OnOk result (self.new ≡ bundled_by list.now self.old) }
+    pub fn apply(&mut self, bundle: Vec<Edit>) -> Result<u32, AllocError>
+        requires some { 0 < length bundle.items }
+        requires few { applied self.old.edits + length bundle.items < 2 ^ 32 }
+        ensures bundled { OnOk result (self.new ≡ bundled_by bundle.items self.old) }
         ensures version { IfOk result (λ v. v ≡ newest self.new) }
         ensures err { OnErr result (self.new ≡ self.old) }
     {
-        let edits = copies(self.alloc, list)?;
         self.bundles.reserve(1)?;
-        self.edited.reserve(count_adds(list), count_modifies(list))?;
-        self.edited.apply_all(edits);
+        self.edited
+            .reserve(count_adds(&bundle), count_modifies(&bundle))?;
+        self.edited.apply_all(bundle);
         let applied = self.edited.applied();
         self.bundles.push_reserved(applied);
         Ok(self.version())

@@ -7,9 +7,9 @@ use Rattle.rule_tables.proofs.versions.VersionedRules.apply.Goals as goal
 pub invariant_of-self-2 : goal.invariant_of-self-2
 invariant_of-self-2 c =
     let before : ℕ = applied c.self.inside.edited.history in
-    let more : ℕ = length c.args.list.now in
+    let more : ℕ = length c.args.bundle.items in
     let count : applied c.apply_all.new.self.history ≡ before + more =
-    omega (arith, c.apply_all.ensures.applied, ap applied c.in_ok-reserve-2.ensures.same, ap length c.in_ok-edits.ensures) in
+    omega (arith, c.apply_all.ensures.applied, ap applied c.in_ok-reserve-2.ensures.same) in
     let items : c.push_reserved.new.self.items ≡ c.self.inside.bundles.items ++ (before + more) ∷ [] =
     c.push_reserved.ensures.items
     ∙ ap₂ (λ (list : List ℕ) (n : ℕ). list ++ n ∷ []) c.in_ok-reserve.ensures.items (c.applied-applied.ensures.applied ∙ count) in

@@ -2,7 +2,7 @@ use Rattle.std.proofs.Common.{rules, sym, ap, ◌∙◌}
 use Rattle.std.specs.Option.{option_map}
 use Rattle.std.proofs.lemmas.List.Sorted.{IsPartitionPoint-from_clause}
 use Rattle.rule_tables.proofs.Numbered.{is_less, partitioned, at_place, other_at_place, past_all}
-use Rattle.rule_tables.proofs.search.stored_at.Goals as goal
+use Rattle.rule_tables.proofs.search.search_number.Goals as goal
 
 pub returns-in_err-stored : goal.returns-in_err-stored
 returns-in_err-stored c =
