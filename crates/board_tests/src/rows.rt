@@ -19,7 +19,6 @@ use spec_tables::SyncPoint;
 use std::alloc::{AllocError, Global};
 use std::marker::Brand;
 use std::process::Abort;
-use std::slice;
 use std::test::Fail;
 use table_versions::rules::RunRules;
 
@@ -117,7 +116,7 @@ fn each_alone(alloc: Global, edits: &[Edit]) -> Result<(VersionedRules, Vec<u32>
     let mut rules = VersionedRules::new(alloc);
     let mut bundles = Vec::new(alloc);
     'edits: for edit in edits {
-        rules.apply(slice::from_ref(edit))?;
+        rules.apply(vec![in alloc; edit.copy(alloc)?]?)?;
         bundles.push(rules.edits())?;
     }
     Ok((rules, bundles))

@@ -29,6 +29,7 @@ use line_files::{LineReader, in_line, read_lines};
 use rule_tables::{Edit, SyncPoint, VersionedRules};
 use spec_script::FileFault;
 use std::alloc::{AllocError, Global};
+use std::mem;
 use std::snapshot::Snapshot;
 
 /// The most bytes of a file of edits.
@@ -106,11 +107,14 @@ fn word_in_line(number: u32, may_stand: bool, line: &[u8]) -> Result<u32, FileFa
 
 // Makes the next version of the rules by a bundle, if there are any. Where it changes more than it may, there are none
 // from then on.
-fn apply_bundle(rules: &mut Option<Box<VersionedRules>>, bundle: &[Edit]) -> Result<(), AllocError>
-    requires some { 0 < length bundle.now }
-    requires few { ForSome (unboxed rules.old) (λ all. applied all.edits + length bundle.now < 2 ^ 32) }
+fn apply_bundle(
+    rules: &mut Option<Box<VersionedRules>>,
+    bundle: Vec<Edit>,
+) -> Result<(), AllocError>
+    requires some { 0 < length bundle.items }
+    requires few { ForSome (unboxed rules.old) (λ all. applied all.edits + length bundle.items < 2 ^ 32) }
     ensures { OnOk result ((edits : List SpecEdit) (bundles : List ℕ) → AreRules edits bundles (unboxed rules.old)
-        → AreRules (edits ++ bundle.now) (bundles ++ (length edits + length bundle.now) ∷ []) (unboxed rules.new)) }
+        → AreRules (edits ++ bundle.items) (bundles ++ (length edits + length bundle.items) ∷ []) (unboxed rules.new)) }
 {
     let Some(all) = rules else {
         return Ok(());
@@ -123,7 +127,7 @@ fn apply_bundle(rules: &mut Option<Box<VersionedRules>>, bundle: &[Edit]) -> Res
 }
 
 // The script with a bundle of the edits since the last one, if there are any.
-fn with_bundle(mut kept: Kept) -> Result<Kept, FileFault>
+fn with_bundle(alloc: Global, mut kept: Kept) -> Result<Kept, FileFault>
     requires few { length kept.said.edits.items ≤ most_edits }
     requires kept { AreKept kept }
     ensures value { Gives kept_view result (Ok (with_bundle (kept_view kept))) }
@@ -134,13 +138,18 @@ fn with_bundle(mut kept: Kept) -> Result<Kept, FileFault>
     }
     let through = kept.said.edits.len() as u32;
     kept.said.bundles.push(through)?;
-    apply_bundle(&mut kept.rules, &kept.pending)?;
-    kept.pending.clear();
+    let bundle = mem::replace(&mut kept.pending, Vec::new(alloc));
+    apply_bundle(&mut kept.rules, bundle)?;
     Ok(kept)
 }
 
 // The script with one more edit, which is a bundle by itself where none was begun.
-fn with_edit_in(begun: Option<Begun>, edit: Edit, mut kept: Kept) -> Result<Kept, FileFault>
+fn with_edit_in(
+    alloc: Global,
+    begun: Option<Begun>,
+    edit: Edit,
+    mut kept: Kept,
+) -> Result<Kept, FileFault>
     requires room { length kept.said.edits.items < most_edits }
     requires kept { AreKept kept }
     ensures value { Gives kept_view result (Ok (with_edit_in (begun_view begun) edit (kept_view kept))) }
@@ -149,7 +158,7 @@ fn with_edit_in(begun: Option<Begun>, edit: Edit, mut kept: Kept) -> Result<Kept
     kept.said.edits.push(Snapshot::of(&edit))?;
     kept.pending.push(edit)?;
     match begun {
-        None => with_bundle(kept),
+        None => with_bundle(alloc, kept),
         Some(_) => Ok(kept),
     }
 }
@@ -177,7 +186,7 @@ fn with_edit(
         return Err(FileFault::TooManyEdits);
     }
     let edit = edit_in_line(alloc, number, line, front)?;
-    let kept = with_edit_in(begun, edit, kept)?;
+    let kept = with_edit_in(alloc, begun, edit, kept)?;
     Ok(Reading { kept, begun })
 }
 
@@ -233,7 +242,12 @@ fn with_begin(number: u32, line: &[u8], mut reading: Reading) -> Result<Reading,
 
 // The bundle that was begun ends.
 #[tactic(auto, unfolding(spec_script::specs::Script::with_commit))]
-fn with_commit(number: u32, line: &[u8], reading: Reading) -> Result<Reading, FileFault>
+fn with_commit(
+    alloc: Global,
+    number: u32,
+    line: &[u8],
+    reading: Reading,
+) -> Result<Reading, FileFault>
     requires short { length line.now ≤ most_line_bytes }
     requires formed { IsWellFormed (reading_view reading) }
     requires kept { AreKept reading.kept }
@@ -242,7 +256,7 @@ fn with_commit(number: u32, line: &[u8], reading: Reading) -> Result<Reading, Fi
     ensures kept { IfOk result (λ r. AreKept r.kept) }
 {
     word_in_line(number, reading.begun.is_some(), line)?;
-    let kept = with_bundle(reading.kept)?;
+    let kept = with_bundle(alloc, reading.kept)?;
     Ok(Reading { kept, begun: None })
 }
 
@@ -275,7 +289,7 @@ impl LineReader for ScriptReader {
         } else if begins_with("begin", line, front) {
             with_begin(number, line, reading)
         } else if begins_with("commit", line, front) {
-            with_commit(number, line, reading)
+            with_commit(self.alloc, number, line, reading)
         } else {
             with_edit(self.alloc, number, line, front, reading)
         }

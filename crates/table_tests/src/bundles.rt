@@ -30,13 +30,13 @@ fn a_rule_is_replaced(
 ) -> Result<(), AllocError>
     requires { rules.old ≡ no_bundles }
 {
-    apply_one(rules, edit(alloc, EditWord::Add, None, port_1(), 2)?)?;
+    apply_one(alloc, rules, edit(alloc, EditWord::Add, None, port_1(), 2)?)?;
     assert_eq!(rt; winner(alloc, rules)?, Some(1));
-    let bundle = [
+    let bundle = vec![in alloc;
         edit(alloc, EditWord::Delete, None, port_1(), 0)?,
         edit(alloc, EditWord::Add, None, port_1(), 3)?,
-    ];
-    assert_eq!(rt; rules.apply(&bundle)?, 2);
+    ]?;
+    assert_eq!(rt; rules.apply(bundle)?, 2);
     assert_eq!(rt; winner(alloc, rules)?, Some(3));
     Ok(())
 }
@@ -57,12 +57,12 @@ fn another_rule_comes_and_goes(
 ) -> Result<(), AllocError>
     requires { rules.old ≡ no_bundles }
 {
-    apply_one(rules, edit(alloc, EditWord::Add, None, port_1(), 2)?)?;
-    let bundle = [
+    apply_one(alloc, rules, edit(alloc, EditWord::Add, None, port_1(), 2)?)?;
+    let bundle = vec![in alloc;
         edit(alloc, EditWord::Add, None, port_1_to_2(), 3)?,
         edit(alloc, EditWord::DeleteStrict, None, port_1_to_2(), 0)?,
-    ];
-    assert_eq!(rt; rules.apply(&bundle)?, 2);
+    ]?;
+    assert_eq!(rt; rules.apply(bundle)?, 2);
     assert_eq!(rt; winner(alloc, rules)?, Some(1));
     Ok(())
 }

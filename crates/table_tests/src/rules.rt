@@ -65,14 +65,11 @@ pub fn edit(
 }
 
 /// Applies a bundle of one edit.
-pub fn apply_one(rules: &mut VersionedRules, edit: Edit) -> Result<u32, AllocError>
+pub fn apply_one(alloc: Global, rules: &mut VersionedRules, edit: Edit) -> Result<u32, AllocError>
     requires { applied rules.old.edits + 1 < 2 ^ 32 }
     ensures { OnOk result (rules.new ≡ bundled_by (edit ∷ []) rules.old) }
 {
-    let bundle = [edit];
-    let version = rules.apply(&bundle);
-    drop(bundle);
-    version
+    rules.apply(vec![in alloc; edit]?)
 }
 
 /// Two rules, of which the second is more specific; both modified; the first one deleted; the second one replaced.
@@ -80,14 +77,31 @@ fn make_five_versions(alloc: Global, rules: &mut VersionedRules) -> Result<(), A
     requires { rules.old ≡ no_bundles }
     ensures { OnOk result (newest rules.new ≡ 5) }
 {
-    apply_one(rules, edit(alloc, EditWord::Add, Some(7), port_1(), 2)?)?;
-    apply_one(rules, edit(alloc, EditWord::Add, None, port_1_to_2(), 3)?)?;
-    apply_one(rules, edit(alloc, EditWord::Modify, None, port_1(), 4)?)?;
     apply_one(
+        alloc,
+        rules,
+        edit(alloc, EditWord::Add, Some(7), port_1(), 2)?,
+    )?;
+    apply_one(
+        alloc,
+        rules,
+        edit(alloc, EditWord::Add, None, port_1_to_2(), 3)?,
+    )?;
+    apply_one(
+        alloc,
+        rules,
+        edit(alloc, EditWord::Modify, None, port_1(), 4)?,
+    )?;
+    apply_one(
+        alloc,
         rules,
         edit(alloc, EditWord::DeleteStrict, None, port_1(), 0)?,
     )?;
-    apply_one(rules, edit(alloc, EditWord::Add, None, port_1_to_2(), 5)?)?;
+    apply_one(
+        alloc,
+        rules,
+        edit(alloc, EditWord::Add, None, port_1_to_2(), 5)?,
+    )?;
     Ok(())
 }
 
@@ -206,7 +220,11 @@ fn outer_tags_are_matched(
 ) -> Result<(), AllocError>
     requires { rules.old ≡ no_bundles }
 {
-    apply_one(rules, edit(alloc, EditWord::Add, None, vlan_10(), 2)?)?;
+    apply_one(
+        alloc,
+        rules,
+        edit(alloc, EditWord::Add, None, vlan_10(), 2)?,
+    )?;
     let mut key = Key::zero();
     key.set(FieldId::VlanTpid, 0x88a8);
     key.set(FieldId::VlanTci, 0x1014);
@@ -235,16 +253,26 @@ fn strict_words_are_applied(
 ) -> Result<(), AllocError>
     requires { rules.old ≡ no_bundles }
 {
-    apply_one(rules, edit(alloc, EditWord::Add, Some(7), port_1(), 2)?)?;
     apply_one(
+        alloc,
+        rules,
+        edit(alloc, EditWord::Add, Some(7), port_1(), 2)?,
+    )?;
+    apply_one(
+        alloc,
         rules,
         edit(alloc, EditWord::ModifyStrict, Some(9), port_1(), 3)?,
     )?;
     apply_one(
+        alloc,
         rules,
         edit(alloc, EditWord::ModifyStrict, None, port_1_to_2(), 4)?,
     )?;
-    apply_one(rules, edit(alloc, EditWord::Delete, None, Match::any(), 0)?)?;
+    apply_one(
+        alloc,
+        rules,
+        edit(alloc, EditWord::Delete, None, Match::any(), 0)?,
+    )?;
     expect_cookie(rt, rules, 1, 1, 7);
     expect_cookie(rt, rules, 3, 1, 9);
     expect_output(rt, rules, 3, 1, 3);

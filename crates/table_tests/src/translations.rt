@@ -47,8 +47,8 @@ fn add_two_tables(
     ensures version { OnOk result (newest rules.new ≡ 2) }
     ensures runnable { OnOk result (AreRunnable (rules_of rules.new 2)) }
 {
-    apply_one(rules, adding(alloc, 0, first)?)?;
-    apply_one(rules, adding(alloc, 1, second)?)?;
+    apply_one(alloc, rules, adding(alloc, 0, first)?)?;
+    apply_one(alloc, rules, adding(alloc, 1, second)?)?;
     Ok(())
 }
 
