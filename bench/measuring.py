@@ -42,9 +42,9 @@ def seconds(words):
     return run(words)[1]
 
 
-def processor_of(words):
+def processor_of(words, environment=None):
     """The processor's seconds that a program takes whose output goes nowhere."""
-    child = subprocess.Popen(words, stdout=subprocess.DEVNULL, stderr=subprocess.DEVNULL)
+    child = subprocess.Popen(words, stdout=subprocess.DEVNULL, stderr=subprocess.DEVNULL, env=environment)
     _, status, usage = os.wait4(child.pid, 0)
     # (what wait4 took, subprocess is not to wait for)
     child.returncode = status
@@ -66,12 +66,12 @@ def ptrace(request, process, options=None):
         sys.exit(f"bench: a process isn't traced: {os.strerror(ctypes.get_errno())}")
 
 
-def peak_of(words):
+def peak_of(words, environment=None):
     """The greatest resident memory of a program in bytes, which the system tells as long as it is there.
 
     What it tells of a process that ended counts what stood there before the program, which is this script.
     """
-    child = subprocess.Popen(words, stdout=subprocess.DEVNULL, stderr=subprocess.DEVNULL)
+    child = subprocess.Popen(words, stdout=subprocess.DEVNULL, stderr=subprocess.DEVNULL, env=environment)
     ptrace(PTRACE_SEIZE, child.pid, PTRACE_O_TRACEEXIT)
     os.waitpid(child.pid, 0)
     peak = resident_peak(child.pid)
