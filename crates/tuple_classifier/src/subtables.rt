@@ -145,7 +145,7 @@ impl Subtables {
             → AreKeptOf self.new rs }
     {
         leave(&mut self.order, place, self.by_mask.len() - 1);
-        self.by_mask.swap_remove_index(place);
+        drop(self.by_mask.swap_remove_index(place));
     }
 }
 
@@ -154,8 +154,13 @@ fn one_rule(alloc: Global, matching: &Match, rank: Rank) -> Result<Subtable, All
     ensures { IfOk result (λ s. IsSubtableOfOne s matching.now rank) }
 {
     let mut subtable = Subtable::new(alloc, &matching.mask);
-    subtable.insert(matching, rank)?;
-    Ok(subtable)
+    match subtable.insert(matching, rank) {
+        Ok(()) => Ok(subtable),
+        Err(error) => {
+            drop(subtable);
+            Err(error)
+        }
+    }
 }
 
 /// Adds a subtable of a mask that none has. The only error is out of memory, and then they are as they were.
@@ -164,7 +169,7 @@ fn add_subtable(by_mask: &mut ByMask, mask: &Mask, subtable: Subtable) -> Result
     ensures ok { OnOk result (by_mask.new.entries ≡ by_mask.old.entries ++ (mask.now, subtable) ∷ []) }
     ensures err { OnErr result (by_mask.new.entries ≡ by_mask.old.entries) }
 {
-    by_mask.insert(*mask, subtable)?;
+    drop(by_mask.insert(*mask, subtable)?);
     Ok(())
 }
 

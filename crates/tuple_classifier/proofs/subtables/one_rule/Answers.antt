@@ -9,8 +9,8 @@ insert-requires-clause-mask c = same_from_equal _ _ (sym c.new-subtable.ensures.
 pub insert-requires-clause-new : goal.insert-requires-clause-new
 insert-requires-clause-new c = ([], c.new-subtable.ensures.rules.staged, λ r m e. m)
 
-pub returns : goal.returns
-returns c = record {
-  mask_is = ap bits c.in_ok-insert.ensures.mask ∙ c.new-subtable.ensures.mask;
-  has_one = λ r is of_rank. c.in_ok-insert.ensures.ok [] r c.new-subtable.ensures.rules is of_rank;
+pub returns-in-Ok : goal.returns-in-Ok
+returns-in-Ok c = record {
+  mask_is = ap bits c.in-Ok.ensures.mask ∙ c.new-subtable.ensures.mask;
+  has_one = λ r is of_rank. c.in-Ok.ensures.ok [] r c.new-subtable.ensures.rules is of_rank;
 }
