@@ -16,6 +16,23 @@ use run_case::{Case, RunData};
 use std::alloc::{AllocError, Global};
 use table_versions::{RunTables, Tables};
 
+// All blocks are finished from new boards, by new tables.
+fn finish_new<C: Case, T: RunTables<C>>(
+    alloc: Global,
+    run: &RunData<C>,
+    boards: Boards<C>,
+    tables: &mut Tables<C, T>,
+) -> Result<Boards<C>, AllocError>
+    requires version { tables.old ≡ 0 }
+    requires scheduled { map (under_way C.run) boards ≡ (schedules.new_schedule C.run).boards }
+    ensures finished { IfOk result (AreFinished C.run) }
+    ensures scheduled { IfOk result (λ left. map (under_way C.run) left
+        ≡ (schedules.finish C.run (schedules.new_schedule C.run)).boards) }
+{
+    let left = finish_blocks(alloc, run, boards, tables)?;
+    Ok(left)
+}
+
 // All blocks are finished from new boards, by tables of its own.
 fn start_over<C: Case, T: RunTables<C>>(
     alloc: Global,
@@ -30,9 +47,11 @@ fn start_over<C: Case, T: RunTables<C>>(
         ≡ (schedules.finish C.run (schedules.new_schedule C.run)).boards) }
 {
     let boards = Boards::new(alloc, run, flow_limit)?;
+    // The tables are lent to what can fail: a proof goes through the drop of what is owned at each end.
     let mut tables = Tables::<C, T>::new(alloc, store);
-    let left = finish_blocks(alloc, run, boards, &mut tables)?;
-    Ok(left)
+    let left = finish_new(alloc, run, boards, &mut tables);
+    drop(tables);
+    left
 }
 
 /// Ends a phase of workers: the boards that they leave finish the phase's block. It answers the boards, and whether those
