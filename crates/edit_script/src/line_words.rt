@@ -45,7 +45,7 @@ fn is_word(word: &str, text: &[u8]) -> bool
 
 /// Whether a line begins with this word, by its front.
 pub fn begins_with(word: &str, line: &[u8], front: Word<'_>) -> bool
-    requires short { length word.now < 14 }
+    requires short { length word.now < LONG_WORD }
     requires front { IsFront (word_view front) (word_at_start (uncommented line.now)) }
     ensures { result ≡ begins_with word.now line.now }
 {

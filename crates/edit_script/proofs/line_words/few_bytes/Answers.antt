@@ -1,7 +1,5 @@
-use Rattle.std.proofs.Common.{sym, ap, subst, ◌∙◌, arith}
+use Rattle.std.proofs.Common.{sym, ◌∙◌, arith}
 use Rattle.spec_flow_text.specs.Items.{is_white}
-use Rattle.spec_flow_text.specs.Lines.{first_word}
-use Rattle.edit_script.specs.Fronts.{IsFront, is_empty}
 use Rattle.edit_script.proofs.Fronts.{cut_front, cut_empty}
 use Rattle.edit_script.proofs.line_words.few_bytes.Goals as goal
 

@@ -9,4 +9,4 @@ apply_bundle-requires-clause-few c rules is =
     let k = c.requires.kept in
     let s = kept_view c.args.kept in
     let all = applied_so_far s.edits c.args.kept.pending.items s.bundles rules (rw is at k) in
-    omega (arith, all, length_told c.args.kept.said, c.requires.few, ap length c.deref.ensures.value)
+    omega (arith, all, length_told c.args.kept.said, c.requires.few, ap (λ v. length v.items) c.replace-bundle.ensures.value)
