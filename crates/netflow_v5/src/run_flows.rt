@@ -1,5 +1,5 @@
 //! The flows of a finished run.
-ghost use Rattle.std.specs.Prelude.{◌≡◌, ◌/◌, ◌<◌, ◌^◌, All, IfOk, OnOk, fold};
+ghost use Rattle.std.specs.Prelude.{◌≡◌, ◌/◌, ◌<◌, ◌^◌, [], All, IfOk, OnOk, fold};
 ghost use Rattle.spec_pcap.specs.Pcap.{second};
 ghost use Rattle.spec_run.specs.Journals.{actions_for};
 ghost use Rattle.spec_netflow.specs.Flows.{came_in, time_at, first_time, last_time, uptime, export_time, packet_of, with_packet, flows};
@@ -80,6 +80,24 @@ fn add_packet<C: Case>(
     }
 }
 
+// Adds the packets of a run to a table that has none yet, and gives what is told of its flows.
+fn flows_by<C: Case>(
+    alloc: Global,
+    table: &mut FlowTable,
+    run: &RunData<C>,
+    finished: &Finished<C>,
+) -> Result<Vec<FlowRecord>, AllocError>
+    requires { table.old ≡ [] }
+    ensures { IfOk result (λ v. v.items ≡ flows C.run (actions_for C.run finished.now)) }
+{
+    let came = finished.arrivals();
+    let first = time_at(run, came, 0);
+    'arrivals: for arrival in came {
+        add_packet(table, run, finished, first, *arrival)?;
+    }
+    table.records(alloc)
+}
+
 /// The flows of a finished run, in the order of their first packets.
 ///
 /// It takes memory for each flow; there may be none.
@@ -90,11 +108,9 @@ pub fn flows<C: Case>(
 ) -> Result<Vec<FlowRecord>, AllocError>
     ensures { IfOk result (λ v. v.items ≡ flows C.run (actions_for C.run finished.now)) }
 {
-    let came = finished.arrivals();
-    let first = time_at(run, came, 0);
+    // The table is lent to what can fail, and dropped once.
     let mut table = FlowTable::new(alloc);
-    'arrivals: for arrival in came {
-        add_packet(&mut table, run, finished, first, *arrival)?;
-    }
-    table.records(alloc)
+    let flows = flows_by(alloc, &mut table, run, finished);
+    drop(table);
+    flows
 }

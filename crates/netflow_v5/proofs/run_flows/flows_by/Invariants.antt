@@ -2,7 +2,7 @@ use Rattle.std.proofs.Common.{◌≡◌, take}
 use Rattle.std.specs.List.{flat_map}
 use Rattle.spec_run.specs.Journals.{actions_for}
 use Rattle.spec_netflow.specs.Flows.{packet_of, flows_of}
-use Rattle.netflow_v5.proofs.run_flows.flows.Given as goal
+use Rattle.netflow_v5.proofs.run_flows.flows_by.Given as goal
 
 abbrev pub invariant-arrivals : goal.invariant-arrivals
 invariant-arrivals g l =
