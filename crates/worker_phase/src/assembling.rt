@@ -7,7 +7,6 @@ use crate::phase::Phase;
 use crate::receiving::Receiver;
 use crate::revalidating::Revalidator;
 use crate::scoped::Workers;
-use pmd_board::Board;
 use run_case::Case;
 use std::alloc::{AllocError, Global};
 use std::marker::PhantomData;
@@ -16,28 +15,22 @@ use table_publish::Seer;
 use table_versions::RunTables;
 use upcall_queue::{Pass, UpcallQueue};
 
-/// A lock for each board.
-pub fn locked<C: Case>(
-    alloc: Global,
-    boards: Vec<Board<C>>,
-) -> Result<Vec<Mutex<Board<C>>>, AllocError> {
-    let mut locks = Vec::with_capacity(alloc, boards.len())?;
-    'boards: for board in boards {
-        locks.push(Mutex::new(board))?;
+/// A lock for each value.
+pub fn locked<B: Drop>(alloc: Global, values: Vec<B>) -> Result<Vec<Mutex<B>>, AllocError> {
+    let mut locks = Vec::with_capacity(alloc, values.len())?;
+    'values: for value in values {
+        locks.push(Mutex::new(value))?;
     }
     Ok(locks)
 }
 
-/// The boards out of their locks.
-pub fn unlocked<C: Case>(
-    alloc: Global,
-    locks: Vec<Mutex<Board<C>>>,
-) -> Result<Vec<Board<C>>, AllocError> {
-    let mut boards = Vec::with_capacity(alloc, locks.len())?;
+/// The values out of their locks.
+pub fn unlocked<B: Drop>(alloc: Global, locks: Vec<Mutex<B>>) -> Result<Vec<B>, AllocError> {
+    let mut values = Vec::with_capacity(alloc, locks.len())?;
     'locks: for lock in locks {
-        boards.push(lock.into_inner())?;
+        values.push(lock.into_inner())?;
     }
-    Ok(boards)
+    Ok(values)
 }
 
 /// So many mailboxes without news.
@@ -95,6 +88,27 @@ fn receivers_of<C: Case, P: Phase>(
     Ok(receivers)
 }
 
+// A handler with the last of the seers, the last of the passes, and this mailbox.
+fn next_handler<C: Case, T: RunTables<C>, P: Phase>(
+    seers: &mut Vec<Seer<C, T>>,
+    passes: &mut Vec<Pass<C>>,
+    mailbox: usize,
+) -> Result<Handler<C, T, P>, AllocError>
+    requires queue { All (λ p. p.queue ≡ P.queue) passes.old.items }
+    requires publication { All (λ s. s.publication ≡ P.publication) seers.old.items }
+    ensures queue { All (λ p. p.queue ≡ P.queue) passes.new.items }
+    ensures publication { All (λ s. s.publication ≡ P.publication) seers.new.items }
+{
+    let pass = next_pass::<C, P>(passes)?;
+    let seer = next_seer::<C, T, P>(seers)?;
+    Ok(Handler {
+        mailbox,
+        seer,
+        pass,
+        of: PhantomData,
+    })
+}
+
 // So many handlers, each with a seer, a mailbox and a pass.
 fn handlers_of<C: Case, T: RunTables<C>, P: Phase>(
     alloc: Global,
@@ -109,14 +123,7 @@ fn handlers_of<C: Case, T: RunTables<C>, P: Phase>(
 {
     let mut handlers = Vec::new(alloc);
     'workers: for mailbox in 0..count {
-        let pass = next_pass::<C, P>(passes)?;
-        let seer = next_seer::<C, T, P>(seers)?;
-        handlers.push(Handler {
-            mailbox,
-            seer,
-            pass,
-            of: PhantomData,
-        })?;
+        handlers.push(next_handler(seers, passes, mailbox)?)?;
     }
     Ok(handlers)
 }
@@ -125,18 +132,18 @@ fn handlers_of<C: Case, T: RunTables<C>, P: Phase>(
 /// of the revalidator is the last one.
 pub fn workers_of<C: Case, T: RunTables<C>, P: Phase>(
     alloc: Global,
-    seers: Vec<Seer<C, T>>,
+    seers: &mut Vec<Seer<C, T>>,
     passes: &mut Vec<Pass<C>>,
     count: usize,
 ) -> Result<Workers<C, T, P>, AllocError>
     requires queue { All (λ p. p.queue ≡ P.queue) passes.old.items }
-    requires publication { All (λ s. s.publication ≡ P.publication) seers.items }
-    ensures { All (λ p. p.queue ≡ P.queue) passes.new.items }
+    requires publication { All (λ s. s.publication ≡ P.publication) seers.old.items }
+    ensures queue { All (λ p. p.queue ≡ P.queue) passes.new.items }
+    ensures publication { All (λ s. s.publication ≡ P.publication) seers.new.items }
 {
-    let mut seers = seers;
     let receivers = receivers_of(alloc, passes, count)?;
-    let handlers = handlers_of(alloc, &mut seers, passes, count)?;
-    let seer = next_seer::<C, T, P>(&mut seers)?;
+    let handlers = handlers_of(alloc, seers, passes, count)?;
+    let seer = next_seer::<C, T, P>(seers)?;
     let revalidator = Revalidator {
         mailbox: count,
         seer,
@@ -164,59 +171,58 @@ fn take_in_receivers<C: Case, P: Phase>(
     }
 }
 
-// Takes in the passes of handlers that have ended, and gives their seers back.
+// Takes in the passes of handlers that have ended, and puts their seers back.
 fn take_in_handlers<C: Case, T: RunTables<C>, P: Phase>(
-    alloc: Global,
     queue: &UpcallQueue<C>,
     first: &mut Pass<C>,
     handlers: Vec<Handler<C, T, P>>,
-) -> Result<Vec<Seer<C, T>>, AllocError>
+    seers: &mut Vec<Seer<C, T>>,
+) -> Result<(), AllocError>
     requires queue { queue.now.name ≡ P.queue }
     requires first { first.old.queue ≡ P.queue }
+    requires seers { All (λ s. s.publication ≡ P.publication) seers.old.items }
     ensures first { first.new.queue ≡ P.queue }
-    ensures seers { IfOk result (λ seers. All (λ s. s.publication ≡ P.publication) seers.items) }
+    ensures seers { All (λ s. s.publication ≡ P.publication) seers.new.items }
 {
-    let mut seers = Vec::new(alloc);
     'handlers: for handler in handlers {
         queue.take_in(first, handler.pass);
         seers.push(handler.seer)?;
     }
-    Ok(seers)
+    Ok(())
 }
 
 // Pops what is left in the queue: its frames stay pending.
-fn pop_all<C: Case, R: Wait>(rt: &R, queue: &UpcallQueue<C>, first: Pass<C>)
-    requires { first.queue ≡ queue.now.name }
+fn pop_all<C: Case, R: Wait>(rt: &R, queue: &UpcallQueue<C>, first: &mut Pass<C>)
+    requires { first.old.queue ≡ queue.now.name }
 {
-    let mut first = first;
     'left: for _ in rt.forever() {
-        if queue.pop(rt, &mut first).is_none() {
+        if queue.pop(rt, first).is_none() {
             break;
         }
     }
 }
 
-/// Takes in the passes of workers that have ended, pops until the queue answers none, and gives the seers back.
+/// Takes in the passes of workers that have ended, puts their seers back, and pops until the queue answers none.
 pub fn take_in_workers<C: Case, T: RunTables<C>, P: Phase, R: Wait>(
     rt: &R,
-    alloc: Global,
     queue: &UpcallQueue<C>,
-    first: Pass<C>,
+    first: &mut Pass<C>,
     workers: Workers<C, T, P>,
-) -> Result<Vec<Seer<C, T>>, AllocError>
+    seers: &mut Vec<Seer<C, T>>,
+) -> Result<(), AllocError>
     requires queue { queue.now.name ≡ P.queue }
-    requires first { first.queue ≡ P.queue }
-    ensures { IfOk result (λ seers. All (λ s. s.publication ≡ P.publication) seers.items) }
+    requires first { first.old.queue ≡ P.queue }
+    requires seers { All (λ s. s.publication ≡ P.publication) seers.old.items }
+    ensures { All (λ s. s.publication ≡ P.publication) seers.new.items }
 {
     let Workers {
         receivers,
         handlers,
         revalidator,
     } = workers;
-    let mut first = first;
-    take_in_receivers(queue, &mut first, receivers);
-    let mut seers = take_in_handlers(alloc, queue, &mut first, handlers)?;
+    take_in_receivers(queue, first, receivers);
+    take_in_handlers(queue, first, handlers, seers)?;
     seers.push(revalidator.seer)?;
     pop_all(rt, queue, first);
-    Ok(seers)
+    Ok(())
 }

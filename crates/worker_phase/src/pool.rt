@@ -16,7 +16,7 @@ use std::sync::Wait;
 use std::thread::Threads;
 use table_publish::{Editor, Seer, publish};
 use table_versions::{RunTables, Tables};
-use upcall_queue::UpcallQueue;
+use upcall_queue::{Pass, UpcallQueue};
 
 /// How many workers of each kind a run has, the editor of its tables, and a seer of them for each handler and for the
 /// revalidator. End it by `end`.
@@ -26,6 +26,35 @@ pub struct WorkerPool<C: Case, T: RunTables<C>> {
     workers: u8,
     ghost of_editor: { All (λ s. s.publication ≡ editor.publication) seers.items },
     ghost few: { (1 ≤ workers) × (workers ≤ most_workers) },
+}
+
+// The pool after a phase, and the boards that the phase left.
+fn after_phase<C: Case + Send + Sync, T: RunTables<C> + Send + Sync, R: Wait>(
+    rt: &R,
+    editor: Option<Editor<C, T>>,
+    seers: Vec<Seer<C, T>>,
+    workers: u8,
+    worked: Result<Vec<Board<C>>, AllocError>,
+) -> Result<(WorkerPool<C, T>, Vec<Board<C>>), AllocError>
+    requires of_editor { IfSome editor (λ e. All (λ s. s.publication ≡ e.publication) seers.items) }
+    requires few { (1 ≤ workers) × (workers ≤ most_workers) }
+{
+    // The editor is always back; no contract can say so of what a thread leaves.
+    let Some(editor) = editor else {
+        return Err(AllocError);
+    };
+    let pool = WorkerPool {
+        editor,
+        seers,
+        workers,
+    };
+    match worked {
+        Ok(boards) => Ok((pool, boards)),
+        Err(e) => {
+            pool.end(rt);
+            Err(e)
+        }
+    }
 }
 
 impl<C: Case + Send + Sync, T: RunTables<C> + Send + Sync> WorkerPool<C, T> {
@@ -61,50 +90,51 @@ impl<C: Case + Send + Sync, T: RunTables<C> + Send + Sync> WorkerPool<C, T> {
     ) -> Result<(WorkerPool<C, T>, Vec<Board<C>>), AllocError>
         requires { block ≤ last_block C.run }
     {
+        let count = self.workers as usize;
+        let (queue, passes) = match UpcallQueue::new(alloc, most_queued(count), 2 * count + 1) {
+            Ok(made) => made,
+            Err(e) => {
+                self.end(rt);
+                return Err(e);
+            }
+        };
+        let worked = self.work_through(rt, alloc, run, &queue, passes, boards, block, gate);
+        drop(queue);
+        worked
+    }
+
+    // The same through a queue with these passes.
+    fn work_through<R: Threads + Wait + Sync, G: Gate + Sync>(
+        self,
+        rt: &R,
+        alloc: Global,
+        run: &WorkedRun<'_, C>,
+        queue: &UpcallQueue<C>,
+        passes: Vec<Pass<C>>,
+        boards: Vec<Board<C>>,
+        block: u32,
+        gate: &G,
+    ) -> Result<(WorkerPool<C, T>, Vec<Board<C>>), AllocError>
+        requires passes { All (λ p. p.queue ≡ queue.now.name) passes.items }
+        requires there { block ≤ last_block C.run }
+    {
         let WorkerPool {
             editor,
             seers,
             workers,
         } = self;
-        let (queue, passes) = match UpcallQueue::new(
-            alloc,
-            most_queued(workers as usize),
-            2 * workers as usize + 1,
-        ) {
-            Ok(made) => made,
-            Err(e) => {
-                editor.end(rt);
-                return Err(e);
-            }
-        };
-        let means = Means {
+        let mut means = Means {
             seers,
-            queue: &queue,
+            queue,
             passes,
-            boards,
             workers,
         };
         let (editor, worked) = work_at_block::<C, T, Brand, R, G>(
-            rt, alloc, run, editor, means, block, gate,
+            rt, alloc, run, editor, &mut means, boards, block, gate,
         );
-        // The editor is always back; no contract can say so of what a thread leaves.
-        let Some(editor) = editor else {
-            return Err(AllocError);
-        };
-        match worked {
-            Ok((seers, boards)) => {
-                let pool = WorkerPool {
-                    editor,
-                    seers,
-                    workers,
-                };
-                Ok((pool, boards))
-            }
-            Err(e) => {
-                editor.end(rt);
-                Err(e)
-            }
-        }
+        let Means { seers, passes, .. } = means;
+        drop(passes);
+        after_phase(rt, editor, seers, workers, worked)
     }
 
     /// The tables of a version, if that is the one that was published last. After a phase that is the last version of its

@@ -59,6 +59,25 @@ struct AtWork<C: Case, T: RunTables<C>, P: Phase> {
     revalidator: Begun<(Revalidator<C, T, P>, Result<(), AllocError>)>,
 }
 
+// Begins the work of a receive worker.
+fn begin_receiver<
+    's,
+    E,
+    C: Case + Send + Sync,
+    T: RunTables<C> + Send + Sync,
+    P: Phase + Send + Sync,
+    R: Threads + Wait + Sync,
+    G: Gate + Sync,
+>(
+    scope: &Scope<'s, E>,
+    rt: &'s R,
+    shared: &'s Shared<'s, C, T, P>,
+    receiver: Receiver<C, P>,
+    gate: &'s G,
+) -> Begun<(Receiver<C, P>, Result<(), AllocError>)> {
+    begin(scope.spawn(move || (receive(rt, shared, receiver, gate), Ok(()))))
+}
+
 // Begins the work of the receive workers.
 fn begin_receivers<
     's,
@@ -78,10 +97,29 @@ fn begin_receivers<
 ) -> Result<Vec<Begun<(Receiver<C, P>, Result<(), AllocError>)>>, AllocError> {
     let mut begun = Vec::with_capacity(alloc, receivers.len())?;
     'receivers: for receiver in receivers {
-        let spawned = scope.spawn(move || (receive(rt, shared, receiver, gate), Ok(())));
-        begun.push(begin(spawned))?;
+        begun.push(begin_receiver(scope, rt, shared, receiver, gate))?;
     }
     Ok(begun)
+}
+
+// Begins the work of a handler.
+fn begin_handler<
+    's,
+    E,
+    C: Case + Send + Sync,
+    T: RunTables<C> + Send + Sync,
+    P: Phase + Send + Sync,
+    R: Threads + Wait + Sync,
+    G: Gate + Sync,
+>(
+    scope: &Scope<'s, E>,
+    rt: &'s R,
+    alloc: Global,
+    shared: &'s Shared<'s, C, T, P>,
+    handler: Handler<C, T, P>,
+    gate: &'s G,
+) -> Begun<(Handler<C, T, P>, Result<(), AllocError>)> {
+    begin(scope.spawn(move || handle(rt, alloc, shared, handler, gate)))
 }
 
 // Begins the work of the handlers.
@@ -103,8 +141,7 @@ fn begin_handlers<
 ) -> Result<Vec<Begun<(Handler<C, T, P>, Result<(), AllocError>)>>, AllocError> {
     let mut begun = Vec::with_capacity(alloc, handlers.len())?;
     'handlers: for handler in handlers {
-        let spawned = scope.spawn(move || handle(rt, alloc, shared, handler, gate));
-        begun.push(begin(spawned))?;
+        begun.push(begin_handler(scope, rt, alloc, shared, handler, gate))?;
     }
     Ok(begun)
 }
@@ -198,6 +235,23 @@ fn begin_all<
     })
 }
 
+// Workers that have ended, where there was memory for all that they did.
+fn ended<C: Case, T: RunTables<C>, P: Phase>(
+    receivers: Result<Vec<Receiver<C, P>>, AllocError>,
+    handlers: Result<Vec<Handler<C, T, P>>, AllocError>,
+    revalidator: Revalidator<C, T, P>,
+    swept: Result<(), AllocError>,
+) -> Result<Workers<C, T, P>, AllocError> {
+    match (receivers, handlers, swept) {
+        (Ok(receivers), Ok(handlers), Ok(())) => Ok(Workers {
+            receivers,
+            handlers,
+            revalidator,
+        }),
+        _ => Err(AllocError),
+    }
+}
+
 // The workers, once all have ended, and the editor too.
 fn join_all<C: Case, T: RunTables<C>, P: Phase, R: Threads>(
     rt: &R,
@@ -210,16 +264,11 @@ fn join_all<C: Case, T: RunTables<C>, P: Phase, R: Threads>(
         handlers,
         revalidator,
     } = at_work;
-    let receivers = join_each(rt, alloc, receivers)?;
+    let receivers = join_each(rt, alloc, receivers);
     editor.join(rt);
-    let handlers = join_each(rt, alloc, handlers)?;
+    let handlers = join_each(rt, alloc, handlers);
     let (revalidator, swept) = revalidator.join(rt);
-    swept?;
-    Ok(Workers {
-        receivers,
-        handlers,
-        revalidator,
-    })
+    ended(receivers, handlers, revalidator, swept)
 }
 
 /// Runs the workers of a phase, each in a thread of its own, and gives them back once all have ended. The receive workers

@@ -1,5 +1,0 @@
-use Rattle.worker_phase.proofs.pool.WorkerPool.work.Given as goal
-
--- the phase is named by this publication and this queue
-abbrev pub ghosts-work_at_block : goal.ghosts-work_at_block
-ghosts-work_at_block g a = record { publication = a.editor.publication; queue = a.means.queue.now.name }
