@@ -28,6 +28,23 @@ pub struct Handler<C: Case, T: RunTables<C>, P: Phase> {
     pub ghost queue_is: { pass.queue ≡ P.queue },
 }
 
+// Takes an upcall, if there is one, and answers whether there was.
+fn take_one<C: Case, T: RunTables<C>, P: Phase, R: Wait>(
+    rt: &R,
+    shared: &Shared<'_, C, T, P>,
+    pass: &mut Pass<C>,
+    taken: &mut Vec<Upcall>,
+) -> Result<bool, AllocError>
+    requires { pass.old.queue ≡ P.queue }
+    ensures { pass.new.queue ≡ P.queue }
+{
+    let Some(upcall) = shared.queue.pop(rt, pass) else {
+        return Ok(false);
+    };
+    taken.push(upcall)?;
+    Ok(true)
+}
+
 // Takes upcalls, if there are any: one, and its share of those that are left where it was busy. Another handler is told
 // of the others.
 fn take_share<C: Case, T: RunTables<C>, P: Phase, R: Wait>(
@@ -40,10 +57,9 @@ fn take_share<C: Case, T: RunTables<C>, P: Phase, R: Wait>(
     requires { pass.old.queue ≡ P.queue }
     ensures { pass.new.queue ≡ P.queue }
 {
-    let Some(first) = shared.queue.pop(rt, pass) else {
+    if !take_one(rt, shared, pass, taken)? {
         return Ok(());
-    };
-    taken.push(first)?;
+    }
     let queued = most_queued(shared.workers).saturating_sub(shared.queue.room(rt, pass));
     if queued > 0 {
         shared.given.notify_one();
@@ -54,9 +70,8 @@ fn take_share<C: Case, T: RunTables<C>, P: Phase, R: Wait>(
         (queued / shared.workers).min(MOST_UPCALLS - 1)
     };
     'upcalls: for _ in 0..share {
-        match shared.queue.pop(rt, pass) {
-            Some(upcall) => taken.push(upcall)?,
-            None => break,
+        if !take_one(rt, shared, pass, taken)? {
+            break;
         }
     }
     Ok(())
@@ -136,6 +151,56 @@ fn handle_taken<C: Case, T: RunTables<C>, P: Phase, R: Wait, G: Gate>(
     (seer, Ok(handled))
 }
 
+// Takes upcalls, or waits for some where there are none; `idle` is for how many turns there were none. It answers whether
+// more may come.
+fn take_turn<C: Case, T: RunTables<C>, P: Phase, R: Wait>(
+    rt: &R,
+    shared: &Shared<'_, C, T, P>,
+    pass: &mut Pass<C>,
+    idle: &mut u32,
+    taken: &mut Vec<Upcall>,
+) -> Result<bool, AllocError>
+    requires { pass.old.queue ≡ P.queue }
+    ensures { pass.new.queue ≡ P.queue }
+{
+    // This is asked first: what is put before the last receive worker ends is found after it.
+    let ended = shared.all_received();
+    let seen = shared.given.notifications();
+    take_share(rt, shared, pass, *idle > 0, taken)?;
+    if !taken.is_empty() {
+        *idle = 0;
+        return Ok(true);
+    }
+    if ended {
+        return Ok(false);
+    }
+    shared.wait_for_upcalls(rt, *idle, seen);
+    *idle = idle.saturating_add(1);
+    Ok(true)
+}
+
+// Handles the upcalls that were taken, if there are any, by what the seer was told before.
+fn handle_told<C: Case, T: RunTables<C>, P: Phase, R: Wait, G: Gate>(
+    rt: &R,
+    alloc: Global,
+    shared: &Shared<'_, C, T, P>,
+    mailbox: usize,
+    seer: Seer<C, T>,
+    taken: &mut Vec<Upcall>,
+    gate: &G,
+) -> (Seer<C, T>, Result<(), AllocError>)
+    requires { seer.publication ≡ P.publication }
+    ensures { result.0.publication ≡ P.publication }
+{
+    if taken.is_empty() {
+        return (seer, Ok(()));
+    }
+    let told = shared.told(rt, mailbox, seer);
+    let (back, handled) = handle_taken(rt, alloc, shared, told, taken.as_slice(), gate);
+    taken.clear();
+    (back, handled.map(|_| ()))
+}
+
 /// Handles upcalls until none is left and all receive workers have ended, or memory is wanting.
 pub fn handle<C: Case, T: RunTables<C>, P: Phase, R: Wait, G: Gate>(
     rt: &R,
@@ -158,31 +223,22 @@ pub fn handle<C: Case, T: RunTables<C>, P: Phase, R: Wait, G: Gate>(
     let mut taken = Vec::new(alloc);
     let mut idle = 0u32;
     'turns: for _ in rt.forever() {
-        // This is asked first: what is put before the last receive worker ends is found after it.
-        let ended = shared.all_received();
-        let seen = shared.given.notifications();
-        done = take_share(rt, shared, &mut pass, idle > 0, &mut taken);
-        if done.is_err() {
-            break;
-        }
-        if taken.is_empty() {
-            if ended {
+        match take_turn(rt, shared, &mut pass, &mut idle, &mut taken) {
+            Ok(true) => {}
+            Ok(false) => break,
+            Err(error) => {
+                done = Err(error);
                 break;
             }
-            shared.wait_for_upcalls(rt, idle, seen);
-            idle = idle.saturating_add(1);
-            continue;
         }
-        idle = 0;
-        let told = shared.told(rt, mailbox, seer);
-        let (back, handled) = handle_taken(rt, alloc, shared, told, taken.as_slice(), gate);
+        let (back, handled) = handle_told(rt, alloc, shared, mailbox, seer, &mut taken, gate);
         seer = back;
-        taken.clear();
-        done = handled.map(|_| ());
-        if done.is_err() {
+        if handled.is_err() {
+            done = handled;
             break;
         }
     }
+    drop(taken);
     let handler = Handler {
         mailbox,
         seer,
