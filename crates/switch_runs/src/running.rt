@@ -152,8 +152,14 @@ pub fn run_over<R: Threads + Wait + Sync>(
     requires { ⟦<MemoryShelf as Shelf>⟧.in_use shelf ≡ Nothing }
 {
     let mut say = MemorySink::new(alloc, failing_prints);
-    let status = status_of(rt, alloc, words, &mut shelf, &mut say)?;
-    Ok(Ended { status, shelf, say })
+    match status_of(rt, alloc, words, &mut shelf, &mut say) {
+        Ok(status) => Ok(Ended { status, shelf, say }),
+        Err(error) => {
+            drop(shelf);
+            drop(say);
+            Err(error)
+        }
+    }
 }
 
 impl Ended {
@@ -161,6 +167,25 @@ impl Ended {
     pub fn tells(&self, alloc: Global, status: u8, lines: &str) -> Result<bool, AllocError> {
         let text = text_of(alloc, lines)?;
         Ok(self.status == status && self.say.text() == text.as_slice())
+    }
+
+    // Whether it is done, prints the summary of a run, leaves these files, and opened all that the run names, each once.
+    fn is_as_shown(
+        &self,
+        alloc: Global,
+        run: &Run<'_>,
+        given: Option<&'static str>,
+        files: &[File],
+    ) -> Result<bool, AllocError> {
+        let told = self.tells(alloc, DONE, run.summary)?;
+        Ok(told && self.leaves(files) && has_opened_its_files(alloc, self, given, run)?)
+    }
+
+    // Whether it is done, begins with these files, and opened all that the run names, each once.
+    fn has_sent(&self, alloc: Global, run: &Run<'_>, sent: &[File]) -> Result<bool, AllocError> {
+        Ok(self.status == DONE
+            && begin_with(self.shelf.made(), sent)
+            && has_opened_its_files(alloc, self, None, run)?)
     }
 
     /// Whether it left these files, and none in use.
@@ -245,11 +270,12 @@ pub fn ends_as_shown<R: Threads + Wait + Sync>(
         steps: steps.unwrap_or(""),
         ..Inputs::of(run)
     };
-    let ended = run_on(rt, alloc, run.words, &inputs, 0)?;
-    let told = ended.tells(alloc, DONE, run.summary)?;
-    let files = files_of(alloc, run)?;
     let given = if steps.is_some() { Some("steps") } else { None };
-    Ok(told && ended.leaves(&files) && has_opened_its_files(alloc, &ended, given, run)?)
+    let files = files_of(alloc, run)?;
+    let ended = run_on(rt, alloc, run.words, &inputs, 0)?;
+    let shown = ended.is_as_shown(alloc, run, given, &files);
+    drop(ended);
+    shown
 }
 
 /// The same of a run with what is written beside.
@@ -259,15 +285,16 @@ pub fn ends_with_outlets<R: Threads + Wait + Sync>(
     outlets: &Outlets,
 ) -> Result<bool, AllocError> {
     let run = &outlets.run;
-    let ended = run_on(rt, alloc, run.words, &Inputs::beside(outlets), 0)?;
-    let told = ended.tells(alloc, DONE, run.summary)?;
-    let files = files_with_outlets(alloc, outlets)?;
     let given = if outlets.mirrors.is_some() {
         Some("mirrors")
     } else {
         None
     };
-    Ok(told && ended.leaves(&files) && has_opened_its_files(alloc, &ended, given, run)?)
+    let files = files_with_outlets(alloc, outlets)?;
+    let ended = run_on(rt, alloc, run.words, &Inputs::beside(outlets), 0)?;
+    let shown = ended.is_as_shown(alloc, run, given, &files);
+    drop(ended);
+    shown
 }
 
 /// Whether a run with so many workers is done and leaves its files of ports and of rules, whatever steps the workers
@@ -280,11 +307,9 @@ pub fn sends_by_workers<R: Threads + Wait + Sync>(
 ) -> Result<bool, AllocError> {
     let mut words = vec![in alloc; "--workers", workers]?;
     words.extend_from_slice(run.words)?;
-    let ended = run_on(rt, alloc, &words, &Inputs::of(run), 0)?;
     let sent = sent_of(alloc, run)?;
-    Ok(
-        ended.status == DONE
-            && begin_with(ended.shelf.made(), &sent)
-            && has_opened_its_files(alloc, &ended, None, run)?,
-    )
+    let ended = run_on(rt, alloc, &words, &Inputs::of(run), 0)?;
+    let has_sent = ended.has_sent(alloc, run, &sent);
+    drop(ended);
+    has_sent
 }
