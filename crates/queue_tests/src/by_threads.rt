@@ -25,23 +25,37 @@ fn by_threads<C: Case + Send + Sync, R: Threads + Wait + Abort + Sync>(
     alloc: Global,
 ) -> Result<(), Fail> {
     let (queue, passes) = UpcallQueue::<C>::new(alloc, 1_000, GIVERS)?;
-    let mut passes = given(rt, &queue, passes)?;
+    let done = given_and_taken(rt, &queue, passes);
+    drop(queue);
+    Ok(done?)
+}
+
+// What threads give by these passes is taken once.
+fn given_and_taken<C: Case + Send + Sync, R: Threads + Wait + Abort + Sync>(
+    rt: &R,
+    queue: &UpcallQueue<C>,
+    passes: Vec<Pass<C>>,
+) -> Result<(), AllocError>
+    requires { All (λ p. p.queue ≡ queue.now.name) passes.items }
+{
+    let mut passes = given(rt, queue, passes)?;
     assert_eq!(rt; passes.len(), GIVERS);
     let other = passes.remove(1);
     let mut whole = passes.remove(0);
+    drop(passes);
     queue.take_in(&mut whole, other);
-    takes_all(rt, &queue, whole);
+    takes_all(rt, queue, &mut whole);
+    drop(whole);
     Ok(())
 }
 
-fn takes_all<C: Case, R: Wait + Abort>(rt: &R, queue: &UpcallQueue<C>, whole: Pass<C>)
-    requires { whole.queue ≡ queue.now.name }
+fn takes_all<C: Case, R: Wait + Abort>(rt: &R, queue: &UpcallQueue<C>, whole: &mut Pass<C>)
+    requires { whole.old.queue ≡ queue.now.name }
 {
-    let mut whole = whole;
     'upcalls: for _ in 0..GIVERS as u32 * EACH {
-        assert!(rt; queue.pop(rt, &mut whole).is_some());
+        assert!(rt; queue.pop(rt, whole).is_some());
     }
-    assert!(rt; queue.pop(rt, &mut whole) == None);
+    assert!(rt; queue.pop(rt, whole) == None);
 }
 
 // Each thread gives by a feeder of its pass, and the passes come back.
