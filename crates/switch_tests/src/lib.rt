@@ -8,7 +8,7 @@
 //! (`caching`), how frames are rewritten (`rewrites`), tagged (`tags`) and dropped (`limits`), which fields a megaflow is
 //! about (`matches`), given steps (`given`, `schedules`), flows and mirrors (`outlets`), and what is the same with workers
 //! (`workers`). Each has all its files and its summary. Their texts come from the formats' own page and from the switch's simulation, which shares nothing with the
-//! program. A test proves in a time that grows with its table, so no table is long.
+//! program. What lends a table (`tables`) proves in a time that grows with it, so no table is long.
 //!
 //! Nothing is built on this crate.
 #![tactic(auto)]
@@ -31,6 +31,8 @@ mod rules;
 mod schedules;
 #[cfg(test)]
 mod sending;
+#[cfg(test)]
+mod tables;
 #[cfg(test)]
 mod tags;
 #[cfg(test)]

@@ -1,14 +1,7 @@
-use crate::caching::CACHING;
-use crate::given::GIVEN;
-use crate::limits::LIMITS;
-use crate::matches::MATCHES;
-use crate::outlets::OUTLETS;
-use crate::rewrites::REWRITES;
-use crate::rules::RULES;
-use crate::schedules::SCHEDULES;
-use crate::sending::{IN_NANOSECONDS, SENDING};
-use crate::tags::TAGS;
-use crate::workers::BY_WORKERS;
+use crate::tables::{
+    caching_runs, given_runs, limit_runs, match_runs, nanosecond_runs, outlet_runs, rewrite_runs,
+    rule_runs, schedule_runs, sending_runs, tag_runs, worker_runs,
+};
 use edge_io::memory::MemoryShelf;
 use std::alloc::{AllocError, Global};
 use std::sync::Wait;
@@ -51,49 +44,52 @@ fn first_that_differs<R: Threads + Wait + Sync>(
 
 #[test]
 fn frames_leave_as_rules_send_them(rt: HostRuntime) -> Result<(), Fail> {
-    assert_eq!(rt; first_that_differs(&rt, rt.alloc(), &SENDING)?, None);
+    assert_eq!(rt; first_that_differs(&rt, rt.alloc(), sending_runs())?, None);
     Ok(())
 }
 
 #[test]
 fn times_are_written_in_the_finest_unit(rt: HostRuntime) -> Result<(), Fail> {
-    assert_eq!(rt; first_that_differs(&rt, rt.alloc(), &IN_NANOSECONDS)?, None);
+    assert_eq!(rt;
+        first_that_differs(&rt, rt.alloc(), nanosecond_runs())?,
+        None
+    );
     Ok(())
 }
 
 #[test]
 fn rules_are_told_with_their_counts(rt: HostRuntime) -> Result<(), Fail> {
-    assert_eq!(rt; first_that_differs(&rt, rt.alloc(), &RULES)?, None);
+    assert_eq!(rt; first_that_differs(&rt, rt.alloc(), rule_runs())?, None);
     Ok(())
 }
 
 #[test]
 fn caches_decide_as_the_tables_do(rt: HostRuntime) -> Result<(), Fail> {
-    assert_eq!(rt; first_that_differs(&rt, rt.alloc(), &CACHING)?, None);
+    assert_eq!(rt; first_that_differs(&rt, rt.alloc(), caching_runs())?, None);
     Ok(())
 }
 
 #[test]
 fn each_frame_is_sent_as_its_actions_rewrite_it(rt: HostRuntime) -> Result<(), Fail> {
-    assert_eq!(rt; first_that_differs(&rt, rt.alloc(), &REWRITES)?, None);
+    assert_eq!(rt; first_that_differs(&rt, rt.alloc(), rewrite_runs())?, None);
     Ok(())
 }
 
 #[test]
 fn tags_are_pushed_and_popped(rt: HostRuntime) -> Result<(), Fail> {
-    assert_eq!(rt; first_that_differs(&rt, rt.alloc(), &TAGS)?, None);
+    assert_eq!(rt; first_that_differs(&rt, rt.alloc(), tag_runs())?, None);
     Ok(())
 }
 
 #[test]
 fn frames_past_a_limit_are_dropped(rt: HostRuntime) -> Result<(), Fail> {
-    assert_eq!(rt; first_that_differs(&rt, rt.alloc(), &LIMITS)?, None);
+    assert_eq!(rt; first_that_differs(&rt, rt.alloc(), limit_runs())?, None);
     Ok(())
 }
 
 #[test]
 fn megaflows_match_what_was_looked_at(rt: HostRuntime) -> Result<(), Fail> {
-    assert_eq!(rt; first_that_differs(&rt, rt.alloc(), &MATCHES)?, None);
+    assert_eq!(rt; first_that_differs(&rt, rt.alloc(), match_runs())?, None);
     Ok(())
 }
 
@@ -113,14 +109,17 @@ fn first_given_that_differs<R: Threads + Wait + Sync>(
 
 #[test]
 fn given_steps_are_taken_first(rt: HostRuntime) -> Result<(), Fail> {
-    assert_eq!(rt; first_given_that_differs(&rt, rt.alloc(), &GIVEN)?, None);
+    assert_eq!(rt;
+        first_given_that_differs(&rt, rt.alloc(), given_runs())?,
+        None
+    );
     Ok(())
 }
 
 #[test]
 fn steps_of_an_unlucky_schedule_leave_what_they_should(rt: HostRuntime) -> Result<(), Fail> {
     assert_eq!(rt;
-        first_given_that_differs(&rt, rt.alloc(), &SCHEDULES)?,
+        first_given_that_differs(&rt, rt.alloc(), schedule_runs())?,
         None
     );
     Ok(())
@@ -164,11 +163,13 @@ fn is_told_apart_by_each_bit<R: Threads + Wait + Sync>(
         edits: edits.as_str(),
         ..FORWARDED
     };
-    let ended = run_with_failing(rt, alloc, &run, 0)?;
     let wanted = text_of(alloc, EACH_BIT_CONSULTED)?;
+    let ended = run_with_failing(rt, alloc, &run, 0)?;
     let found = ended.shelf.made().iter().any(|file| file.0.as_str() == "out.megaflows"
         && file.1 == wanted);
-    Ok(ended.status == DONE && found)
+    let is_done = ended.status == DONE;
+    drop(ended);
+    Ok(is_done && found)
 }
 
 #[test]
@@ -180,7 +181,7 @@ fn a_megaflow_has_each_bit_by_which_rules_were_told_apart(rt: HostRuntime) -> Re
 #[test]
 fn flows_and_copies_are_written_where_they_are_asked_for(rt: HostRuntime) -> Result<(), Fail> {
     let alloc = rt.alloc();
-    for outlets in &OUTLETS {
+    for outlets in outlet_runs() {
         assert!(rt;
             ends_with_outlets(&rt, alloc, outlets)?,
             "{}",
@@ -193,8 +194,8 @@ fn flows_and_copies_are_written_where_they_are_asked_for(rt: HostRuntime) -> Res
 #[test]
 fn four_workers_send_what_one_thread_does(rt: HostRuntime) -> Result<(), Fail> {
     let alloc = rt.alloc();
-    assert_eq!(rt; first_that_differs(&rt, alloc, &BY_WORKERS)?, None);
-    for run in &BY_WORKERS {
+    assert_eq!(rt; first_that_differs(&rt, alloc, worker_runs())?, None);
+    for run in worker_runs() {
         assert!(rt; sends_by_workers(&rt, alloc, run, "4")?, "{}", run.shows);
     }
     Ok(())
@@ -207,7 +208,10 @@ fn sums_up_what_is_made<R: Threads + Wait + Sync>(
 ) -> Result<bool, AllocError> {
     let shelf = MemoryShelf::new(alloc, Vec::new(alloc), Vec::new(alloc));
     let ended = run_over(rt, alloc, &["--generate", "7"], shelf, Vec::new(alloc))?;
-    Ok(ended.shelf.calls() == 0 && ended.tells(alloc, DONE, MADE)?)
+    let untouched = ended.shelf.calls() == 0;
+    let told = ended.tells(alloc, DONE, MADE);
+    drop(ended);
+    Ok(untouched && told?)
 }
 
 #[test]
@@ -228,12 +232,12 @@ fn sends_what_is_made<R: Threads + Wait + Sync>(
     let words = ["--generate", "7", "--workers", workers];
     let shelf = MemoryShelf::new(alloc, Vec::new(alloc), Vec::new(alloc));
     let ended = run_over(rt, alloc, &words, shelf, Vec::new(alloc))?;
-    Ok(
-        ended.status == DONE
-            && ended.shelf.calls() == 0
-            && has_line(ended.say.text(), 0, MADE_BEGIN)
-            && has_line(ended.say.text(), 3, MADE_SENT),
-    )
+    let sent = ended.status == DONE
+        && ended.shelf.calls() == 0
+        && has_line(ended.say.text(), 0, MADE_BEGIN)
+        && has_line(ended.say.text(), 3, MADE_SENT);
+    drop(ended);
+    Ok(sent)
 }
 
 // Whether the line of a text at this place, from 0, begins so.
