@@ -1,5 +1,6 @@
 //! A gate that keeps in mind which workers began.
 
+use crate::gates::Observer;
 use crate::holding::Numbers;
 use edge_io::{Gate, Point, Worker};
 use std::sync::atomic::{AtomicU64, Ordering};
@@ -32,9 +33,10 @@ impl Numbered {
     }
 }
 
-/// The workers that began in a run.
+/// The workers that began in a run with so many.
 #[derive(Drop)]
 pub struct Begun {
+    workers: u32,
     receivers: Numbered,
     handlers: Numbered,
     editors: AtomicU64,
@@ -42,22 +44,14 @@ pub struct Begun {
 }
 
 impl Begun {
-    pub fn new() -> Begun {
+    pub fn new(workers: u32) -> Begun {
         Begun {
+            workers,
             receivers: Numbered::new(),
             handlers: Numbered::new(),
             editors: AtomicU64::new(0),
             revalidators: AtomicU64::new(0),
         }
-    }
-
-    /// Whether so many receive workers and handlers began, each with a number of its own from 0, one editor, and one
-    /// revalidator.
-    pub fn is_team_of(&self, workers: u32) -> bool {
-        self.receivers.are_first(workers)
-            && self.handlers.are_first(workers)
-            && self.editors.load(Ordering::SeqCst) == 1
-            && self.revalidators.load(Ordering::SeqCst) == 1
     }
 }
 
@@ -75,5 +69,16 @@ impl Gate for Begun {
                 }
             }
         }
+    }
+}
+
+impl Observer for Begun {
+    /// So many receive workers and handlers began, each with a number of its own from 0, one editor, and one
+    /// revalidator.
+    fn is_passed(&self) -> bool {
+        self.receivers.are_first(self.workers)
+            && self.handlers.are_first(self.workers)
+            && self.editors.load(Ordering::SeqCst) == 1
+            && self.revalidators.load(Ordering::SeqCst) == 1
     }
 }

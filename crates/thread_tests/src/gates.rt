@@ -7,6 +7,11 @@ use std::thread;
 // How many turns a thread is held at most.
 const MOST_TURNS: u32 = 1_000_000;
 
+/// A gate that tells, after a run, whether it was passed as it should be.
+pub trait Observer: Gate {
+    fn is_passed(&self) -> bool;
+}
+
 /// Something that threads wait for: whether it came, and whether one thread waited for it already.
 #[derive(Drop)]
 pub struct Awaited {
@@ -57,7 +62,7 @@ impl Awaited {
 #[derive(Drop)]
 pub struct TwoUpcalls {
     first_port: AtomicU64,
-    pub second: Awaited,
+    second: Awaited,
 }
 
 // No port.
@@ -86,6 +91,12 @@ impl Gate for TwoUpcalls {
     }
 }
 
+impl Observer for TwoUpcalls {
+    fn is_passed(&self) -> bool {
+        self.second.was_seen()
+    }
+}
+
 /// Holds batches of port 1 in a block after one without frames: the second one until an upcall is translated, and the
 /// third one until an upcall is that is none of the first batch's. It holds the first upcall until the third batch
 /// begins. So the second batch is looked up while the upcall is under way, and the third one after upcalls were
@@ -93,9 +104,9 @@ impl Gate for TwoUpcalls {
 #[derive(Drop)]
 pub struct ThirdBatch {
     batches: AtomicU64,
-    pub upcall: Awaited,
-    pub third: Awaited,
-    pub later: Awaited,
+    upcall: Awaited,
+    third: Awaited,
+    later: Awaited,
 }
 
 // The most upcalls that a handler settles together.
@@ -139,26 +150,31 @@ impl Gate for ThirdBatch {
     }
 }
 
-/// How often the first entry of each of two ports was checked.
+impl Observer for ThirdBatch {
+    fn is_passed(&self) -> bool {
+        self.upcall.was_seen() && self.third.was_seen() && self.later.was_seen()
+    }
+}
+
+/// How often the first entry of each of two ports was checked: at least once, and so often at most.
 #[derive(Drop)]
 pub struct FirstChecks {
+    most: u64,
     of_port_1: AtomicU64,
     of_port_2: AtomicU64,
 }
 
 impl FirstChecks {
-    pub fn new() -> FirstChecks {
+    pub fn new(most: u64) -> FirstChecks {
         FirstChecks {
+            most,
             of_port_1: AtomicU64::new(0),
             of_port_2: AtomicU64::new(0),
         }
     }
 
-    pub fn told(&self) -> [u64; 2] {
-        [
-            self.of_port_1.load(Ordering::SeqCst),
-            self.of_port_2.load(Ordering::SeqCst),
-        ]
+    fn are_enough(&self, checks: u64) -> bool {
+        checks > 0 && checks <= self.most
     }
 }
 
@@ -173,5 +189,12 @@ impl Gate for FirstChecks {
             }
             _ => {}
         }
+    }
+}
+
+impl Observer for FirstChecks {
+    fn is_passed(&self) -> bool {
+        self.are_enough(self.of_port_1.load(Ordering::SeqCst))
+            && self.are_enough(self.of_port_2.load(Ordering::SeqCst))
     }
 }

@@ -1,6 +1,6 @@
 //! Gates that hold several threads at once, and that count which upcalls were translated.
 
-use crate::gates::Awaited;
+use crate::gates::{Awaited, Observer};
 use edge_io::{Gate, Point};
 use std::sync::atomic::{AtomicBool, AtomicU64, Ordering};
 use std::thread;
@@ -49,8 +49,9 @@ impl AtOnce {
         self.held.fetch_sub(1, Ordering::SeqCst);
     }
 
-    fn most(&self) -> u64 {
-        self.most.load(Ordering::SeqCst)
+    // Whether so many were held at once, and no more.
+    fn has_most(&self) -> bool {
+        self.most.load(Ordering::SeqCst) == self.wanted
     }
 }
 
@@ -62,10 +63,6 @@ impl Receivers {
     pub fn new(wanted: u64) -> Receivers {
         Receivers(AtOnce::new(wanted))
     }
-
-    pub fn most(&self) -> u64 {
-        self.0.most()
-    }
 }
 
 impl Gate for Receivers {
@@ -73,6 +70,12 @@ impl Gate for Receivers {
         if let Point::Batch { .. } = point {
             self.0.hold();
         }
+    }
+}
+
+impl Observer for Receivers {
+    fn is_passed(&self) -> bool {
+        self.0.has_most()
     }
 }
 
@@ -84,10 +87,6 @@ impl Handlers {
     pub fn new(wanted: u64) -> Handlers {
         Handlers(AtOnce::new(wanted))
     }
-
-    pub fn most(&self) -> u64 {
-        self.0.most()
-    }
 }
 
 impl Gate for Handlers {
@@ -98,6 +97,12 @@ impl Gate for Handlers {
     }
 }
 
+impl Observer for Handlers {
+    fn is_passed(&self) -> bool {
+        self.0.has_most()
+    }
+}
+
 /// Holds the first batch of a port until the last port of the other receive worker is polled, and keeps in mind
 /// whether another port of its own worker was polled by then.
 #[derive(Drop)]
@@ -105,7 +110,7 @@ pub struct HeldPort {
     port: u16,
     of_other: u16,
     of_same: u16,
-    pub other: Awaited,
+    other: Awaited,
     came_first: AtomicBool,
 }
 
@@ -118,11 +123,6 @@ impl HeldPort {
             other: Awaited::new(),
             came_first: AtomicBool::new(false),
         }
-    }
-
-    /// Whether the port of the same worker was polled while the first one was held.
-    pub fn came_first(&self) -> bool {
-        self.came_first.load(Ordering::SeqCst)
     }
 }
 
@@ -138,6 +138,12 @@ impl Gate for HeldPort {
         } else if port == self.of_same && !self.other.has_come() {
             self.came_first.store(true, Ordering::SeqCst);
         }
+    }
+}
+
+impl Observer for HeldPort {
+    fn is_passed(&self) -> bool {
+        self.other.was_seen() && !self.came_first.load(Ordering::SeqCst)
     }
 }
 
@@ -170,23 +176,21 @@ impl Numbers {
 }
 
 /// Holds the batch of port 2 until the upcall of port 1 is translated, and for some turns more, in which the handler
-/// finds the queue empty. It counts the upcalls of port 2.
+/// finds the queue empty. It counts the upcalls of port 2, of which so many are wanted.
 #[derive(Drop)]
 pub struct LateBatch {
     first: Awaited,
+    wanted: u32,
     late: Numbers,
 }
 
 impl LateBatch {
-    pub fn new() -> LateBatch {
+    pub fn new(wanted: u32) -> LateBatch {
         LateBatch {
             first: Awaited::new(),
+            wanted,
             late: Numbers::new(),
         }
-    }
-
-    pub fn late(&self) -> u32 {
-        self.late.count()
     }
 }
 
@@ -206,24 +210,28 @@ impl Gate for LateBatch {
     }
 }
 
+impl Observer for LateBatch {
+    fn is_passed(&self) -> bool {
+        self.late.count() == self.wanted
+    }
+}
+
 /// Holds the first upcall until the batch of port 2 has begun, and for some turns more, in which the receive worker
-/// ends. It counts the upcalls of port 2.
+/// ends. It counts the upcalls of port 2, of which so many are wanted.
 #[derive(Drop)]
 pub struct LateUpcalls {
     last_batch: Awaited,
+    wanted: u32,
     late: Numbers,
 }
 
 impl LateUpcalls {
-    pub fn new() -> LateUpcalls {
+    pub fn new(wanted: u32) -> LateUpcalls {
         LateUpcalls {
             last_batch: Awaited::new(),
+            wanted,
             late: Numbers::new(),
         }
-    }
-
-    pub fn late(&self) -> u32 {
-        self.late.count()
     }
 }
 
@@ -243,6 +251,12 @@ impl Gate for LateUpcalls {
     }
 }
 
+impl Observer for LateUpcalls {
+    fn is_passed(&self) -> bool {
+        self.late.count() == self.wanted
+    }
+}
+
 /// Holds what comes to a point of the second block until the first entry of port 1 is checked, and so until all edits
 /// of the block are published.
 #[derive(Drop)]
@@ -250,7 +264,7 @@ pub struct SecondBlock {
     held: Held,
     batches: AtomicU64,
     holds: AtomicBool,
-    pub check: Awaited,
+    check: Awaited,
 }
 
 /// What is held in the second block.
@@ -302,5 +316,11 @@ impl Gate for SecondBlock {
             Point::Check { port: 1, entry: 1 } => self.pass_check(),
             _ => {}
         }
+    }
+}
+
+impl Observer for SecondBlock {
+    fn is_passed(&self) -> bool {
+        self.check.was_seen()
     }
 }

@@ -1,10 +1,10 @@
 use crate::counting::Begun;
 use crate::gates::{FirstChecks, ThirdBatch, TwoUpcalls};
 use crate::holding::{Handlers, Held, HeldPort, LateBatch, LateUpcalls, Receivers, SecondBlock};
-use crate::running::{DONE, Run, Trace, run_through};
+use crate::running::{Run, Trace, passes};
 use std::test::Fail;
 
-const TWO_PORTS: Run = Run {
+static TWO_PORTS: Run = Run {
     words: &["--workers", "2", "edits", "out", "1=a.pcap", "2=a.pcap"],
     edits: "actions=flood|sync 0",
     traces: &[Trace {
@@ -17,14 +17,12 @@ const TWO_PORTS: Run = Run {
 #[test]
 fn upcalls_are_handled_side_by_side(rt: HostRuntime) -> Result<(), Fail> {
     let gate = TwoUpcalls::new();
-    let ended = run_through(&rt, rt.alloc(), &TWO_PORTS, &gate)?;
-    assert_eq!(rt; ended.status, DONE);
-    assert!(rt; gate.second.was_seen());
+    assert!(rt; passes(&rt, rt.alloc(), &TWO_PORTS, gate, &[])?);
     Ok(())
 }
 
 // All frames come in the second block, so that port 1 has three batches there, under one version.
-const ONE_FLOW: Run = Run {
+static ONE_FLOW: Run = Run {
     words: &["--workers", "1", "edits", "out", "1=a.pcap", "2="],
     edits: "actions=2|sync 0",
     traces: &[Trace {
@@ -37,17 +35,12 @@ const ONE_FLOW: Run = Run {
 #[test]
 fn frames_are_looked_up_while_an_upcall_is_translated(rt: HostRuntime) -> Result<(), Fail> {
     let gate = ThirdBatch::new();
-    let ended = run_through(&rt, rt.alloc(), &ONE_FLOW, &gate)?;
-    assert_eq!(rt; ended.status, DONE);
-    assert!(rt; gate.upcall.was_seen());
-    assert!(rt; gate.third.was_seen());
-    assert!(rt; gate.later.was_seen());
-    assert!(rt; ended.tells("look 64 miss"));
-    assert!(rt; ended.tells("look 65 mega 1"));
+    let lines = ["look 64 miss", "look 65 mega 1"];
+    assert!(rt; passes(&rt, rt.alloc(), &ONE_FLOW, gate, &lines)?);
     Ok(())
 }
 
-const CHANGED: Run = Run {
+static CHANGED: Run = Run {
     words: &[
         "--workers",
         "1",
@@ -70,26 +63,20 @@ const MOST_CHECKS: u64 = 4;
 
 #[test]
 fn the_revalidator_sweeps_each_port(rt: HostRuntime) -> Result<(), Fail> {
-    let gate = FirstChecks::new();
-    let ended = run_through(&rt, rt.alloc(), &CHANGED, &gate)?;
-    assert_eq!(rt; ended.status, DONE);
-    for checks in gate.told() {
-        assert!(rt; checks > 0 && checks <= MOST_CHECKS);
-    }
+    let gate = FirstChecks::new(MOST_CHECKS);
+    assert!(rt; passes(&rt, rt.alloc(), &CHANGED, gate, &[])?);
     Ok(())
 }
 
 #[test]
 fn edits_are_published_while_frames_are_looked_up(rt: HostRuntime) -> Result<(), Fail> {
     let gate = SecondBlock::new(Held::Batch);
-    let ended = run_through(&rt, rt.alloc(), &CHANGED, &gate)?;
-    assert_eq!(rt; ended.status, DONE);
-    assert!(rt; gate.check.was_seen());
+    assert!(rt; passes(&rt, rt.alloc(), &CHANGED, gate, &[])?);
     Ok(())
 }
 
 // The frame of port 2 comes in the second block, which has three bundles.
-const THREE_BUNDLES: Run = Run {
+static THREE_BUNDLES: Run = Run {
     words: &[
         "--workers",
         "1",
@@ -117,9 +104,7 @@ const THREE_BUNDLES: Run = Run {
 #[test]
 fn bundles_are_published_while_a_handler_learns_of_none(rt: HostRuntime) -> Result<(), Fail> {
     let gate = SecondBlock::new(Held::Upcall);
-    let ended = run_through(&rt, rt.alloc(), &THREE_BUNDLES, &gate)?;
-    assert_eq!(rt; ended.status, DONE);
-    assert!(rt; gate.check.was_seen());
+    assert!(rt; passes(&rt, rt.alloc(), &THREE_BUNDLES, gate, &[])?);
     Ok(())
 }
 
@@ -129,7 +114,7 @@ const NEW_FLOWS: [Trace; 1] = [Trace {
     times: 16,
 }];
 
-// Runs with so many workers, each over more ports than workers.
+// Runs with 1, 2 and 4 workers, each over more ports than workers.
 const OF_1: Run = Run {
     words: &["--workers", "1", "edits", "out", "1=a.pcap", "2=a.pcap"],
     edits: "actions=flood",
@@ -168,35 +153,32 @@ const OF_4: Run = Run {
     traces: &NEW_FLOWS,
 };
 
+// Those runs, and with how many workers each is.
+static TEAMS: [(Run, u32); 3] = [(OF_1, 1), (OF_2, 2), (OF_4, 4)];
+
 #[test]
 fn each_worker_begins_once(rt: HostRuntime) -> Result<(), Fail> {
-    for (run, workers) in [(OF_1, 1), (OF_2, 2), (OF_4, 4)] {
-        let gate = Begun::new();
-        let ended = run_through(&rt, rt.alloc(), &run, &gate)?;
-        assert_eq!(rt; ended.status, DONE);
-        assert!(rt; gate.is_team_of(workers));
+    for (run, workers) in &TEAMS {
+        let gate = Begun::new(*workers);
+        assert!(rt; passes(&rt, rt.alloc(), run, gate, &[])?, "{}", *workers);
     }
     Ok(())
 }
 
 #[test]
 fn there_are_as_many_receive_workers_as_asked_for(rt: HostRuntime) -> Result<(), Fail> {
-    for (run, workers) in [(OF_1, 1), (OF_2, 2), (OF_4, 4)] {
-        let gate = Receivers::new(workers);
-        let ended = run_through(&rt, rt.alloc(), &run, &gate)?;
-        assert_eq!(rt; ended.status, DONE);
-        assert_eq!(rt; gate.most(), workers);
+    for (run, workers) in &TEAMS {
+        let gate = Receivers::new(u64::from(*workers));
+        assert!(rt; passes(&rt, rt.alloc(), run, gate, &[])?, "{}", *workers);
     }
     Ok(())
 }
 
 #[test]
 fn there_are_as_many_handlers_as_asked_for(rt: HostRuntime) -> Result<(), Fail> {
-    for (run, workers) in [(OF_1, 1), (OF_2, 2), (OF_4, 4)] {
-        let gate = Handlers::new(workers);
-        let ended = run_through(&rt, rt.alloc(), &run, &gate)?;
-        assert_eq!(rt; ended.status, DONE);
-        assert_eq!(rt; gate.most(), workers);
+    for (run, workers) in &TEAMS {
+        let gate = Handlers::new(u64::from(*workers));
+        assert!(rt; passes(&rt, rt.alloc(), run, gate, &[])?, "{}", *workers);
     }
     Ok(())
 }
@@ -206,10 +188,7 @@ fn there_are_as_many_handlers_as_asked_for(rt: HostRuntime) -> Result<(), Fail> 
 fn a_receive_worker_polls_every_second_port_of_two(rt: HostRuntime) -> Result<(), Fail> {
     for (port, of_other, of_same) in [(1, 4, 3), (2, 3, 4)] {
         let gate = HeldPort::new(port, of_other, of_same);
-        let ended = run_through(&rt, rt.alloc(), &OF_2, &gate)?;
-        assert_eq!(rt; ended.status, DONE);
-        assert!(rt; gate.other.was_seen());
-        assert!(rt; !gate.came_first());
+        assert!(rt; passes(&rt, rt.alloc(), &OF_2, gate, &[])?, "{port}");
     }
     Ok(())
 }
@@ -219,10 +198,8 @@ const FRAMES: u32 = 16;
 
 #[test]
 fn an_upcall_is_handled_that_comes_long_after_the_others(rt: HostRuntime) -> Result<(), Fail> {
-    let gate = LateBatch::new();
-    let ended = run_through(&rt, rt.alloc(), &OF_1, &gate)?;
-    assert_eq!(rt; ended.status, DONE);
-    assert_eq!(rt; gate.late(), FRAMES);
+    let gate = LateBatch::new(FRAMES);
+    assert!(rt; passes(&rt, rt.alloc(), &OF_1, gate, &[])?);
     Ok(())
 }
 
@@ -230,9 +207,7 @@ fn an_upcall_is_handled_that_comes_long_after_the_others(rt: HostRuntime) -> Res
 fn upcalls_are_handled_that_wait_when_all_frames_are_looked_up(
     rt: HostRuntime,
 ) -> Result<(), Fail> {
-    let gate = LateUpcalls::new();
-    let ended = run_through(&rt, rt.alloc(), &OF_1, &gate)?;
-    assert_eq!(rt; ended.status, DONE);
-    assert_eq!(rt; gate.late(), FRAMES);
+    let gate = LateUpcalls::new(FRAMES);
+    assert!(rt; passes(&rt, rt.alloc(), &OF_1, gate, &[])?);
     Ok(())
 }
