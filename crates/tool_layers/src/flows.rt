@@ -31,7 +31,9 @@ fn print_line(alloc: Global, line: &[u8], text: &mut String) -> Result<()> {
         return Ok(());
     }
     let edit = read_edit(alloc, line).map_err(|_| anyhow!("a line is no edit"))?;
-    Ok(print_edit(&edit, text)?)
+    let printed = print_edit(&edit, text);
+    drop(edit);
+    Ok(printed?)
 }
 
 /// Adds the lines of the edits of lines.

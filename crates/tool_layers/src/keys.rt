@@ -47,6 +47,18 @@ fn frames_of(alloc: Global, trace: &Trace) -> Result<Vec<&[u8]>>
     Ok(frames)
 }
 
+/// The number that the keys of a trace go into, and how many frames and rounds there are.
+fn text_of(alloc: Global, trace: &Trace, count: u32) -> Result<String>
+    requires { length trace.now.frames ≤ 2 ^ 24 }
+{
+    let frames = frames_of(alloc, trace)?;
+    let number = rounds(count, &frames);
+    let frames = frames.len();
+    let mut text = String::new(alloc);
+    writeln!(text, "{number:032x} frames={frames} rounds={count}")?;
+    Ok(text)
+}
+
 /// The number that all keys go into, and how many frames and rounds there are.
 pub fn answer(rt: &HostRuntime, words: &[String]) -> Result<String> {
     let [name, count] = words else {
@@ -54,10 +66,7 @@ pub fn answer(rt: &HostRuntime, words: &[String]) -> Result<String> {
     };
     let count = number_of("rounds", count)?;
     let trace = read_capture(rt, name)?;
-    let frames = frames_of(rt.alloc(), &trace)?;
-    let number = rounds(count, &frames);
-    let frames = frames.len();
-    let mut text = String::new(rt.alloc());
-    writeln!(text, "{number:032x} frames={frames} rounds={count}")?;
-    Ok(text)
+    let text = text_of(rt.alloc(), &trace, count);
+    drop(trace);
+    text
 }

@@ -27,19 +27,29 @@ fn inputs_of<'a>(rt: &HostRuntime, words: &'a [String]) -> Result<Inputs<'a>>
     }
 }
 
+/// The most megaflows of a port.
+fn flow_limit_of(inputs: &Inputs<'_>) -> Result<u32> {
+    match &inputs.command.input {
+        Input::Files(files) => number_of("megaflows", files.out),
+        Input::Made { .. } => Ok(inputs.command.flow_limit),
+    }
+}
+
 /// Reads the words of the command line and the files that they name, as the switch does.
 pub fn read_command<'a>(rt: &HostRuntime, words: &'a [String]) -> Result<Command<'a>>
     ensures { IfOk result (λ command. IsWithinLimits command.inputs) }
 {
     let (words, rounds) = split_rounds(words)?;
     let inputs = inputs_of(rt, words)?;
-    let flow_limit = match &inputs.command.input {
-        Input::Files(files) => number_of("megaflows", files.out)?,
-        Input::Made { .. } => inputs.command.flow_limit,
-    };
-    Ok(Command {
-        inputs,
-        flow_limit,
-        rounds: rounds.unwrap_or(1),
-    })
+    match flow_limit_of(&inputs) {
+        Ok(flow_limit) => Ok(Command {
+            inputs,
+            flow_limit,
+            rounds: rounds.unwrap_or(1),
+        }),
+        Err(error) => {
+            drop(inputs);
+            Err(error)
+        }
+    }
 }

@@ -59,6 +59,22 @@ fn print_translation(made: &Translated, text: &mut String) -> Result<(), AllocEr
     text.push('\n')
 }
 
+/// Adds the line of the translation of a packet.
+fn print_packet(
+    alloc: Global,
+    tables: &Tables<'_>,
+    ports: &[u16],
+    key: &Key,
+    text: &mut String,
+) -> Result<(), AllocError>
+    requires { AreRunnable tables.now.rules }
+{
+    let made = translated(alloc, tables, ports, key)?;
+    let printed = print_translation(&made, text);
+    drop(made);
+    printed
+}
+
 /// The lines of the translations of packets.
 pub fn text_of(
     alloc: Global,
@@ -70,7 +86,7 @@ pub fn text_of(
 {
     let mut text = String::new(alloc);
     for key in keys {
-        print_translation(&translated(alloc, tables, ports, key)?, &mut text)?;
+        print_packet(alloc, tables, ports, key, &mut text)?;
     }
     Ok(text)
 }
