@@ -183,9 +183,11 @@ impl Ended {
 
     // Whether it is done, begins with these files, and opened all that the run names, each once.
     fn has_sent(&self, alloc: Global, run: &Run<'_>, sent: &[File]) -> Result<bool, AllocError> {
-        Ok(self.status == DONE
-            && begin_with(self.shelf.made(), sent)
-            && has_opened_its_files(alloc, self, None, run)?)
+        Ok(
+            self.status == DONE
+                && begin_with(self.shelf.made(), sent)
+                && has_opened_its_files(alloc, self, None, run)?,
+        )
     }
 
     /// Whether it left these files, and none in use.
