@@ -1,12 +1,12 @@
 //! Runs of literal edits and frames, each with calls of the board of its port.
-ghost use Rattle.std.specs.Prelude.{◌≡◌, ◌<◌, ◌≤◌, IsTrue, IfOk, length};
+ghost use Rattle.std.specs.Prelude.{◌≡◌, ◌+◌, ◌^◌, ◌<◌, ◌≤◌, [], ◌∷◌, IsTrue, IfOk, OnOk, length};
 ghost use Rattle.std.specs.List.{list_all};
 ghost use Rattle.spec_tables.specs.Bundles.{AreBundles};
 ghost use Rattle.spec_tables.specs.Edits.{has_sound_actions};
 ghost use Rattle.run_case.specs.Places.{HasPort, IsCounted, AreCounted};
 ghost use Rattle.spec_case.specs.Blocks.{AreInOrder};
 ghost use Rattle.spec_case.specs.Run.{edit_count, last_version};
-ghost use Rattle.rule_tables.specs.History.{history_of};
+ghost use Rattle.rule_tables.specs.History.{applied, bundled_by, history_of};
 
 use crate::calls::{Call, first_wrong};
 use crate::flows::{Flow, edits_of};
@@ -106,6 +106,16 @@ fn trace_of(alloc: Global, frames: &[(u8, u8)]) -> Result<Trace, Fail>
     Ok(read_trace(alloc, file, MANY)?)
 }
 
+/// Applies an edit as a bundle by itself.
+fn apply_alone(alloc: Global, rules: &mut VersionedRules, edit: &Edit) -> Result<(), AllocError>
+    requires { applied rules.old.edits + 1 < 2 ^ 32 }
+    ensures { OnOk result (rules.new ≡ bundled_by (edit.now ∷ []) rules.old) }
+{
+    let bundle = vec![in alloc; edit.copy(alloc)?]?;
+    rules.apply(bundle)?;
+    Ok(())
+}
+
 /// The rules that edits make where each of them is a bundle by itself, and how many edits stand through each bundle.
 fn each_alone(alloc: Global, edits: &[Edit]) -> Result<(VersionedRules, Vec<u32>), AllocError>
     requires { length edits.now < MANY }
@@ -116,7 +126,7 @@ fn each_alone(alloc: Global, edits: &[Edit]) -> Result<(VersionedRules, Vec<u32>
     let mut rules = VersionedRules::new(alloc);
     let mut bundles = Vec::new(alloc);
     'edits: for edit in edits {
-        rules.apply(vec![in alloc; edit.copy(alloc)?]?)?;
+        apply_alone(alloc, &mut rules, edit)?;
         bundles.push(rules.edits())?;
     }
     Ok((rules, bundles))

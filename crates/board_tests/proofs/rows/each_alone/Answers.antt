@@ -31,10 +31,10 @@ module _ (edits : List Edit) (bundles : List ℕ) (n : ℕ) (e : Edit) (lt : n <
     one_more more =
         made ∙ ap₂ (λ (list : List Edit) (k : ℕ). history_of list (bundles ++ (k + 1) ∷ [])) (sym more) (length-take-le n edits (omega arith))
 
-pub apply-requires-clause-few : goal.apply-requires-clause-few
-apply-requires-clause-few c =
+pub apply_alone-requires : goal.apply_alone-requires
+apply_alone-requires c =
     let before = applied_before c.args.edits.now c.edits.bundles.items c.edits.edit-index c.edit-item.result c.edits-test.true c.edits.rules c.edits.invariant.rules in
-    omega (arith, before, c.from_ref.ensures.len, c.edits-test.true, c.requires)
+    omega (arith, before, c.edits-test.true, c.requires)
 
 pub edits-preserved : goal.edits-preserved
 edits-preserved c =
@@ -45,8 +45,8 @@ edits-preserved c =
     let before = c.edits.rules in
     let so_far = c.edits.invariant.rules in
     let lt = c.edits-test.true in
-    let now = c.apply.new.self in
-    let is : now ≡ bundled_by (e ∷ []) before = c.in_ok-apply.ensures.bundled ∙ ap (λ (list : List Edit). bundled_by list before) c.from_ref.ensures.value in
+    let now = c.apply_alone.new.rules in
+    let is : now ≡ bundled_by (e ∷ []) before = c.in_ok-apply_alone.ensures in
     let more : take (n + 1) edits ≡ take n edits ++ e ∷ [] = take_more edits n e lt ∙ ap (λ (x : Edit). take n edits ++ x ∷ []) (sym c.edit-item.is) in
     let count : c.edits-in-edits.result ≡ n + 1 = c.edits-in-edits.ensures ∙ applied_after edits bundles n e lt before so_far now is in
     let pushed : c.push.new.self.items ≡ bundles ++ (n + 1) ∷ [] = c.in_ok-push.ensures.items ∙ ap (λ (k : ℕ). bundles ++ k ∷ []) count in
