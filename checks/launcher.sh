@@ -118,19 +118,22 @@ newer_sources() {
         && git checkout -q crates/low && runs released
 }
 
-# Whether the program finds that the C library is told this.
+# Whether the program finds, where it is run on these words, that the C library is told this.
 tells_library() {
-    launch word
-    diff <(echo "$1") "$room/said"
+    local told=$1
+    shift
+    launch "${@:-word}"
+    diff <(echo "$told") "$room/said"
 }
 
-# With a file in the place of the one in which Linux tells to whom it gives huge pages.
+# With a file in the place of the one in which Linux tells to whom it gives huge pages. A run of nine ports asks for none.
 huge_pages() {
     local given=$room/given asking='always [madvise] never' madvise=glibc.malloc.hugetlb=1:glibc.malloc.top_pad=16777216
     unset GLIBC_TUNABLES
     small_repository huge && sed -i "s|^huge_pages=.*|huge_pages=$given|" tools/launch \
         && printf '#!/bin/sh\necho "${GLIBC_TUNABLES-nothing}"\n' | make_program "$built" && tells_library nothing \
-        && echo "$asking" >"$given" && tells_library "$madvise" && GLIBC_TUNABLES=own tells_library own \
+        && echo "$asking" >"$given" && tells_library "$madvise" && tells_library "$madvise" edits out {1..8}=file \
+        && tells_library nothing edits out {1..9}=file && GLIBC_TUNABLES=own tells_library own \
         && GLIBC_TUNABLES= tells_library '' && echo 'always madvise [never]' >"$given" && tells_library nothing
 }
 
