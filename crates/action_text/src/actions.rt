@@ -64,16 +64,18 @@ fn read_next<'a>(
     Ok(cut.rest)
 }
 
+// The list takes no more memory than its actions need, since each rule keeps one: most have one action.
 fn read_list(alloc: Global, text: Word<'_>) -> Result<Vec<OfAction>, TextFault>
     ensures value { Gives vector_view result (read_items [] (items_in (word_view text.entry))) }
     ensures sound { IfOk result (λ list. AreSound list.items) }
     ensures few { IfOk result (λ list. length list.items ≤ most_actions) }
 {
-    let mut actions = Vec::new(alloc);
+    let mut actions = Vec::with_capacity(alloc, 1)?;
     let mut rest = after_separators(text);
     'items: while !rest.text.is_empty() {
         rest = read_next(alloc, &mut actions, rest)?;
     }
+    actions.shrink_to_fit();
     Ok(actions)
 }
 

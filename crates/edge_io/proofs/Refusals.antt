@@ -1,7 +1,7 @@
 -- What reading a whole file answers where opening it was refused: `from` says that the answer is made of the
 -- refusal.
 use Rattle.std.proofs.Common.{◌≡◌, ℕ, List, Result, Err, sym, ap, ◌∙◌, refl, inl, inr, arith}
-use Rattle.std.specs.Prelude.{IsErrOf, IsErrAnd}
+use Rattle.std.specs.Prelude.{IsErrOf, IsErrAnd, IfOk, IsOk}
 use Rattle.std.proofs.lemmas.Result.{err_from_is_err_and}
 use Rattle.edge_io.specs.declared.outside.Failed.{Failed}
 use Rattle.edge_io.specs.declared.outside.Failed.TheVariants as failed
@@ -71,3 +71,33 @@ pub noted : {T U : Type 0} (counts before now : Counts) (r : Result T ReadFault)
 noted counts before now r failed.Fault from notes h = notes.fault refl
 noted counts before now r failed.OutOfMemory from notes h =
     let x = sym (answer r failed.OutOfMemory from) ∙ h in cc
+
+-- Where there was no memory to begin with, nothing changed.
+module _ {T : Type 0} (r : Result T ReadFault) (from : IsFrom failed.OutOfMemory r) where
+  not_fault : ¬ IsErrOf r Fault
+  not_fault h = let x = sym (answer r failed.OutOfMemory from) ∙ h in cc
+
+  pub nothing_read : (P : T → Type 0) → IfOk r P
+  nothing_read P = rw (answer r failed.OutOfMemory from) tt
+
+  pub not_ok : ¬ IsOk r
+  not_ok ok = let is = rw (answer r failed.OutOfMemory from) at ok in cc
+
+  pub nothing_named : (told : Told) (name : List ℕ) → Names told told name r
+  nothing_named told name = record {
+    ok = rw (answer r failed.OutOfMemory from) tt;
+    fault = λ h. absurd (not_fault h);
+    over = λ h. absurd (not_over r failed.OutOfMemory from h);
+    no_memory = λ _. inr (record { last = refl; opened = refl });
+  }
+
+  pub nothing_counted : (counts : Counts) → ReadCause counts counts r
+  nothing_counted counts = record {
+    fault = λ h. absurd (not_fault h);
+    no_memory = λ _. refl;
+    over = λ _. refl;
+    ok = rw (answer r failed.OutOfMemory from) tt;
+  }
+
+  pub nothing_noted : {A : Type 0} → IsErrOf r Fault → A
+  nothing_noted h = absurd (not_fault h)

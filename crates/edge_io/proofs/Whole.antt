@@ -4,7 +4,7 @@ use Rattle.std.specs.Prelude.{IfOk, OnOk, IsOk}
 use Rattle.std.proofs.lemmas.Result.{on_ok_weaker}
 use Rattle.edge_io.specs.declared.reading.ReadFault.{ReadFault}
 use Rattle.edge_io.specs.Shelf.{Told, asked}
-use Rattle.edge_io.specs.ReadAll.{was_read, IsAsked, Names}
+use Rattle.edge_io.specs.ReadAll.{was_read, OnlyRead, IsAsked, Names}
 use Rattle.edge_io.proofs.Always.{on_ok}
 
 pub bytes : (contents : Option (List ℕ)) (left : List ℕ) (r : Result (Vec ℕ Global) ReadFault) →
@@ -30,6 +30,13 @@ module _ {T : Type 0} (before mid after : Told) (name : List ℕ) (r : Result T 
 
   pub told : OnOk r (after.left ≡ []) → OnOk r (after ≡ was_read before name)
   told none = on_ok_weaker r closed none
+
+  pub only_read : OnlyRead before after
+  only_read =
+      let e : after ≡ record (asked before name) { left = after.left } =
+      read ∙ ap (λ (x : Told). let t : Told = record x { left = after.left } in t) opened in
+      e ∙ ap (λ (x : Told). let t : Told = record before { left = after.left; last = x.last; opened = x.opened } in t)
+      (sym e)
 
   pub names : Names before after name r
   names =

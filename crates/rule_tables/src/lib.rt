@@ -36,7 +36,8 @@
 //!
 //! Each rule that was ever added is stored once, with its life span. It has the number of the edit that added it, and
 //! is live from that edit on, up to the one that ended its life. The stored rules stand in the order of their numbers,
-//! which have gaps where edits add nothing; a number is found by binary search.
+//! which have gaps where edits add nothing; a number is looked for where it stands if there are none, and else by
+//! binary search.
 //!
 //! Each end of a life is logged as well (`ending`), in the order of the edits: the place of the rule and the number of
 //! the edit that ended its life. So what a bundle changed is told by two stretches, whose bounds are found by binary
@@ -79,9 +80,9 @@
 //! - A loose delete passes once over the signatures of the stored rules, and a loose modify twice: it counts, and then
 //!   gives. A signature is 16 bytes. It tests the rules that it reaches, and of the others, also of those that are
 //!   gone, the few whose signature includes its own; of one that is gone it reads the end of its life alone.
-//! - `cookie` and `actions` find the rule at the place of its number, or else by binary search, and go back along what it was given. In the last version
-//!   that is one step for the actions, and for the cookie as many as it was given without one. Then they test each
-//!   modification of which the log doesn't tell. `scan` tests each stored rule.
+//! - `cookie` and `actions` find the rule at the place of its number, or else by binary search, and go back along what it
+//!   was given. In the last version that is one step for the actions, and for the cookie as many as it was given without
+//!   one. Then they test each modification of which the log doesn't tell. `scan` tests each stored rule.
 //! - `change` takes two binary searches each over the stored rules and the ends, and then the time of what the bundle
 //!   added and ended.
 //! - A rule takes 416 bytes, 16 more for its signature and 8 for its end, a modification takes 400, besides their actions,

@@ -5,16 +5,15 @@ use Rattle.std.specs.Fmt.{decimal}
 use Rattle.spec_board.specs.State.{Entry}
 use Rattle.spec_flow_text.specs.DpTextPrinted.{dp_actions_printed}
 use Rattle.spec_dumps.specs.Megaflows.{told, and_told, time_text, visits_text, megaflow_match, megaflow_match_text, megaflow_line}
-use Rattle.dump_lines.specs.Parts.{name_text, counts_text, decided_text}
+use Rattle.dump_lines.specs.Parts.{entry_text, actions_text}
 
 regrouped : (a b c d e f g h i j k n : List ℕ)
-    → (a ++ (b ++ c)) ++ ((d ++ (e ++ (f ++ g))) ++ ((h ++ (i ++ j)) ++ (k ++ n)))
+    → ((a ++ (b ++ c)) ++ ((d ++ (e ++ (f ++ g))) ++ (h ++ (i ++ j)))) ++ (k ++ n)
     ≡ (a ++ (b ++ (c ++ (d ++ (e ++ (f ++ (g ++ (h ++ (i ++ (j ++ k)))))))))) ++ n
 regrouped a b c d e f g h i j k n = simp append_assoc
 
 pub line_of_parts : (port : ℕ) (e : Entry)
-    → name_text port e ++ (counts_text e ++ (decided_text e ++ (codes " actions=" ++ (dp_actions_printed e.actions ++ codes "\n"))))
-    ≡ megaflow_line port e
+    → entry_text port e ++ actions_text e.actions ≡ megaflow_line port e
 line_of_parts port e =
     regrouped (told (codes "port") (decimal port)) (and_told (codes "entry") (decimal e.number)) (and_told (codes "version") (decimal e.version))
     (and_told (codes "packets") (decimal e.packets)) (and_told (codes "bytes") (decimal e.bytes))

@@ -1,4 +1,4 @@
-ghost use Rattle.std.specs.Prelude.{◌≡◌, ◌<◌, ◌/◌, ◌%◌, ◌^◌, ◌++◌, [], ◌∷◌, OnOk, OnErr, string_bytes};
+ghost use Rattle.std.specs.Prelude.{◌≡◌, ◌<◌, ◌≤◌, ◌-◌, ◌/◌, ◌%◌, ◌^◌, ◌++◌, [], ◌∷◌, map, OnOk, OnErr, string_bytes};
 ghost use Rattle.std.specs.Char.{digit_char};
 ghost use Rattle.spec_dumps.specs.Megaflows.{nanoseconds_text, time_text};
 ghost use Rattle.text_numbers.specs.Added.{Adds};
@@ -20,19 +20,25 @@ fn print_digit_at(out: &mut String, place: u32, nanoseconds: u64) -> Result<(), 
     out.push(char::from_digit(digit as u32, TEN).unwrap())
 }
 
+// The digits at a place and at the two behind it.
+fn print_three_digits(out: &mut String, place: u32, nanoseconds: u64) -> Result<(), AllocError>
+    requires within { 2 ≤ place }
+    requires below { place < 9 }
+    ensures { Adds out.old out.new
+        (map (λ p. digit_char (nanoseconds / 10 ^ p % 10)) (place ∷ (place - 1) ∷ (place - 2) ∷ [])) result }
+{
+    print_digit_at(out, place, nanoseconds)?;
+    print_digit_at(out, place - 1, nanoseconds)?;
+    print_digit_at(out, place - 2, nanoseconds)
+}
+
 // The nine digits of a part of a second.
 fn print_nanoseconds(out: &mut String, nanoseconds: u64) -> Result<(), AllocError>
     ensures { Adds out.old out.new (nanoseconds_text nanoseconds) result }
 {
-    print_digit_at(out, 8, nanoseconds)?;
-    print_digit_at(out, 7, nanoseconds)?;
-    print_digit_at(out, 6, nanoseconds)?;
-    print_digit_at(out, 5, nanoseconds)?;
-    print_digit_at(out, 4, nanoseconds)?;
-    print_digit_at(out, 3, nanoseconds)?;
-    print_digit_at(out, 2, nanoseconds)?;
-    print_digit_at(out, 1, nanoseconds)?;
-    print_digit_at(out, 0, nanoseconds)
+    print_three_digits(out, 8, nanoseconds)?;
+    print_three_digits(out, 5, nanoseconds)?;
+    print_three_digits(out, 2, nanoseconds)
 }
 
 /// Adds a time in nanoseconds: its seconds, and the nine digits of the part of a second.

@@ -1,6 +1,37 @@
+use Rattle.std.proofs.Common.{refl}
+use Rattle.edge_io.specs.declared.outside.Failed.TheVariants as failed
 use Rattle.edge_io.proofs.Refusals as refusals
 use Rattle.edge_io.proofs.Whole as whole
 use Rattle.edge_io.proofs.reading.read_all.Goals as goal
+
+pub returns-in_err-piece-clause-bound : goal.returns-in_err-piece-clause-bound
+returns-in_err-piece-clause-bound g c = refusals.nothing_read c.from_residual.result c.from_residual.ensures.1 _
+
+pub returns-in_err-piece-clause-bytes : goal.returns-in_err-piece-clause-bytes
+returns-in_err-piece-clause-bytes g c = λ t. refusals.nothing_read c.from_residual.result c.from_residual.ensures.1 _
+
+pub returns-in_err-piece-clause-over : goal.returns-in_err-piece-clause-over
+returns-in_err-piece-clause-over g c = λ t over.
+    absurd (refusals.not_over _ failed.OutOfMemory c.from_residual.ensures.1 over)
+
+pub returns-in_err-piece-clause-within : goal.returns-in_err-piece-clause-within
+returns-in_err-piece-clause-within g c = λ t short.
+    refusals.not_over _ failed.OutOfMemory c.from_residual.ensures.1
+
+pub returns-in_err-piece-clause-too_long : goal.returns-in_err-piece-clause-too_long
+returns-in_err-piece-clause-too_long g c = λ t long. refusals.not_ok c.from_residual.result c.from_residual.ensures.1
+
+pub returns-in_err-piece-clause-only_read : goal.returns-in_err-piece-clause-only_read
+returns-in_err-piece-clause-only_read g c = λ t. refl
+
+pub returns-in_err-piece-clause-named : goal.returns-in_err-piece-clause-named
+returns-in_err-piece-clause-named g c = λ t. refusals.nothing_named c.from_residual.result c.from_residual.ensures.1 _ _
+
+pub returns-in_err-piece-clause-since : goal.returns-in_err-piece-clause-since
+returns-in_err-piece-clause-since g c = λ t fault. refusals.nothing_noted c.from_residual.result c.from_residual.ensures.1 fault
+
+pub returns-in_err-piece-clause-cause : goal.returns-in_err-piece-clause-cause
+returns-in_err-piece-clause-cause g c = refusals.nothing_counted c.from_residual.result c.from_residual.ensures.1 _
 
 pub returns-in_err-open_file-clause-over : goal.returns-in_err-open_file-clause-over
 returns-in_err-open_file-clause-over g c = λ t over.
@@ -51,5 +82,11 @@ returns-clause-told g c = λ t.
 pub returns-clause-named : goal.returns-clause-named
 returns-clause-named g c = λ t.
     whole.names (g.S.Shelf.told c.args.shelf.now) (g.S.Shelf.told c.open_file.new.self)
+    (g.S.Shelf.told c.read_opened.new.shelf) c.args.name.now c.read_opened.result
+    (c.in_ok-open_file.ensures.told t).ok (c.read_opened.ensures.told t)
+
+pub returns-clause-only_read : goal.returns-clause-only_read
+returns-clause-only_read g c = λ t.
+    whole.only_read (g.S.Shelf.told c.args.shelf.now) (g.S.Shelf.told c.open_file.new.self)
     (g.S.Shelf.told c.read_opened.new.shelf) c.args.name.now c.read_opened.result
     (c.in_ok-open_file.ensures.told t).ok (c.read_opened.ensures.told t)

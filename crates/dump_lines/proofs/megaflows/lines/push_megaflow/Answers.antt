@@ -5,6 +5,4 @@ use Rattle.dump_lines.proofs.megaflows.lines.push_megaflow.Goals as goal
 
 pub returns : goal.returns
 returns c =
-    same_text (line_of_parts c.args.port (entry_with c.args.actions.now c.args.entry.now)) (
-    then c.in_ok-print_name.ensures (then c.in_ok-print_counts.ensures (then c.in_ok-print_decided.ensures (
-    then c.in_ok-print_word.ensures (then c.in_ok-print_dp_actions.ensures c.print_word-2.ensures)))))
+    same_text (line_of_parts c.args.port (entry_with c.args.actions.now c.args.entry.now)) (then c.in_ok-print_entry.ensures c.print_actions.ensures)
