@@ -1,10 +1,10 @@
 -- Elements of a list that are written at once, and those that are sent on as they came in.
-use Rattle.std.proofs.Common.{◌≡◌, ℕ, zero, suc, ◌+◌, ◌-◌, ◌≤◌, ◌<◌, List, [], ◌∷◌, ◌++◌, length, get_or, take, drop, refl, sym, ap, ap₂, ◌∙◌, append_assoc, arith}
+use Rattle.std.proofs.Common.{◌≡◌, ℕ, zero, suc, ◌+◌, ◌-◌, ◌≤◌, ◌<◌, List, [], ◌∷◌, ◌++◌, length, get_or, take, drop, refl, sym, ap, ◌∙◌, subst, inl, inr, append_assoc, arith}
 use Rattle.std.specs.List.{flat_map}
 use Rattle.std.proofs.lemmas.Bool.{eq-eqb}
-use Rattle.std.proofs.lemmas.List.{drop_more, flat_map_more, get_or-drop, length-drop, take-append-drop}
+use Rattle.std.proofs.lemmas.List.{drop_more, take-append-drop}
 use Rattle.std.proofs.lemmas.Grind.{flat_map-append}
-use Rattle.std.proofs.Math.Seq.{take-add, take-suc}
+use Rattle.std.proofs.Math.Seq.{take-add}
 use Rattle.spec_actions.specs.declared.action.DpAction.{DpAction}
 use Rattle.spec_actions.specs.declared.action.DpAction.TheVariants.{Output}
 use Rattle.spec_case.specs.declared.arrival.Arrival.{Arrival}
@@ -12,28 +12,13 @@ use Rattle.spec_case.specs.Run.{Run, frame_at}
 use Rattle.spec_board.specs.Texts.{Journal}
 use Rattle.spec_run.specs.Journals.{actions_for}
 use Rattle.spec_run.specs.Outputs.{frames_by, sent_to}
+use Rattle.egress_capture.specs.declared.port_filter.PortFilter.{PortFilter}
+use Rattle.egress_capture.specs.Batches.{IsNext, IsBatch}
+use Rattle.egress_capture.specs.Filters.{LackBit}
 use Rattle.egress_capture.proofs.Prefixes.{of_one}
 use Rattle.egress_capture.proofs.Sends.{out_sending}
 
 -- ---- frames that are sent on once, as they came in
-
--- Where each of some elements has one piece, their pieces are those.
-pub one_piece_each : {X Z : Type 0} (pieces : X → List Z) (xs : List X) (zs : List Z) (d : X) (e : Z) (at first n : ℕ)
-    → at + n ≤ length xs → first + n ≤ length zs
-    → ((k : ℕ) → k < n → pieces (get_or xs (at + k) d) ≡ get_or zs (first + k) e ∷ [])
-    → flat_map pieces (take n (drop at xs)) ≡ take n (drop first zs)
-one_piece_each {Z = Z} pieces xs zs d e at first zero within there each = refl
-one_piece_each {Z = Z} pieces xs zs d e at first (suc n) within there each =
-    let left = length-drop at xs in
-    let right = length-drop first zs in
-    let before : flat_map pieces (take n (drop at xs)) ≡ take n (drop first zs) =
-    one_piece_each pieces xs zs d e at first n (omega (arith, within)) (omega (arith, there)) (λ k lt. each k (omega (arith, lt))) in
-    let last : pieces (get_or (drop at xs) n d) ≡ get_or (drop first zs) n e ∷ [] =
-    ap pieces (get_or-drop at xs n d) ∙ each n (omega arith) ∙ ap (λ z. z ∷ []) (sym (get_or-drop first zs n e)) in
-    ap (flat_map pieces) (take-suc (drop at xs) n d (omega (arith, left, within)))
-    ∙ sym (flat_map_more pieces [] (take n (drop at xs)) (get_or (drop at xs) n d))
-    ∙ ap₂ (λ (a b : List Z). a ++ b) before last
-    ∙ sym (take-suc (drop first zs) n e (omega (arith, right, there)))
 
 -- What is sent of a frame whose actions are one output is that frame.
 pub sent_once : (run : Run) (journals : List Journal) (port : ℕ) (a : Arrival)
@@ -43,6 +28,37 @@ sent_once run journals port a is =
     let frame = frame_at run a.port a.place in
     ap (λ (actions : List DpAction). frames_by run actions port a) is
     ∙ out_sending port frame.time (Output port) frame.bytes (eq-eqb port port refl)
+
+-- ---- a batch that goes on
+
+module _ (came : List Arrival) (filters : List PortFilter) (port at : ℕ) where
+  pub begun : IsBatch came filters port at zero 0
+  unfolding IsBatch
+  begun = refl
+
+  pub one_more : (n count : ℕ) → IsNext came filters port at (at + n) count → IsBatch came filters port at n count
+      → IsBatch came filters port at (suc n) (count + 1)
+  unfolding IsBatch
+  one_more n count next batch =
+      let before : (count + 1) - 1 ≡ count = omega arith in
+      inr (
+        omega arith,
+        subst (λ (k : ℕ). IsNext came filters port at (at + n) k × IsBatch came filters port at n k) (sym before) (next, batch),
+      )
+
+  -- what follows it lacks the bit of the port
+  pub passed_over : (n more all count : ℕ) → all ≡ n + more → LackBit filters port (at + n) (at + all)
+      → IsBatch came filters port at n count → IsBatch came filters port at all count
+  unfolding IsBatch
+  passed_over n zero all count is lack batch =
+      let same : n ≡ all = omega (arith, is) in
+      subst (λ (k : ℕ). IsBatch came filters port at k count) same batch
+  passed_over n (suc more) all count is lack batch =
+      let last : suc (n + more) ≡ all = omega (arith, is) in
+      subst (λ (k : ℕ). IsBatch came filters port at k count) last (inl (
+        λ f. lack (at + (n + more)) f (omega arith) (omega (arith, last)),
+        passed_over n more (n + more) count refl (λ k f from lt. lack k f from (omega (arith, lt, last))) batch,
+      ))
 
 -- ---- several elements of a list at once, of which the first are written
 

@@ -2,17 +2,15 @@
 use Rattle.std.proofs.Common.{◌≡◌, ℕ, ◌+◌, ◌*◌, ◌%◌, ◌^◌, false, bit_or, List, [], ◌∷◌, All, refl, sym, ◌∙◌, inl, inr, arith}
 use Rattle.std.specs.Prelude.{◌==◌, cond, count_by, max}
 use Rattle.std.specs.Int.{bit_at}
-use Rattle.std.specs.List.{flat_map}
 use Rattle.std.proofs.lemmas.Bool.{cases_Bool, eqb-true}
 use Rattle.std.proofs.lemmas.Nat.{mod_below, one_shl}
 use Rattle.std.proofs.lemmas.Nat.Bits.{bit_at_or, bit_at-pow_same}
 use Rattle.std.proofs.lemmas.List.Elements.{All-head, All-tail}
 use Rattle.std.proofs.lemmas.List.Sums.{sum_by-cons}
-use Rattle.spec_pcap.specs.Pcap.{Frame}
 use Rattle.spec_actions.specs.declared.action.DpAction.{DpAction}
 use Rattle.egress_capture.specs.Sending.{sends_to, frames_to}
 use Rattle.egress_capture.specs.Filters.{bit_of}
-use Rattle.egress_capture.proofs.Written.{none_written}
+use Rattle.egress_capture.proofs.Sends.{out_none}
 
 module _ (port : ℕ) where
   -- the action doesn't send to the port
@@ -31,10 +29,9 @@ module _ (port : ℕ) where
       let both : times a + count_by (sends_to port) actions ≡ 0 = omega (arith, one, others) in
       sum_by-cons times a actions ∙ both
 
-  -- where no action sends to the port, nothing is to be written
-  pub passed : (bytes_of : Frame → List ℕ) (time : ℕ) (actions : List DpAction) (frame : List ℕ) → All Passes actions
-      → flat_map bytes_of (frames_to port time actions frame) ≡ []
-  passed bytes_of time actions frame all = none_written bytes_of port time actions frame (none_counted actions all)
+  -- where no action sends to the port, nothing goes out
+  pub passed : (time : ℕ) (actions : List DpAction) (frame : List ℕ) → All Passes actions → frames_to port time actions frame ≡ []
+  passed time actions frame all = out_none port time actions frame (none_counted actions all)
 
 -- ---- bits
 

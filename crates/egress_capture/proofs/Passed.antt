@@ -67,7 +67,7 @@ module _ (run : Run) (journals : List Journal) (filters : List PortFilter) (port
       unsent_several at n (omega (arith, within)) (λ k g from lt. lack k g from (omega (arith, lt))) in
       let last : flat_map bytes_of (pieces here) ≡ [] =
       ap (λ (x : Arrival). flat_map bytes_of (pieces x)) (get_or-drop at came n a)
-      ∙ unsent run journals filters port bytes_of came (at + n) a f are (omega (arith, within)) (lack (at + n) f (omega arith) (omega arith)) in
+      ∙ ap (flat_map bytes_of) (unsent run journals filters port came (at + n) a f are (omega (arith, within)) (lack (at + n) f (omega arith) (omega arith))) in
       ap (λ (xs : List Arrival). flat_map bytes_of (flat_map pieces xs)) (take-suc (drop at came) n a (omega (arith, left, within)))
       ∙ ap (flat_map bytes_of) (sym (flat_map_more pieces [] some here))
       ∙ flat_map-append bytes_of (flat_map pieces some) (pieces here)

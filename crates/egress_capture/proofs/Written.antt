@@ -49,7 +49,7 @@ module _ (bytes_of : Frame → List ℕ) (port time : ℕ) where
       ∙ flat_map-append bytes_of (first_copies actions frame) (frames_to port time (drop (length (take_while is_output actions)) actions) frame)
 
   -- where no action sends, nothing is written
-  pub none_written : (actions : List DpAction) (frame : List ℕ) → count_by (sends_to port) actions ≡ 0 → written_by actions frame ≡ []
+  none_written : (actions : List DpAction) (frame : List ℕ) → count_by (sends_to port) actions ≡ 0 → written_by actions frame ≡ []
   none_written actions frame none = ap (flat_map bytes_of) (out_none port time actions frame none)
 
   -- where the others write nothing the copies are all

@@ -9,9 +9,9 @@ ghost use Rattle.edge_io.specs.declared.outside.InUse.TheVariants.{Created};
 ghost use Rattle.edge_io.specs.Written.{WritesAll};
 ghost use Rattle.run_case.specs.Places.{HasPort};
 ghost use Rattle.egress_capture.specs.Filters.{AreFilters};
-ghost use Rattle.egress_capture.specs.Batches.{Follows, IsBatch, arrivals_at};
+ghost use Rattle.egress_capture.specs.Batches.{Follows, IsNext, IsBatch, arrivals_at};
 
-use crate::port_filter::PortFilter;
+use crate::port_filter::{PortFilter, next_with_bit};
 use edge_io::{Failed, Shelf, write_all};
 use pcap_files::writer::PcapWriter;
 use run_boards::Finished;
@@ -29,23 +29,51 @@ fn follows(first: Arrival, arrival: Arrival, count: u32) -> bool
         && u64::from(arrival.place) == u64::from(first.place) + u64::from(count)
 }
 
-/// How many arrivals, from one in their list on, are a batch that is sent to a port: at most `BATCH`, and none where that
-/// one isn't only sent on.
-pub fn batch_at(came: &[Arrival], filters: &[PortFilter], at: usize, port: u16) -> u32
+// Whether an arrival comes next after so many frames of a batch, the first of which stands at another place.
+fn is_next(
+    came: &[Arrival],
+    filters: &[PortFilter],
+    at: usize,
+    place: usize,
+    count: u32,
+    port: u16,
+) -> bool
     requires at { at < length came.now }
-    requires count { length filters.now ≡ length came.now }
-    ensures within { at + result ≤ length came.now }
-    ensures batch { IsBatch came.now filters.now port at result }
+    requires place { place < length came.now }
+    requires filters { length filters.now ≡ length came.now }
+    ensures { IsTrue result → IsNext came.now filters.now port at place count }
 {
-    let first = came[at];
-    let most = (came.len() - at).min(BATCH as usize) as u32;
-    'frames: for count in 0..most {
-        let place = at + count as usize;
-        if !filters[place].only_sends_to(port) || !follows(first, came[place], count) {
-            return count;
-        }
+    filters[place].only_sends_to(port) && follows(came[at], came[place], count)
+}
+
+/// Frames that are sent to a port at once.
+#[derive(Clone, Copy)]
+pub struct Batch {
+    /// How many frames they are.
+    pub count: u32,
+    /// The place of the arrival after them, and after those behind them that the port doesn't get.
+    pub end: usize,
+}
+
+/// The batch of a port from an arrival in their list on: at most `BATCH` frames, and none where that one isn't only sent
+/// on. What the port doesn't get is passed over.
+pub fn batch_at(came: &[Arrival], filters: &[PortFilter], at: usize, port: u16) -> Batch
+    requires at { at < length came.now }
+    requires filters { length filters.now ≡ length came.now }
+    ensures few { at + result.count ≤ result.end }
+    ensures within { result.end ≤ length came.now }
+    ensures batch { IsBatch came.now filters.now port at (result.end - at) result.count }
+{
+    let mut count = 0;
+    let mut end = at;
+    'frames: while count < BATCH
+        && end < came.len()
+        && is_next(came, filters, at, end, count, port)
+    {
+        count += 1;
+        end = next_with_bit(filters, end + 1, port);
     }
-    most
+    Batch { count, end }
 }
 
 // Writes frames of a port, from a place on, as they came in: the records of as many at once as stand in its trace one after
@@ -93,20 +121,21 @@ pub fn send_batch<C: Case, S: Shelf>(
     finished: &Finished<C>,
     filters: &[PortFilter],
     at: usize,
-    count: u32,
+    batch: Batch,
     port: u16,
     nanos: bool,
 ) -> Result<(), Failed>
     requires in_use { S.in_use shelf.old ≡ Created }
     requires unit { writer.old ≡ nanos }
     requires filters { AreFilters C.run finished.now (in_order (came_in C.run)) filters.now }
-    requires some { 1 ≤ count }
-    requires within { at + count ≤ length (in_order (came_in C.run)) }
-    requires batch { IsBatch (in_order (came_in C.run)) filters.now port at count }
+    requires some { 1 ≤ batch.count }
+    requires few { at + batch.count ≤ batch.end }
+    requires within { batch.end ≤ length (in_order (came_in C.run)) }
+    requires batch { IsBatch (in_order (came_in C.run)) filters.now port at (batch.end - at) batch.count }
     ensures nanos { writer.new ≡ writer.old }
-    ensures writes { let sent = flat_map (sent_to C.run finished.now port) (arrivals_at C.run at count) in
+    ensures writes { let sent = flat_map (sent_to C.run finished.now port) (arrivals_at C.run at (batch.end - at)) in
         WritesAll S.Shelf shelf.old shelf.new (flat_map (record_of nanos) sent) result }
 {
     let first = finished.arrivals()[at];
-    write_frames(shelf, writer, run, first, count, nanos)
+    write_frames(shelf, writer, run, first, batch.count, nanos)
 }

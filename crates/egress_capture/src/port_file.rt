@@ -68,8 +68,8 @@ fn write_frames<C: Case, S: Shelf>(
     let mut writer = PcapWriter::begin(shelf, nanos)?;
     let mut at = next_with_bit(filters, 0, port);
     'arrivals: while at < came.len() {
-        let count = batch_at(came, filters, at, port);
-        if count > 0 {
+        let batch = batch_at(came, filters, at, port);
+        if batch.count > 0 {
             send_batch(
                 shelf,
                 &mut writer,
@@ -77,11 +77,11 @@ fn write_frames<C: Case, S: Shelf>(
                 finished,
                 filters,
                 at,
-                count,
+                batch,
                 port,
                 nanos,
             )?;
-            at = next_with_bit(filters, at + count as usize, port);
+            at = batch.end;
             continue;
         }
         send_decided(

@@ -1,4 +1,5 @@
 mod Packets
+mod Classes
 mod NewestFlows
 mod OpenFlows
 mod DatagramWalk

@@ -9,7 +9,6 @@ ghost use Rattle.frame_keys.specs.Laid.{AreBefore};
 ghost use Rattle.netflow_v5.specs.Views.{HasNumbers, told_source, told_destination, flow_view};
 
 use crate::class::FlowClass;
-use frame_keys::key_of;
 use frame_keys::layout::{L4, Layout};
 use net_bytes::be16;
 use spec_actions::DpAction;
@@ -94,7 +93,7 @@ pub(crate) fn alone(
     ensures flow { flow_view result ≡ alone actions.now port uptime frame.now at }
     ensures octets { result.told.packets ≤ result.told.octets }
 {
-    let class = FlowClass::of(&key_of(port, frame));
+    let class = FlowClass::of_packet(port, frame, layout, at);
     Flow {
         class,
         told: FlowRecord {

@@ -22,8 +22,9 @@
 //! # How
 //!
 //! Frames are taken in the order of their arrivals, which the finished boards lend with their actions. A hash map has
-//! the index of the newest flow of each class, so that a frame costs a look-up, however many flows there are. Times
-//! are counted from the first frame in that order. No rule is looked at: what rules count says nothing of ports.
+//! the index of the newest flow of each class, so that a frame costs a look-up, however many flows there are. The numbers of
+//! a class are read from the headers of the frame, and its key isn't made again. Times are counted from the first frame in
+//! that order. No rule is looked at: what rules count says nothing of ports.
 //!
 //! A datagram is made in a buffer that is used again for the next, and written in one call. Reading takes one record
 //! after the other from where it stands.

@@ -1,34 +1,37 @@
-use Rattle.std.proofs.Common.{◌≡◌, ◌+◌, ◌<◌, length, false, refl, inl, inr, arith}
-use Rattle.std.proofs.lemmas.Bool.{cases_lt}
-use Rattle.std.proofs.lemmas.List.{get_or_default}
+use Rattle.std.proofs.Common.{◌≡◌, ℕ, zero, suc, ◌+◌, ◌-◌, subst, sym, arith}
+use Rattle.egress_capture.specs.Batches.{IsNext, IsBatch}
+use Rattle.egress_capture.proofs.Batches.{begun, one_more, passed_over}
 use Rattle.egress_capture.proofs.batch.batch_at.Goals as goal
+
+pub frames-init : goal.frames-init
+frames-init c =
+    let came = c.args.came.now in
+    let filters = c.args.filters.now in
+    let at = c.args.at in
+    let nothing : zero ≡ at - at = omega arith in
+    record {
+      few = omega arith;
+      within = omega (arith, c.requires.at);
+      batch = subst (λ (n : ℕ). IsBatch came filters c.args.port at n 0) nothing (begun came filters c.args.port at);
+    }
 
 pub frames-preserved : goal.frames-preserved
 frames-preserved c =
+    let came = c.args.came.now in
     let filters = c.args.filters.now in
+    let port = c.args.port in
+    let at = c.args.at in
     let count = c.frames.count in
-    let within : c.args.at + count < length filters =
-    omega (arith, c.frames-test.true, c.min-most.ensures, c.requires.count, c.requires.at) in
+    let end = c.frames.end in
+    let next = c.next_with_bit-end in
+    let size = end - at in
+    let there : at + size ≡ end = omega (arith, c.frames.invariant.few) in
+    let this = subst (λ (k : ℕ). IsNext came filters port at k count) (sym there) (c.is_next.ensures c.if-is_next.true) in
+    let all : next.result - at ≡ suc size + (next.result - (end + 1)) = omega (arith, there, next.ensures.from) in
     record {
-      follow = λ k lt.
-          elim (cases_lt k count) [
-            | inl before ↦ c.frames.invariant.follow k before
-            | inr after ↦
-                let same : k ≡ count = omega (arith, lt, after) in
-                rw same (c.if-not-follows.ensures refl)
-          ];
-      only_sent = λ k f lt.
-          elim (cases_lt k count) [
-            | inl before ↦ c.frames.invariant.only_sent k f before
-            | inr after ↦
-                let same : k ≡ count = omega (arith, lt, after) in
-                let read = get_or_default filters (c.args.at + count) f (record { bits = 0; port = 0; single = false }) within in
-                rw (same, read) (c.if-not-only_sends_to.ensures refl)
-          ];
+      few = omega (arith, c.frames.invariant.few, next.ensures.from);
+      within = omega (arith, next.ensures.within, c.requires.filters);
+      batch = passed_over came filters port at (suc size) (next.result - (end + 1)) (next.result - at) (count + 1) all
+      (λ k f from lt. next.ensures.passed k f (omega (arith, there, from)) (omega (arith, lt, there, next.ensures.from)))
+      (one_more came filters port at size count this c.frames.invariant.batch);
     }
-
-pub returns-clause-batch : goal.returns-clause-batch
-returns-clause-batch c = record {
-  follow = λ k lt. c.frames.invariant.follow k (omega (arith, lt, c.frames-test.false));
-  only_sent = λ k f lt. c.frames.invariant.only_sent k f (omega (arith, lt, c.frames-test.false));
-}

@@ -1,4 +1,4 @@
-use Rattle.std.proofs.Common.{◌+◌, ◌≤◌, false, length, Err, ap, ◌∙◌, arith}
+use Rattle.std.proofs.Common.{◌≡◌, ◌+◌, ◌-◌, ◌≤◌, false, length, Err, ap, ◌∙◌, arith}
 use Rattle.std.proofs.lemmas.List.{append-nil, take_all}
 use Rattle.std.proofs.lemmas.Result.{err_from_is_err_and}
 use Rattle.spec_pcap.specs.Pcap.{record_of, header}
@@ -69,38 +69,34 @@ arrivals-preserved g c =
     }
 
 pub send_batch-requires-clause-within : goal.send_batch-requires-clause-within
-send_batch-requires-clause-within g c = rw (← c.arrivals-came.ensures.list) c.batch_at-count.ensures.within
+send_batch-requires-clause-within g c = rw (← c.arrivals-came.ensures.list) c.batch_at-batch.ensures.within
 
 pub send_batch-requires-clause-batch : goal.send_batch-requires-clause-batch
-send_batch-requires-clause-batch g c = rw (← c.arrivals-came.ensures.list) c.batch_at-count.ensures.batch
+send_batch-requires-clause-batch g c = rw (← c.arrivals-came.ensures.list) c.batch_at-batch.ensures.batch
 
 pub returns-in_err-send_batch : goal.returns-in_err-send_batch
 returns-in_err-send_batch g c =
     let run = g.C.Case.run in
     let p = err_from_is_err_and c.from_residual-in_err-send_batch.result c.from_residual-in_err-send_batch.ensures.1 in
     let w = rw (← c.arrivals-came.ensures.list, c.nanos-nanos.ensures) at c.in_err-send_batch.ensures.writes in
-    let all = around_batch (sent_to run c.args.finished.now c.args.port) (record_of (is_nanos run)) (header (is_nanos run)) c.arrivals-came.result.now c.arrivals.at c.batch_at-count.result in
+    let all = around_batch (sent_to run c.args.finished.now c.args.port) (record_of (is_nanos run)) (header (is_nanos run)) c.arrivals-came.result.now c.arrivals.at (c.batch_at-batch.result.end - c.arrivals.at) in
     rw (← c.arrivals-came.ensures.list) (cut_within g.S.Shelf _ _ _ _ _ _ _ all c.arrivals.invariant.wrote _ _ (p.1 ∙ ap Err p.2) w)
 
-pub arrivals-preserved-then-count-gt0 : goal.arrivals-preserved-then-count-gt0
-arrivals-preserved-then-count-gt0 g c =
+pub arrivals-preserved-then-batch-gt0 : goal.arrivals-preserved-then-batch-gt0
+arrivals-preserved-then-batch-gt0 g c =
     let run = g.C.Case.run in
     let came = c.arrivals-came.result.now in
     let at = c.arrivals.at in
-    let count = c.batch_at-count.result in
-    let next = c.next_with_bit-at-then-count-gt0 in
-    let are : AreFilters run c.args.finished.now came c.args.filters.now = rw c.arrivals-came.ensures.list c.requires.filters in
-    let within : next.result ≤ length came = omega (arith, next.ensures.within, are.count) in
+    let batch = c.batch_at-batch in
+    let size = batch.result.end - at in
+    let back : at + size ≡ batch.result.end = omega (arith, batch.ensures.few) in
     record {
-      within = within;
+      within = batch.ensures.within;
       nanos = c.send_batch.ensures.nanos ∙ c.arrivals.invariant.nanos;
       wrote =
           let w = rw (← c.arrivals-came.ensures.list, c.nanos-nanos.ensures) at c.in_ok-send_batch.ensures.writes in
-          let all = batch_more (sent_to run c.args.finished.now c.args.port) (record_of (is_nanos run)) (header (is_nanos run)) came at count in
-          let same =
-          same_file run c.args.finished.now c.args.filters.now c.args.port (record_of (is_nanos run)) came no_arrival no_filter are (header (is_nanos run))
-          (at + count) next.result next.ensures.from within next.ensures.passed in
-          rw same (more g.S.Shelf _ _ _ _ _ _ all c.arrivals.invariant.wrote _ w);
+          let all = batch_more (sent_to run c.args.finished.now c.args.port) (record_of (is_nanos run)) (header (is_nanos run)) came at size in
+          rw back at (more g.S.Shelf _ _ _ _ _ _ all c.arrivals.invariant.wrote _ w);
     }
 
 pub returns : goal.returns

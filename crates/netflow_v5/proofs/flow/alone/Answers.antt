@@ -13,8 +13,8 @@ pub told_destination-requires : goal.told_destination-requires
 told_destination-requires c = λ icmp.
     let key = key_of c.args.port c.args.frame.now in
     let here : (layout_of c.args.frame.now).l3 ≡ Ipv4 c.args.at = sym (ap (λ (l : Layout). l.l3) c.requires.layout) ∙ c.requires.ipv4 in
-    let view : class_view c.of-class.result ≡ class_of key = c.of-class.ensures ∙ ap class_of c.key_of.ensures.numbers in
-    let number : (i : ℕ) → get_or (class_view c.of-class.result) i 0 ≡ get_or (class_of key) i 0 = λ i. ap (λ (xs : List ℕ). get_or xs i 0) view in
+    let view : class_view c.of_packet-class.result ≡ class_of key = c.of_packet-class.ensures in
+    let number : (i : ℕ) → get_or (class_view c.of_packet-class.result) i 0 ≡ get_or (class_of key) i 0 = λ i. ap (λ (xs : List ℕ). get_or xs i 0) view in
     let both = type_and_code c.args.port c.args.frame.now c.args.at (λ k. let fits = c.type_inv.frame k in omega (arith, fits)) here (sym (number 3) ∙ icmp) in
     (omega (arith, both.0, number 5), omega (arith, both.1, number 6))
 
