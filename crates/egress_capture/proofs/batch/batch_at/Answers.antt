@@ -32,6 +32,6 @@ frames-preserved c =
       few = omega (arith, c.frames.invariant.few, next.ensures.from);
       within = omega (arith, next.ensures.within, c.requires.filters);
       batch = passed_over came filters port at (suc size) (next.result - (end + 1)) (next.result - at) (count + 1) all
-      (λ k f from lt. next.ensures.passed k f (omega (arith, there, from)) (omega (arith, lt, there, next.ensures.from)))
-      (one_more came filters port at size count this c.frames.invariant.batch);
+          (λ k f from lt. next.ensures.passed k f (omega (arith, there, from)) (omega (arith, lt, there, next.ensures.from)))
+          (one_more came filters port at size count this c.frames.invariant.batch);
     }
