@@ -1,9 +1,8 @@
 -- What a filter without the bit of a port says.
-use Rattle.std.proofs.Common.{◌≡◌, ℕ, ◌+◌, ◌*◌, ◌%◌, ◌^◌, false, bit_or, List, [], ◌∷◌, All, refl, sym, ◌∙◌, inl, inr, arith}
+use Rattle.std.proofs.Common.{◌≡◌, ℕ, ◌+◌, ◌^◌, false, bit_or, List, [], ◌∷◌, All, refl, sym, ◌∙◌, inl, inr, arith}
 use Rattle.std.specs.Prelude.{◌==◌, cond, count_by, max}
 use Rattle.std.specs.Int.{bit_at}
 use Rattle.std.proofs.lemmas.Bool.{cases_Bool, eqb-true}
-use Rattle.std.proofs.lemmas.Nat.{mod_below, one_shl}
 use Rattle.std.proofs.lemmas.Nat.Bits.{bit_at_or, bit_at-pow_same}
 use Rattle.std.proofs.lemmas.List.Elements.{All-head, All-tail}
 use Rattle.std.proofs.lemmas.List.Sums.{sum_by-cons}
@@ -38,18 +37,17 @@ module _ (port : ℕ) where
 pub neither : (a b : ℕ) → max a b ≡ 0 → (a ≡ 0) × (b ≡ 0)
 neither a b none = (omega (arith, none), omega (arith, none))
 
--- a filter to which the bit of an output was added
-pub with_output : (bits n port : ℕ) → bit_at (bit_or bits (1 * 2 ^ (n % 32) % 4294967296)) (bit_of port) ≡ 0
+-- the bit of an output is that of its port
+pub of_output : (n port : ℕ) → bit_at (2 ^ bit_of n) (bit_of port) ≡ 0 → (n == port) ≡ false
+of_output n port absent = elim (cases_Bool (n == port)) [
+  | inl same ↦
+      let there : bit_at (2 ^ bit_of n) (bit_of port) ≡ 1 = rw (← eqb-true n port same) (bit_at-pow_same (bit_of n)) in
+      absurd (omega (arith, there, absent))
+  | inr other ↦ other
+]
+
+-- bits to which that of an output was added
+pub with_output : (bits n port : ℕ) → bit_at (bit_or bits (2 ^ bit_of n)) (bit_of port) ≡ 0
     → (bit_at bits (bit_of port) ≡ 0) × ((n == port) ≡ false)
 with_output bits n port absent =
-    let whole : 1 * 2 ^ (n % 32) % 4294967296 ≡ 2 ^ (n % 32) = one_shl (n % 32) 32 (mod_below n 32 (omega arith)) in
-    let both : bit_at (bit_or bits (2 ^ (n % 32))) (bit_of port) ≡ 0 = rw whole at absent in
-    let parts = neither _ _ (sym (bit_at_or bits (2 ^ (n % 32)) (bit_of port)) ∙ both) in (
-      parts.0,
-      elim (cases_Bool (n == port)) [
-        | inl same ↦
-            let there : bit_at (2 ^ (n % 32)) (bit_of port) ≡ 1 = rw (← eqb-true n port same) (bit_at-pow_same (n % 32)) in
-            absurd (omega (arith, there, parts.1))
-        | inr other ↦ other
-      ],
-    )
+    let parts = neither _ _ (sym (bit_at_or bits (2 ^ bit_of n) (bit_of port)) ∙ absent) in (parts.0, of_output n port parts.1)

@@ -29,52 +29,54 @@ pub struct PortFilter {
     single: bool,
 }
 
+// The bit of a port, alone.
+fn mask_of(port: u16) -> u32
+    ensures { result ≡ 2 ^ bit_of port }
+{
+    1 << (port % BITS)
+}
+
+// The bits with that of the port of one more action, if it is an output.
+fn with_bit(bits: u32, action: &DpAction) -> u32
+    ensures { (port : ℕ) → bit_at result (bit_of port) ≡ 0
+        → (bit_at bits (bit_of port) ≡ 0) × (sends_to port action.now ≡ false) }
+{
+    match action {
+        DpAction::Output(port) => bits | mask_of(*port),
+        _ => bits,
+    }
+}
+
+// A bit for each port that actions send to.
+fn bits_of(actions: &[DpAction]) -> u32
+    ensures { (port : ℕ) → bit_at result (bit_of port) ≡ 0
+        → All (λ a. sends_to port a ≡ false) actions.now }
+{
+    let mut bits = 0;
+    'actions: for action in actions {
+        bits = with_bit(bits, action);
+    }
+    bits
+}
+
 impl PortFilter {
-    // A filter that has no bit yet, and tells whether the actions are a single output.
-    fn without_bits(actions: &[DpAction]) -> PortFilter
-        ensures { IsSingle actions.now result }
-    {
-        match actions {
-            [DpAction::Output(port)] => PortFilter {
-                bits: 0,
-                port: *port,
-                single: true,
-            },
-            _ => PortFilter {
-                bits: 0,
-                port: 0,
-                single: false,
-            },
-        }
-    }
-
-    // The filter with the port of one more action, if it is an output.
-    fn with(self, action: &DpAction) -> PortFilter
-        ensures port { result.port ≡ self.port }
-        ensures single { result.single ≡ self.single }
-        ensures bits { (port : ℕ) → bit_at result.bits (bit_of port) ≡ 0
-            → (bit_at self.bits (bit_of port) ≡ 0) × (sends_to port action.now ≡ false) }
-    {
-        match action {
-            DpAction::Output(port) => PortFilter {
-                bits: self.bits | 1 << (port % BITS),
-                port: self.port,
-                single: self.single,
-            },
-            _ => self,
-        }
-    }
-
-    // The filter of actions.
+    // The filter of actions. Most lists are one output.
     fn of(actions: &[DpAction]) -> PortFilter
         ensures passes { PassesAll actions.now result }
         ensures single { IsSingle actions.now result }
     {
-        let mut filter = PortFilter::without_bits(actions);
-        'actions: for action in actions {
-            filter = filter.with(action);
+        match actions {
+            [DpAction::Output(port)] => PortFilter {
+                bits: mask_of(*port),
+                port: *port,
+                single: true,
+            },
+            _ => PortFilter {
+                bits: bits_of(actions),
+                port: 0,
+                single: false,
+            },
         }
-        filter
     }
 
     /// Whether the port's bit is there.
@@ -104,13 +106,6 @@ impl PortFilter {
     }
 }
 
-// The bit of a port, alone.
-fn mask_of(port: u16) -> u32
-    ensures { result ≡ 2 ^ bit_of port }
-{
-    1 << (port % BITS)
-}
-
 // The bits that some filters have together.
 fn joined_bits(filters: &[PortFilter]) -> u32
     ensures { (n : ℕ) → bit_at result n ≡ 0
@@ -125,7 +120,8 @@ fn joined_bits(filters: &[PortFilter]) -> u32
 
 /// The place of the next filter, from one on, that has the bit of a port; as many as there are where none has it.
 ///
-/// Of what a port doesn't get this is all that is done for it, so several filters are looked at together.
+/// Where one frame goes out at a port, the next one often does too, so that filter is looked at first. Of what a port doesn't
+/// get this is all that is done for it, so several filters are looked at together.
 pub(crate) fn next_with_bit(filters: &[PortFilter], from: usize, port: u16) -> usize
     requires { from ≤ length filters.now }
     ensures from { from ≤ result }
@@ -134,6 +130,9 @@ pub(crate) fn next_with_bit(filters: &[PortFilter], from: usize, port: u16) -> u
 {
     let mask = mask_of(port);
     let mut at = from;
+    if at < filters.len() && filters[at].bits & mask != 0 {
+        return at;
+    }
     'several: while filters.len() - at >= AT_ONCE
         && joined_bits(&filters[at..at + AT_ONCE]) & mask == 0
     {
