@@ -9,8 +9,10 @@ import subprocess
 import sys
 
 # The program that asks parts of the switch, and where it is built.
-LAYERS = os.path.join(os.path.dirname(os.path.dirname(os.path.abspath(__file__))), "crates", "tool_layers")
-PROGRAM = os.path.join(LAYERS, "out", "tool_layers")
+TOP = os.path.dirname(os.path.dirname(os.path.abspath(__file__)))
+LAUNCHER = os.path.join(TOP, "tools", "launch")
+LAYERS = "tool_layers"
+PROGRAM = os.path.join(TOP, "crates", LAYERS, "out", LAYERS)
 
 # Of ptrace(2): what it is asked, and that a process is held as it ends.
 PTRACE_CONT, PTRACE_SEIZE, PTRACE_O_TRACEEXIT = 7, 0x4206, 0x40
@@ -87,20 +89,19 @@ def resident_peak(process):
         return int(re.search(r"^VmHWM:\s*(\d+) kB", file.read(), re.MULTILINE)[1]) * 1024
 
 
-def build(crate, words):
-    """Proves and builds the program of a crate, by a run with these words in its folder. Without `rt` all ends here."""
-    name = os.path.basename(crate)
+def build(name):
+    """Has the launcher prove and build a program where it isn't built here, or a source is newer. Without `rt` all ends
+    here."""
     if not shutil.which("rt"):
         print(f"bench: {name} is not built, since `rt` of the Rattle kit is not on the PATH; nothing is measured")
         sys.exit()
-    ran = subprocess.run(["rt", "run", "--", *words], cwd=crate, capture_output=True, text=True)
-    if ran.returncode != 0:
-        sys.exit(f"bench: {name} is not built:\n{ran.stdout}{ran.stderr}")
+    if subprocess.run([LAUNCHER, "--build", name]).returncode != 0:
+        sys.exit(f"bench: {name} is not built")
 
 
 def build_layers():
     """Proves and builds the program that asks parts of the switch."""
-    build(LAYERS, ["flows", "data/edits"])
+    build(LAYERS)
 
 
 def counts_cycles():
