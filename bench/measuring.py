@@ -8,9 +8,10 @@ import struct
 import subprocess
 import sys
 
-# The program that asks parts of the switch, and where it is built.
 TOP = os.path.dirname(os.path.dirname(os.path.abspath(__file__)))
 LAUNCHER = os.path.join(TOP, "tools", "launch")
+
+# The program that asks parts of the switch, and where it is built.
 LAYERS = "tool_layers"
 PROGRAM = os.path.join(TOP, "crates", LAYERS, "out", LAYERS)
 
@@ -90,13 +91,14 @@ def resident_peak(process):
 
 
 def build(name):
-    """Has the launcher prove and build a program where it isn't built here, or a source is newer. Without `rt` all ends
-    here."""
+    """Has the launcher prove and build a program where it isn't built here, or a source is newer. Where that needs `rt` and
+    there is none, all ends here."""
+    if subprocess.run([LAUNCHER, "--build", name]).returncode == 0:
+        return
     if not shutil.which("rt"):
-        print(f"bench: {name} is not built, since `rt` of the Rattle kit is not on the PATH; nothing is measured")
+        print("bench: nothing is measured")
         sys.exit()
-    if subprocess.run([LAUNCHER, "--build", name]).returncode != 0:
-        sys.exit(f"bench: {name} is not built")
+    sys.exit(f"bench: {name} is not built")
 
 
 def build_layers():
