@@ -1,5 +1,5 @@
 -- Texts that are added one after the other.
-use Rattle.std.proofs.Common.{◌≡◌, ℕ, List, ◌++◌, subst, ap, ◌∙◌, append_assoc, Result, Ok, String, string_bytes}
+use Rattle.std.proofs.Common.{◌≡◌, ℕ, List, ◌++◌, subst, ap, ◌∙◌, append_assoc, Result, Ok, Err, IsErr, String, string_bytes}
 use Rattle.std.proofs.lemmas.Result.{on_ok_weaker, on_err_weaker}
 use Rattle.text_numbers.specs.Added.{IsPrefix, Adds}
 
@@ -20,3 +20,9 @@ then {old = old} {mid = mid} {new = new} {one = one} {more = more} {r = r} first
 -- the same text, written otherwise
 pub same_text : {Z B F : Type 0} {old new : String Z} {one other : List ℕ} {r : Result B F} → one ≡ other → Adds old new one r → Adds old new other r
 same_text {old = old} {new = new} {r = r} e added = subst (λ t. Adds old new t r) e added
+
+-- what was added before a refusal
+pub stopped : {Z A B E F : Type 0} {old new : String Z} {one other : List ℕ} {e : E} {r : Result B F} → IsErr r → Adds {A = A} old new one (Err e)
+    → Adds old new other r
+stopped {r = Ok x} is added = absurd (cc is)
+stopped {r = Err f} is added = record { text = tt; kept = added.kept }

@@ -1,8 +1,19 @@
 use Rattle.std.proofs.Common.{refl}
-use Rattle.text_numbers.proofs.Adding.{then, same_text}
+use Rattle.text_numbers.proofs.Adding.{then, same_text, stopped}
 use Rattle.action_text.proofs.printing.print_set.Goals as goal
 
 pub returns : goal.returns
 returns c =
     same_text (rw (c.within_mask.ensures.value, c.name_of.ensures) refl) (
     then c.in_ok-print_word.ensures (then c.in_ok-print_value.ensures (then c.in_ok-print_word-2.ensures c.print_word-3.ensures)))
+
+pub returns-in_err-print_word : goal.returns-in_err-print_word
+returns-in_err-print_word c = stopped c.from_residual.ensures.0 c.in_err-print_word.ensures
+
+pub returns-in_err-print_value : goal.returns-in_err-print_value
+returns-in_err-print_value c = stopped c.from_residual-in_err-print_value.ensures.0 (then c.in_ok-print_word.ensures c.in_err-print_value.ensures)
+
+pub returns-in_err-print_word-2 : goal.returns-in_err-print_word-2
+returns-in_err-print_word-2 c =
+    stopped c.from_residual-in_err-print_word-2.ensures.0 (then c.in_ok-print_word.ensures (then c.in_ok-print_value.ensures
+    c.in_err-print_word-2.ensures))

@@ -1,4 +1,4 @@
-use Rattle.std.proofs.Common.{refl}
+use Rattle.std.proofs.Common.{refl, lit<}
 use Rattle.edge_io.specs.declared.outside.Failed.TheVariants as failed
 use Rattle.edge_io.proofs.Refusals as refusals
 use Rattle.edge_io.proofs.Whole as whole
@@ -90,3 +90,7 @@ returns-clause-only_read g c = λ t.
     whole.only_read (g.S.Shelf.told c.args.shelf.now) (g.S.Shelf.told c.open_file.new.self)
     (g.S.Shelf.told c.read_opened.new.shelf) c.args.name.now c.read_opened.result
     (c.in_ok-open_file.ensures.told t).ok (c.read_opened.ensures.told t)
+
+-- named, since the search writes the whole piece out
+pub read_opened-requires-clause-room : goal.read_opened-requires-clause-room
+read_opened-requires-clause-room g c = rw c.deref_mut.ensures.len (rw c.in_ok-piece.ensures.len (lit< tt))

@@ -8,7 +8,7 @@ use Rattle.spec_flow_text.specs.declared.shorthand.Shorthand.{Shorthand}
 use Rattle.spec_flow_text.specs.Printed.{Shown, shorthand_of, shown_field, shown, match_printed}
 use Rattle.rule_tables.specs.Views.{match_view}
 use Rattle.text_numbers.specs.Added.{Adds}
-use Rattle.text_numbers.proofs.Adding.{then, same_text}
+use Rattle.text_numbers.proofs.Adding.{then, same_text, stopped}
 use Rattle.match_text.specs.Parts.{registers, ethernet, network, others}
 use Rattle.match_text.specs.Shown.{items_text, begun_after}
 use Rattle.match_text.proofs.ItemTexts.{joined, both_printed, parts_printed}
@@ -50,3 +50,24 @@ returns c =
     ∙ text_of (match_view c.args.m.now) c.shorthand_of-shorthand.result c.shorthand_of-shorthand.ensures) (
     then c.in_ok-begun.ensures.added (then c.in_ok-begun-2.ensures.added (then c.in_ok-begun-3.ensures.added (
     then c.in_ok-begun-4.ensures.added (done c.in_ok-print_part.ensures.added)))))
+
+pub returns-in_err-begun : goal.returns-in_err-begun
+returns-in_err-begun c = stopped c.from_residual.ensures.0 c.in_err-begun.ensures.added
+
+pub returns-in_err-begun-2 : goal.returns-in_err-begun-2
+returns-in_err-begun-2 c = stopped c.from_residual-in_err-begun-2.ensures.0 (then c.in_ok-begun.ensures.added c.in_err-begun-2.ensures.added)
+
+pub returns-in_err-begun-3 : goal.returns-in_err-begun-3
+returns-in_err-begun-3 c =
+    stopped c.from_residual-in_err-begun-3.ensures.0 (then c.in_ok-begun.ensures.added (then c.in_ok-begun-2.ensures.added
+    c.in_err-begun-3.ensures.added))
+
+pub returns-in_err-begun-4 : goal.returns-in_err-begun-4
+returns-in_err-begun-4 c =
+    stopped c.from_residual-in_err-begun-4.ensures.0 (then c.in_ok-begun.ensures.added (then c.in_ok-begun-2.ensures.added (then
+    c.in_ok-begun-3.ensures.added c.in_err-begun-4.ensures.added)))
+
+pub returns-in_err-print_part : goal.returns-in_err-print_part
+returns-in_err-print_part c =
+    stopped c.from_residual-in_err-print_part.ensures.0 (then c.in_ok-begun.ensures.added (then c.in_ok-begun-2.ensures.added (then
+    c.in_ok-begun-3.ensures.added (then c.in_ok-begun-4.ensures.added c.in_err-print_part.ensures.added))))
