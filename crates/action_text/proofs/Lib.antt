@@ -7,3 +7,7 @@ pub mod Loads
 pub mod ArgumentLists
 pub mod Mods
 pub mod ListSteps
+pub mod Lists
+pub mod Numbers
+pub mod Commits
+pub mod Translations

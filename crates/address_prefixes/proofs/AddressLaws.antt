@@ -3,7 +3,7 @@ use Rattle.std.proofs.Common.{◌≡◌, List, map, sym, ap, subst, ◌∙◌}
 use Rattle.spec_keys.specs.declared.field_id.FieldId.TheVariants.{NwSrc, NwDst, Ipv6Src, Ipv6Dst}
 use Rattle.spec_keys.specs.Keys.{masked}
 use Rattle.spec_tables.specs.Rules.{Rule}
-use Rattle.translation_laws.specs.Members.{Among}
+use Rattle.table_laws.specs.Members.{Among}
 use Rattle.ovs_fields.specs.Packed.{numbers, bits}
 use Rattle.rule_tables.specs.declared.matching.Match.{Match}
 use Rattle.rule_tables.specs.Views.{match_view}

@@ -8,9 +8,9 @@ use Rattle.spec_keys.specs.Keys.{value_of, masked}
 use Rattle.spec_tables.specs.Rules as tables
 use Rattle.spec_tables.specs.Rules.{Rule}
 use Rattle.spec_xlate.specs.Lookup.{Prefix, prefix_length, prefix_of, prefixes}
-use Rattle.translation_laws.proofs.KeyLaws.{number_at-masked}
-use Rattle.translation_laws.proofs.MemberLaws.{Among, Among_in-filter, Among_in-map}
-use Rattle.translation_laws.proofs.PrefixLaws.{prefix_length-is}
+use Rattle.table_laws.proofs.KeyLaws.{number_at-masked}
+use Rattle.table_laws.proofs.MemberLaws.{Among, Among_in-filter, Among_in-map}
+use Rattle.table_laws.proofs.PrefixLaws.{prefix_length-is}
 use Rattle.address_prefixes.specs.Prefixes.{is_same, prefix_at, times}
 use Rattle.address_prefixes.proofs.tracker.Times.{times-cons, times-none}
 use Rattle.address_prefixes.specs.OfField.{is_of_key}

@@ -8,9 +8,9 @@ use Rattle.spec_keys.specs.Keys.{value_of, masked}
 use Rattle.spec_tables.specs.Rules.{Rule, is_matched}
 use Rattle.spec_xlate.specs.Lookup.{prefix_length, prefix_of, prefixes, begins_with, some_begins}
 use Rattle.ovs_fields.specs.Equality.{equal_from_same}
-use Rattle.translation_laws.proofs.KeyLaws.{number_at-masked}
-use Rattle.translation_laws.proofs.MemberLaws.{Among, list_any_from-Among}
-use Rattle.translation_laws.proofs.PrefixLaws.{prefix_length-is}
+use Rattle.table_laws.proofs.KeyLaws.{number_at-masked}
+use Rattle.table_laws.proofs.MemberLaws.{Among, list_any_from-Among}
+use Rattle.table_laws.proofs.PrefixLaws.{prefix_length-is}
 use Rattle.address_prefixes.specs.RuleLists.{NoneMatches}
 use Rattle.address_prefixes.proofs.FieldLaws.{stated_among}
 

@@ -4,7 +4,7 @@ use Rattle.spec_keys.specs.declared.field_id.FieldId.{FieldId}
 use Rattle.spec_keys.specs.Fields.{width_of}
 use Rattle.spec_keys.specs.Keys.{masked}
 use Rattle.spec_tables.specs.Rules.{Rule}
-use Rattle.translation_laws.specs.Members.{Among}
+use Rattle.table_laws.specs.Members.{Among}
 use Rattle.address_prefixes.specs.declared.pair.PairPrefixes.{PairPrefixes}
 use Rattle.address_prefixes.specs.Pairs.{PairTries, src_of, dst_of, ArePrefixesOf, HaveWidths, AreTriesOf, AreFew, HaveOnceMore, AreAlike, AreThere}
 use Rattle.address_prefixes.specs.RuleLists.{HasOneMore}

@@ -6,7 +6,7 @@ use Rattle.spec_keys.specs.Fields.{width_of}
 use Rattle.spec_keys.specs.Keys.{value_of, masked}
 use Rattle.spec_tables.specs.Rules.{Rule}
 use Rattle.spec_xlate.specs.Lookup.{Prefix, prefix_of, prefixes, deciding, some_begins}
-use Rattle.translation_laws.specs.Members.{Among}
+use Rattle.table_laws.specs.Members.{Among}
 use Rattle.address_prefixes.specs.declared.tracker.found.Found.{Found}
 use Rattle.address_prefixes.specs.Looks.{begun, IsFound}
 use Rattle.address_prefixes.specs.Prefixes as tries

@@ -2,7 +2,7 @@
 use Rattle.std.specs.Prelude.{◌≡◌, ℕ, suc, ◌<◌, ◌≤◌, max, if◌then◌else◌, List}
 use Rattle.std.specs.Int.{bit_at}
 use Rattle.spec_xlate.specs.Lookup.{Prefix, some_begins, deciding}
-use Rattle.translation_laws.specs.Members.{Among}
+use Rattle.table_laws.specs.Members.{Among}
 use Rattle.address_prefixes.specs.declared.tracker.found.Found.{Found}
 use Rattle.address_prefixes.specs.Prefixes.{in_common}
 

@@ -1,7 +1,7 @@
 -- Lists of rules: of which one has a rule once more, and of which a key matches none.
 use Rattle.std.specs.Prelude.{◌≡◌, ℕ, ◌+◌, Bool, false, if◌then◌else◌, List, count_by}
 use Rattle.spec_tables.specs.Rules.{Rule, is_matched}
-use Rattle.translation_laws.specs.Members.{Among}
+use Rattle.table_laws.specs.Members.{Among}
 
 -- the second has this rule once more than the first, in whatever order they stand
 abbrev pub HasOneMore : Rule → List Rule → List Rule → Type 0

@@ -1,7 +1,7 @@
 -- The prefixes of a trie, and how they stand in it.
 use Rattle.std.specs.Prelude.{◌≡◌, ℕ, ◌<◌, ◌≤◌, ◌^◌, List, [], ◌++◌, length, replicate}
 use Rattle.spec_xlate.specs.Lookup.{Prefix}
-use Rattle.translation_laws.specs.Members.{Among}
+use Rattle.table_laws.specs.Members.{Among}
 use Rattle.address_prefixes.specs.declared.tracker.trie.Trie.{Trie}
 use Rattle.address_prefixes.specs.declared.tracker.trie.Trie.TheVariants.{Empty, Fork'}
 use Rattle.address_prefixes.specs.declared.tracker.trie.Node.{Node}

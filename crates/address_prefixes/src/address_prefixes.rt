@@ -1,7 +1,7 @@
 ghost use Rattle.std.specs.Prelude.{◌≡◌, ◌+◌, ◌<◌, ◌^◌, ℕ, List, [], length, true, OnOk, OnErr};
 ghost use Rattle.spec_tables.specs.Rules.{Rule};
 ghost use Rattle.spec_xlate.specs.Lookup.{prefix_tests, tracked_fields};
-ghost use Rattle.translation_laws.specs.Members.{Among};
+ghost use Rattle.table_laws.specs.Members.{Among};
 ghost use Rattle.ovs_fields.specs.Packed.{numbers, bits};
 ghost use Rattle.rule_tables.specs.Views.{match_view};
 ghost use Rattle.address_prefixes.specs.RuleLists.{HasOneMore};

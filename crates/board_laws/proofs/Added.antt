@@ -8,8 +8,8 @@ use Rattle.spec_tables.specs.Edits.{Edit, is_named_by, is_reached_by, rule_of, w
 use Rattle.spec_tables.specs.Bundles.{edits_through}
 use Rattle.spec_case.specs.Run.{Run}
 use Rattle.spec_board.specs.Results.{switch_at, translated}
-use Rattle.translation_laws.proofs.MemberLaws.{Among, Among-append, Among-filter}
-use Rattle.translation_laws.proofs.WinnerLaws.{IsWinner, IsBestOf, winner-IsWinner}
+use Rattle.table_laws.proofs.MemberLaws.{Among, Among-append, Among-filter}
+use Rattle.table_laws.proofs.WinnerLaws.{IsWinner, IsBestOf, winner-IsWinner}
 use Rattle.board_laws.proofs.ListLaws.{Among-map}
 use Rattle.board_laws.proofs.Bounded.{each_visit}
 

@@ -11,7 +11,7 @@ use Rattle.spec_board.specs.State.{Entry, State}
 use Rattle.spec_board.specs.Results.{numbers_of}
 use Rattle.spec_board.specs.Effects.{effect}
 use Rattle.spec_board.specs.Journals.{Legal, opened}
-use Rattle.translation_laws.proofs.MemberLaws.{Among}
+use Rattle.table_laws.proofs.MemberLaws.{Among}
 use Rattle.board_laws.proofs.NumberLaws.{Rising, rising_push, rising_filter, numbers_of-append, among_number}
 use Rattle.board_laws.proofs.KeyFacts.{apart-sym}
 use Rattle.board_laws.proofs.Changes.{pay, hit, left_by, renewed_by, is_without, numbers-hit, numbers-paid, numbers-renewed, left_number}

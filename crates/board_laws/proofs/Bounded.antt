@@ -16,7 +16,7 @@ use Rattle.spec_xlate.specs.Needs.{is_met}
 use Rattle.spec_xlate.specs.Commit.{commit}
 use Rattle.spec_xlate.specs.Translation.{Switch, State, Mode, deepest, action_limit, lookup_limit, stopped, emit, emit_all, committed, in_port_of, is_other_port, other_ports, output, output_all, slice_bits, slice_of, write, lower_ttl, act, in_mode, run, visited, follow, with_lookups_left, enter, look, start, last_state, kept, pipe}
 use Rattle.spec_xlate.specs.Translation.Mode.{Going, ListEnded, Stopped}
-use Rattle.translation_laws.proofs.MemberLaws.{Among, Among-append, All_from-Among}
+use Rattle.table_laws.proofs.MemberLaws.{Among, Among-append, All_from-Among}
 
 -- The translation so far keeps to the limits, and each number of a rule that it visited has a property.
 record IsBounded (P : ℕ → Type 0) (s : State) : Type 0 where

@@ -5,7 +5,7 @@ use Rattle.spec_xlate.specs.Translation.{Translation}
 use Rattle.spec_board.specs.State.{Entry, Total}
 use Rattle.spec_board.specs.Results.{numbers_of}
 use Rattle.spec_board.specs.Effects.{is_among, hit_by, revalidated, credited_by}
-use Rattle.translation_laws.proofs.MemberLaws.{Among, Among-filter, Among_in-filter, Among_in-map}
+use Rattle.table_laws.proofs.MemberLaws.{Among, Among-filter, Among_in-filter, Among_in-map}
 use Rattle.board_laws.proofs.ListLaws.{Among-map}
 use Rattle.board_laws.proofs.NumberLaws.{number_among, among_number, numbers_of-map}
 

@@ -10,7 +10,7 @@ use Rattle.spec_board.specs.State.{Entry, State}
 use Rattle.spec_board.specs.Results.{key_at, mask_for, overlaps}
 use Rattle.spec_board.specs.Effects.{effect, is_among}
 use Rattle.spec_board.specs.Journals.{Legal}
-use Rattle.translation_laws.proofs.MemberLaws.{Among, Among_in-filter}
+use Rattle.table_laws.proofs.MemberLaws.{Among, Among_in-filter}
 use Rattle.board_laws.proofs.NumberLaws.{number_among, Among-is_among}
 use Rattle.board_laws.proofs.Origins.{Installs, installs}
 use Rattle.board_laws.proofs.Changes.{pay, hit, paid_head, left_by, is_without}

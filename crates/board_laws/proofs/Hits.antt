@@ -6,8 +6,8 @@ use Rattle.spec_board.specs.declared.looked.Looked.TheVariants.{Exact, Mega}
 use Rattle.spec_board.specs.State.{Entry, Slot, State}
 use Rattle.spec_board.specs.Cache.{slot_at, first_slot, second_slot, holds, cached}
 use Rattle.spec_board.specs.Results.{entry_of, numbers_of, covering, exact_entry, found_by, looked}
-use Rattle.translation_laws.proofs.MemberLaws.{Among}
-use Rattle.translation_laws.proofs.KeyLaws.{same-eq}
+use Rattle.table_laws.proofs.MemberLaws.{Among}
+use Rattle.table_laws.proofs.KeyLaws.{same-eq}
 use Rattle.board_laws.proofs.ListLaws.{find-some}
 use Rattle.board_laws.proofs.NumberLaws.{Rising, entry_of-some, entry_of-among}
 

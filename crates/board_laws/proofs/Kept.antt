@@ -9,7 +9,7 @@ use Rattle.spec_board.specs.State.{Entry, Slot, State, place_at, is_pending}
 use Rattle.spec_board.specs.Results.{key_at}
 use Rattle.spec_board.specs.Effects.{effect}
 use Rattle.spec_board.specs.Journals.{Legal, IsLegal, opened, after}
-use Rattle.translation_laws.proofs.MemberLaws.{Among}
+use Rattle.table_laws.proofs.MemberLaws.{Among}
 use Rattle.frame_laws.proofs.keys.KeyLaws.{key_of-IsClean, key_of-IsKey}
 use Rattle.board_laws.specs.Entries.{AreOfBytes, HasKeys, IsMade}
 use Rattle.board_laws.specs.Places.{ArePlaces}

@@ -7,7 +7,7 @@ use Rattle.spec_board.specs.Steps.{Step}
 use Rattle.spec_board.specs.State.{Entry, State}
 use Rattle.spec_board.specs.Effects.{effect}
 use Rattle.spec_board.specs.Journals.{Legal, IsLegal, opened, after}
-use Rattle.translation_laws.proofs.MemberLaws.{Among}
+use Rattle.table_laws.proofs.MemberLaws.{Among}
 use Rattle.board_laws.specs.Entries.{HasKeys}
 use Rattle.board_laws.specs.Versions.{HasVersionsInOrder, IsRecent}
 use Rattle.board_laws.proofs.Journals.{AreLegal, after_all, kept_along, next_le_all}

@@ -9,7 +9,7 @@ use Rattle.spec_board.specs.State.{State}
 use Rattle.spec_board.specs.Results.{numbers_of}
 use Rattle.spec_board.specs.Effects.{effect, is_among}
 use Rattle.spec_board.specs.Journals.{Legal}
-use Rattle.translation_laws.proofs.MemberLaws.{Among, Among-filter, Among-append_left}
+use Rattle.table_laws.proofs.MemberLaws.{Among, Among-filter, Among-append_left}
 use Rattle.board_laws.proofs.NumberLaws.{Rising, numbers_of-append}
 use Rattle.board_laws.proofs.Changes.{others, outside, left_by, renewed_by, numbers-hit, numbers-renewed, number_left}
 

@@ -14,7 +14,7 @@ use Rattle.spec_board.specs.Results.{key_at, switch_at, translated, entry_of}
 use Rattle.spec_board.specs.Effects.{effect, decided_as}
 use Rattle.spec_board.specs.Journals.{Legal, IsLegal, opened, after}
 use Rattle.spec_board.specs.Decisions.{Decision, decided_place, decision_at, decisions_from, decisions, visits_of, due_packets, due_bytes}
-use Rattle.translation_laws.proofs.MemberLaws.{All_from-Among}
+use Rattle.table_laws.proofs.MemberLaws.{All_from-Among}
 use Rattle.board_laws.specs.Entries.{HasKeys}
 use Rattle.board_laws.proofs.Refusals.{may_settle, may_look}
 use Rattle.board_laws.proofs.PlaceLaws.{waiting_written, decided_written, none_pending_yet}

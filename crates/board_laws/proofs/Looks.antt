@@ -5,7 +5,7 @@ use Rattle.spec_keys.specs.Keys.{agree}
 use Rattle.spec_board.specs.declared.looked.Looked.TheVariants.{Exact, Mega, Miss}
 use Rattle.spec_board.specs.State.{Entry, Slot, State}
 use Rattle.spec_board.specs.Results.{covering, exact_entry, found_by, looked}
-use Rattle.translation_laws.proofs.MemberLaws.{Among}
+use Rattle.table_laws.proofs.MemberLaws.{Among}
 use Rattle.board_laws.proofs.ListLaws.{find-some, find-none}
 use Rattle.board_laws.proofs.NumberLaws.{one_of_number}
 use Rattle.board_laws.proofs.KeyFacts.{one_covers}

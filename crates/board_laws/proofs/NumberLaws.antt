@@ -4,7 +4,7 @@ use Rattle.std.proofs.lemmas.Bool.{eqb-true, eq-eqb, ne_eqb, cond-true, cond-fal
 use Rattle.spec_board.specs.State.{Entry}
 use Rattle.spec_board.specs.Results.{entry_of, numbers_of}
 use Rattle.spec_board.specs.Effects.{is_among}
-use Rattle.translation_laws.proofs.MemberLaws.{Among, Among-append, Among-filter, Among_in-map}
+use Rattle.table_laws.proofs.MemberLaws.{Among, Among-append, Among-filter, Among_in-map}
 use Rattle.board_laws.proofs.ListLaws.{Among-map, find-some, list_any-some, list_any_among}
 
 -- The numbers rise.

@@ -14,8 +14,8 @@ use Rattle.spec_board.specs.State.{Entry, State, place_at, is_pending}
 use Rattle.spec_board.specs.Results.{key_at, translated, mask_for, entry_of, numbers_of, covering, overlaps, put_done, idle_time, is_same_translation, settled_beside}
 use Rattle.spec_board.specs.Effects.{effect, is_among, revalidated, new_entry, key_of_entry}
 use Rattle.spec_board.specs.Journals.{Legal}
-use Rattle.translation_laws.proofs.MemberLaws.{Among, Among-append, Among_in-filter}
-use Rattle.translation_laws.proofs.UnionLaws.{Within, joined_self, covers_from-Within}
+use Rattle.table_laws.proofs.MemberLaws.{Among, Among-append, Among_in-filter}
+use Rattle.table_laws.proofs.UnionLaws.{Within, joined_self, covers_from-Within}
 use Rattle.board_laws.proofs.ListLaws.{Among-map}
 use Rattle.board_laws.proofs.NumberLaws.{Rising, number_among, entry_of-some, one_of_number, is_among-Among, Among-is_among}
 use Rattle.board_laws.proofs.Refusals.{may_settle, may_put}

@@ -6,7 +6,7 @@ use Rattle.spec_xlate.specs.Translation.{Translation}
 use Rattle.spec_board.specs.State.{Entry, Total}
 use Rattle.spec_board.specs.Results.{numbers_of}
 use Rattle.spec_board.specs.Effects.{credited, credited_by, is_among, hit_by, revalidated}
-use Rattle.translation_laws.proofs.MemberLaws.{Among}
+use Rattle.table_laws.proofs.MemberLaws.{Among}
 use Rattle.spec_board.specs.Counts.{times_visited}
 use Rattle.board_laws.proofs.NumberLaws.{Rising, number_among}
 use Rattle.board_laws.proofs.Changes.{pay, hit, named, left_by, renewed_by, paid_totals}

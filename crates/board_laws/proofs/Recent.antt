@@ -10,7 +10,7 @@ use Rattle.spec_board.specs.State.{Entry, State}
 use Rattle.spec_board.specs.Results.{numbers_of}
 use Rattle.spec_board.specs.Effects.{effect, is_among}
 use Rattle.spec_board.specs.Journals.{Legal}
-use Rattle.translation_laws.proofs.MemberLaws.{Among}
+use Rattle.table_laws.proofs.MemberLaws.{Among}
 use Rattle.board_laws.specs.Versions.{HasVersionsInOrder, IsRecent}
 use Rattle.board_laws.proofs.NumberLaws.{number_among, Among-is_among}
 use Rattle.board_laws.proofs.Refusals.{may_end}

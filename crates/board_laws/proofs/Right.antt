@@ -5,9 +5,9 @@ use Rattle.spec_xlate.specs.Translation.{Translation}
 use Rattle.spec_case.specs.Run.{Run}
 use Rattle.spec_board.specs.State.{Entry, State, place_at, is_pending}
 use Rattle.spec_board.specs.Results.{key_at, switch_at, translated}
-use Rattle.translation_laws.proofs.MemberLaws.{Among}
-use Rattle.translation_laws.proofs.UnionLaws.{agree-covers}
-use Rattle.translation_laws.proofs.SoundLaws.{consulted-sound}
+use Rattle.table_laws.proofs.MemberLaws.{Among}
+use Rattle.table_laws.proofs.UnionLaws.{agree-covers}
+use Rattle.table_laws.proofs.SoundLaws.{consulted-sound}
 use Rattle.board_laws.specs.Entries.{IsMade, IsRight}
 use Rattle.board_laws.proofs.KeyFacts.{agree-sym}
 use Rattle.board_laws.proofs.Origins.{IsTranslated, Origin}

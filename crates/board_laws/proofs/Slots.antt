@@ -9,7 +9,7 @@ use Rattle.spec_board.specs.State.{Entry, Slot, State}
 use Rattle.spec_board.specs.Results.{key_at}
 use Rattle.spec_board.specs.Effects.{effect}
 use Rattle.spec_board.specs.Journals.{Legal}
-use Rattle.translation_laws.proofs.MemberLaws.{Among}
+use Rattle.table_laws.proofs.MemberLaws.{Among}
 use Rattle.board_laws.proofs.NumberLaws.{one_of_number}
 use Rattle.board_laws.proofs.Apart.{AreEntriesApart, made_le}
 use Rattle.board_laws.proofs.Origins.{IsNew, Was, was, origin}

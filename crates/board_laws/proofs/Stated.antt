@@ -14,7 +14,7 @@ use Rattle.spec_board.specs.declared.looked.Looked.TheVariants.{Miss}
 use Rattle.spec_board.specs.Effects.{effect}
 use Rattle.spec_board.specs.Journals.{Legal, IsLegal, IsComplete, after}
 use Rattle.spec_board.specs.Decisions.{IsDecided}
-use Rattle.translation_laws.proofs.MemberLaws.{Among, All_from-Among}
+use Rattle.table_laws.proofs.MemberLaws.{Among, All_from-Among}
 use Rattle.board_laws.specs.Entries.{HasKeys, IsMade, IsRight, AreApart, NamesCovering, IsFound}
 use Rattle.board_laws.specs.Counts.{HasBoundedCounts, IsUsed}
 use Rattle.board_laws.specs.Versions.{HasVersionsInOrder, IsRecent}

@@ -9,7 +9,7 @@ use Rattle.spec_board.specs.Steps.{Step, Open, Look, Settle, Begin, Put, End, Pr
 use Rattle.spec_board.specs.State.{Entry, State}
 use Rattle.spec_board.specs.Effects.{effect, is_among, hit_by, revalidated}
 use Rattle.spec_board.specs.Journals.{Legal, IsLegal, opened, after}
-use Rattle.translation_laws.proofs.MemberLaws.{Among, Among-append, Among-filter}
+use Rattle.table_laws.proofs.MemberLaws.{Among, Among-append, Among-filter}
 use Rattle.board_laws.specs.Counts.{IsUsed}
 use Rattle.board_laws.proofs.ListLaws.{Among-map}
 use Rattle.board_laws.proofs.Changes.{pay, hit, renew, is_without, left_by, renewed_by}

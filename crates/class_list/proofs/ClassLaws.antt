@@ -4,9 +4,9 @@ use Rattle.std.specs.Prelude.{if◌then◌else◌}
 use Rattle.std.proofs.lemmas.List.Elements.{All-head, All-tail}
 use Rattle.spec_tables.specs.Rules.{Match, is_matched}
 use Rattle.spec_xlate.specs.Translation.{Switch}
-use Rattle.spec_diff.specs.Classes.{Class, IsFrameKey, IsOf, IsRight, IsTold, IsDifference, one_if, holding, matches_of}
-use Rattle.spec_diff.specs.Lines.{Line, IsAsSaid, said_of, matches_in, differing, IsFirst, IsListed}
-use Rattle.spec_diff.specs.Lines.Said.{Alike, Differ}
+use Rattle.spec_tools.specs.Classes.{Class, IsFrameKey, IsOf, IsRight, IsTold, IsDifference, one_if, holding, matches_of}
+use Rattle.spec_tools.specs.Lines.{Line, IsAsSaid, said_of, matches_in, differing, IsFirst, IsListed}
+use Rattle.spec_tools.specs.Lines.Said.{Alike, Differ}
 use Rattle.class_list.specs.LineViews.{class_lines}
 
 pub all_differ : (classes : List Class) → differing (class_lines classes) ≡ matches_of classes

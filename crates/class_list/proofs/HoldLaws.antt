@@ -1,9 +1,9 @@
 -- Which keys cubes have, and what is settled of them.
 use Rattle.std.proofs.Common.{◌≡◌, ◌⊎◌, inl, inr, ℕ, zero, suc, ◌+◌, ◌<◌, Bool, true, false, if◌then◌else◌, List, [], ◌∷◌, ◌++◌, refl, sym, ap, ◌∙◌, subst, arith}
 use Rattle.spec_tables.specs.Rules.{Match, is_matched}
-use Rattle.spec_diff.specs.Classes.{one_if, holding}
-use Rattle.spec_diff.specs.Lines.{Said, Line, said_of, differing, differs}
-use Rattle.spec_diff.specs.Lines.Said.{Alike, Differ}
+use Rattle.spec_tools.specs.Classes.{one_if, holding}
+use Rattle.spec_tools.specs.Lines.{Said, Line, said_of, differing, differs}
+use Rattle.spec_tools.specs.Lines.Said.{Alike, Differ}
 use Rattle.ovs_fields.specs.Packed.{numbers}
 use Rattle.table_diff.specs.declared.cube.Cube.{Cube}
 use Rattle.table_diff.specs.Cubes.{cube_view, cubes_view, IsSplit}

@@ -5,9 +5,9 @@ use Rattle.std.proofs.lemmas.Bool.{cases_eq}
 use Rattle.std.proofs.lemmas.List.{append-nil, drop_more, get_or_read, get_or-map, take-map, length-map}
 use Rattle.spec_tables.specs.Rules.{Match, is_matched}
 use Rattle.spec_xlate.specs.Translation.{Switch}
-use Rattle.spec_diff.specs.Classes.{one_if, holding, from_port}
-use Rattle.spec_diff.specs.Lines as spec
-use Rattle.spec_diff.specs.Lines.{differs, differing, matches_in, IsAsSaid, IsFirst, IsListed}
+use Rattle.spec_tools.specs.Classes.{one_if, holding, from_port}
+use Rattle.spec_tools.specs.Lines as spec
+use Rattle.spec_tools.specs.Lines.{differs, differing, matches_in, IsAsSaid, IsFirst, IsListed}
 use Rattle.ovs_fields.specs.Packed.{numbers}
 use Rattle.table_diff.specs.declared.class.Class.{Class}
 use Rattle.table_diff.specs.Cubes.{cube_view, class_view, classes_view}

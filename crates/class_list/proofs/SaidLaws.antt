@@ -3,10 +3,10 @@ use Rattle.std.proofs.Common.{◌≡◌, ℕ, zero, suc, ◌+◌, ◌<◌, ◌�
 use Rattle.std.proofs.lemmas.List.{drop_more}
 use Rattle.spec_keys.specs.Keys.{masked}
 use Rattle.spec_tables.specs.Rules.{Match, is_matched}
-use Rattle.translation_laws.proofs.KeyLaws.{same_refl, agree-masked}
-use Rattle.spec_diff.specs.Lines as spec
-use Rattle.spec_diff.specs.Lines.{Said, said_of}
-use Rattle.spec_diff.specs.Lines.Said.{Alike}
+use Rattle.table_laws.proofs.KeyLaws.{same_refl, agree-masked}
+use Rattle.spec_tools.specs.Lines as spec
+use Rattle.spec_tools.specs.Lines.{Said, said_of}
+use Rattle.spec_tools.specs.Lines.Said.{Alike}
 use Rattle.ovs_fields.specs.Packed.{numbers, bits}
 use Rattle.table_diff.specs.declared.cube.Cube.{Cube}
 use Rattle.table_diff.specs.Cubes.{cube_view}

@@ -2,8 +2,8 @@
 use Rattle.std.specs.Prelude.{◌≡◌, ◌⊎◌, ℕ, ◌<◌, List, IsTrue}
 use Rattle.spec_keys.specs.Keys.{IsKey}
 use Rattle.spec_tables.specs.Rules.{Match, is_matched}
-use Rattle.spec_diff.specs.Classes.{holding}
-use Rattle.spec_diff.specs.Lines.{Line, said_of}
+use Rattle.spec_tools.specs.Classes.{holding}
+use Rattle.spec_tools.specs.Lines.{Line, said_of}
 
 -- Of each key of a match lines say what they say of the match's own.
 abbrev pub IsEven : List Line → Match → Type 0

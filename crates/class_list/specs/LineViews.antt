@@ -1,10 +1,10 @@
 -- Lines as the definitions see them.
 use Rattle.std.specs.Prelude.{List, map, Option, Some, None}
 use Rattle.std.specs.Borrow.{Bor}
-use Rattle.spec_diff.specs.Classes as diff
-use Rattle.spec_diff.specs.Lines as spec
-use Rattle.spec_diff.specs.Lines.{Said}
-use Rattle.spec_diff.specs.Lines.Said.{Alike, Differ}
+use Rattle.spec_tools.specs.Classes as diff
+use Rattle.spec_tools.specs.Lines as spec
+use Rattle.spec_tools.specs.Lines.{Said}
+use Rattle.spec_tools.specs.Lines.Said.{Alike, Differ}
 use Rattle.table_diff.specs.declared.class.Class.{Class}
 use Rattle.table_diff.specs.Cubes.{cube_view}
 use Rattle.table_diff.specs.Deeds.{deed_view}

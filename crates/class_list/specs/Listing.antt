@@ -1,8 +1,8 @@
 -- What is asked of lines besides that they say the same as others.
 use Rattle.std.specs.Prelude.{◌≡◌, ℕ, ◌<◌, List, take, map, slice_index_or, IsTrue}
 use Rattle.spec_tables.specs.Rules.{Match}
-use Rattle.spec_diff.specs.Classes.{from_port, holding}
-use Rattle.spec_diff.specs.Lines.{matches_in, differs}
+use Rattle.spec_tools.specs.Classes.{from_port, holding}
+use Rattle.spec_tools.specs.Lines.{matches_in, differs}
 use Rattle.ovs_fields.specs.Packed.{numbers}
 use Rattle.class_list.specs.declared.line.Line.{Line}
 use Rattle.class_list.specs.LineViews.{said_view, lines_view}

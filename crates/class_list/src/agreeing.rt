@@ -1,7 +1,7 @@
 //! Whether two lists of lines say the same of each packet.
 ghost use Rattle.std.specs.Prelude.{◌≡◌, ◌++◌, [], ◌∷◌, ◌<◌, true, IfNone, IfOk, OnOk};
 ghost use Rattle.spec_keys.specs.Fields.{width_of};
-ghost use Rattle.spec_diff.specs.Lines.{differing};
+ghost use Rattle.spec_tools.specs.Lines.{differing};
 ghost use Rattle.table_diff.specs.Cubes.{cube_view, cubes_view};
 ghost use Rattle.class_list.specs.LineViews.{line_view, lines_view};
 ghost use Rattle.class_list.specs.Agreeing.{IsEven, IsSettled, HaveTheSame, SayTheSame};

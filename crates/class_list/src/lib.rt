@@ -16,7 +16,7 @@
 //!
 //! # What is promised
 //!
-//! Of the classes of a difference `lines_of` gives lines that are `IsListed` of `spec_diff`: to each frame that comes
+//! Of the classes of a difference `lines_of` gives lines that are `IsListed` of `spec_tools`: to each frame that comes
 //! in by one of the ports both versions do what the first line says that has it, and where that is `=`, or none has it,
 //! they do the same. No line that tells a difference has a frame of another port, and each is the first for some frame.
 //! Where there is no such line there is none.

@@ -2,8 +2,8 @@
 ghost use Rattle.std.specs.Prelude.{◌≡◌, ◌≢◌, ℕ, List, [], ◌∷◌, true, length, IfOk, IsTrue};
 ghost use Rattle.spec_tables.specs.Rules.{is_matched};
 ghost use Rattle.spec_xlate.specs.Translation.{Switch};
-ghost use Rattle.spec_diff.specs.Classes.{holding};
-ghost use Rattle.spec_diff.specs.Lines.{matches_in, differing, differs, IsListed};
+ghost use Rattle.spec_tools.specs.Classes.{holding};
+ghost use Rattle.spec_tools.specs.Lines.{matches_in, differing, differs, IsListed};
 ghost use Rattle.ovs_fields.specs.Packed.{numbers};
 ghost use Rattle.table_diff.specs.Cubes.{cube_view};
 ghost use Rattle.class_list.specs.LineViews.{said_view, line_view, lines_view};

@@ -1,7 +1,7 @@
 //! What lines say of the packets of a cube.
 ghost use Rattle.std.specs.Prelude.{◌≡◌, true, IfNone};
 ghost use Rattle.spec_tables.specs.Rules.{is_matched};
-ghost use Rattle.spec_diff.specs.Lines.{said_of};
+ghost use Rattle.spec_tools.specs.Lines.{said_of};
 ghost use Rattle.ovs_fields.specs.Packed.{numbers, bits};
 ghost use Rattle.table_diff.specs.Cubes.{cube_view};
 ghost use Rattle.table_diff.specs.Deciding.{is_told};

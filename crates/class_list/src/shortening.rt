@@ -1,8 +1,8 @@
 //! The lines of a difference: those that are proposed, if they say the same as the classes and are fewer.
 ghost use Rattle.std.specs.Prelude.{IfOk};
 ghost use Rattle.spec_xlate.specs.Translation.{Switch, switch_of};
-ghost use Rattle.spec_diff.specs.Classes.{IsDifference};
-ghost use Rattle.spec_diff.specs.Lines.{IsListed};
+ghost use Rattle.spec_tools.specs.Classes.{IsDifference};
+ghost use Rattle.spec_tools.specs.Lines.{IsListed};
 ghost use Rattle.dump_lines.specs.Live.{IsOfEdits, live_in};
 ghost use Rattle.pipe_model.specs.Runnable.{AreRunnable};
 ghost use Rattle.table_diff.specs.Cubes.{classes_view};

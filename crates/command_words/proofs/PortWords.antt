@@ -4,7 +4,7 @@ use Rattle.std.specs.Prelude.{◌||◌, nat_eq}
 use Rattle.std.specs.List.{list_any, AllByRecursion, IsDistinct}
 use Rattle.std.specs.Borrow.{Bor}
 use Rattle.std.proofs.lemmas.List.{drop_more, drop_all, map_push}
-use Rattle.spec_words.specs.Words.{PortWord, port_word, is_named, new_port, port_words}
+use Rattle.spec_input.specs.Words.{PortWord, port_word, is_named, new_port, port_words}
 use Rattle.spec_flow_text.specs.Numbers.{◌>>=◌}
 use Rattle.command_words.specs.PortViews.{lent, ports_said}
 use Rattle.command_words.proofs.Lists.{any_in_view}

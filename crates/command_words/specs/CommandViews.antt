@@ -3,7 +3,7 @@ use Rattle.std.specs.Prelude.{◌≡◌, ◌≤◌, ℕ, List, map, Option, IfSo
 use Rattle.std.specs.Option.{option_map}
 use Rattle.std.specs.Borrow.{Bor}
 use Rattle.std.specs.declared.alloc.Global.{Global}
-use Rattle.spec_words.specs.Words as words
+use Rattle.spec_input.specs.Words as words
 use Rattle.command_words.specs.declared.ports.PortWord.{PortWord}
 use Rattle.command_words.specs.declared.reading.FilesNamed.{FilesNamed}
 use Rattle.command_words.specs.declared.reading.Input.{Input}

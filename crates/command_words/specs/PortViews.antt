@@ -2,7 +2,7 @@
 use Rattle.std.specs.Prelude.{◌≤◌, ℕ, nat_eq, List, length, map}
 use Rattle.std.specs.List.{IsDistinct}
 use Rattle.std.specs.Borrow.{Bor}
-use Rattle.spec_words.specs.Words as words
+use Rattle.spec_input.specs.Words as words
 use Rattle.command_words.specs.declared.ports.PortWord.{PortWord}
 
 -- the bytes of texts that are lent

@@ -7,7 +7,7 @@
 //!
 //! # What is promised
 //!
-//! `spec_words` says which words the program takes and what they say (`command_of`): by what `clap` has of the command,
+//! `spec_input` says which words the program takes and what they say (`command_of`): by what `clap` has of the command,
 //! and then by the tests of numbers, names and ports. This crate answers just that, or out of memory.
 //!
 //! # How

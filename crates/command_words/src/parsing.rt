@@ -1,7 +1,7 @@
 //! The command as `clap` knows it, and its matches.
 ghost use Rattle.std.specs.Prelude.{◌≡◌, ◌≢◌, [], false, Some, IfOk, IfNone, IfSome};
 ghost use Rattle.clap.specs.Words.{app_of, rule_of, rows_of, found_of, fault_of, matches_of};
-ghost use Rattle.spec_words.specs.Words.{option, flag, positional, several, plain_app, app};
+ghost use Rattle.spec_input.specs.Words.{option, flag, positional, several, plain_app, app};
 ghost use Rattle.command_words.specs.CommandViews.{texts};
 
 use clap::error::ErrorKind;

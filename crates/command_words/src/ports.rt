@@ -4,7 +4,7 @@ ghost use Rattle.std.specs.List.{list_any, IsDistinct};
 ghost use Rattle.std.specs.Option.{option_map};
 ghost use Rattle.spec_flow_text.specs.Characters.{equals_sign};
 ghost use Rattle.spec_flow_text.specs.Numbers.{split_once};
-ghost use Rattle.spec_words.specs.Words.{port_number, port_word, is_named, new_port, port_words};
+ghost use Rattle.spec_input.specs.Words.{port_number, port_word, is_named, new_port, port_words};
 ghost use Rattle.command_words.specs.PortViews.{lent, port_view, ports_view, ports_said};
 
 use std::alloc::{AllocError, Global};
@@ -18,7 +18,7 @@ pub struct PortWord<'a> {
 }
 
 /// The number of a port: decimal digits without leading zeros, from 1 to 65,279.
-#[tactic(auto, unfolding(spec_words::specs::Words::port_number))]
+#[tactic(auto, unfolding(spec_input::specs::Words::port_number))]
 pub fn read_port_number(text: &[u8]) -> Option<u16>
     ensures { result ≡ port_number text.now }
 {
@@ -32,7 +32,7 @@ fn split_at_equals(word: &str) -> Option<(&str, &str)>
     word.split_once('=')
 }
 
-#[tactic(auto, unfolding(spec_words::specs::Words::port_word))]
+#[tactic(auto, unfolding(spec_input::specs::Words::port_word))]
 fn read_port_word(word: &str) -> Option<PortWord<'_>>
     ensures { option_map port_view result ≡ port_word word.now }
 {
@@ -47,7 +47,7 @@ fn names_port(ports: &[PortWord<'_>], port: u16) -> bool
     ports.iter().any(|w| w.port == port)
 }
 
-#[tactic(auto, using(crate::proofs::Lists::any_in_view), unfolding(spec_words::specs::Words::new_port))]
+#[tactic(auto, using(crate::proofs::Lists::any_in_view), unfolding(spec_input::specs::Words::new_port))]
 fn read_new_port<'a>(before: &[PortWord<'_>], word: &'a str) -> Option<PortWord<'a>>
     ensures { option_map port_view result ≡ new_port (ports_view before.now) word.now }
 {

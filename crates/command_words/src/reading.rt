@@ -2,7 +2,7 @@
 ghost use Rattle.std.specs.Prelude.{◌≡◌, ◌≤◌, None, Some, IfOk, IfSome, codes};
 ghost use Rattle.std.specs.Option.{option_map};
 ghost use Rattle.clap.specs.Words.{rows_of, found_of, first_of, all_of};
-ghost use Rattle.spec_words.specs.Words.{most_workers, most_flows, most_made, number_of, workers_of, flow_limit_of, name_in, name_of, given_name, has_flag, ports_of, given_steps, files_in, is_alone, input_by, command_in, command_of};
+ghost use Rattle.spec_input.specs.Words.{most_workers, most_flows, most_made, number_of, workers_of, flow_limit_of, name_in, name_of, given_name, has_flag, ports_of, given_steps, files_in, is_alone, input_by, command_in, command_of};
 ghost use Rattle.command_words.specs.PortViews.{lent, ports_view, ArePorts};
 ghost use Rattle.command_words.specs.CommandViews.{texts, text_view, input_view, command_view, IfFiles, IfSteps, HasWorkers};
 
@@ -180,7 +180,7 @@ fn ports_of<'a>(
     }
 }
 
-#[tactic(auto, unfolding(spec_words::specs::Words::files_in))]
+#[tactic(auto, unfolding(spec_input::specs::Words::files_in))]
 fn files_in<'a>(
     alloc: Global,
     found: &ArgMatches<'a>,
@@ -256,7 +256,7 @@ fn input_by<'a>(
 }
 
 // What matches say.
-#[tactic(auto, unfolding(spec_words::specs::Words::command_in))]
+#[tactic(auto, unfolding(spec_input::specs::Words::command_in))]
 fn command_in<'a>(alloc: Global, found: &ArgMatches<'a>) -> Result<Option<Command<'a>>, AllocError>
     ensures value { IfOk result
         (λ said. option_map command_view said ≡ command_in (rows_of (found_of found.now))) }
@@ -286,7 +286,7 @@ fn command_in<'a>(alloc: Global, found: &ArgMatches<'a>) -> Result<Option<Comman
 /// and no two of one number; there are no workers where steps are given.
 ///
 /// It takes memory for what `clap` makes of the words, and for the list of ports.
-#[tactic(auto, unfolding(spec_words::specs::Words::command_of))]
+#[tactic(auto, unfolding(spec_input::specs::Words::command_of))]
 pub fn read_command(alloc: Global, words: &[String]) -> Result<Option<Command<'_>>, AllocError>
     ensures value { IfOk result
         (λ said. option_map command_view said ≡ command_of (texts words.now)) }

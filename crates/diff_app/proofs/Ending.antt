@@ -12,9 +12,9 @@ use Rattle.switch_input.specs.declared.refusals.refusal.InputFault.{InputFault}
 use Rattle.switch_input.specs.declared.refusals.refusal.InputFault.TheVariants as fault
 use Rattle.switch_input.specs.declared.refusals.refusal.InputRefusal.TheVariants as input
 use Rattle.switch_input.specs.Refused.{fault_view}
-use Rattle.spec_diff.specs.Verdict.{Accepted, Refusal as Refused, Usage as UsageOf, Input as InputOf, verdict, files_opened}
-use Rattle.spec_diff.specs.Outputs.{IsCut}
-use Rattle.spec_diff.specs.Statuses.{differ_status, is_refusal, status_of as refusal_status}
+use Rattle.spec_tools.specs.DiffVerdict.{Accepted, Refusal as Refused, Usage as UsageOf, Input as InputOf, verdict, files_opened}
+use Rattle.spec_tools.specs.DiffOutputs.{IsCut}
+use Rattle.spec_tools.specs.DiffStatuses.{differ_status, is_refusal, status_of as refusal_status}
 use Rattle.diff_app.specs.declared.refusal.Refusal.{Refusal}
 use Rattle.diff_app.specs.declared.refusal.Refusal.TheVariants.{Usage, Reading, TooManyCubes, Printing}
 use Rattle.diff_app.specs.Refused.{status_of, text_of, IsSilent}

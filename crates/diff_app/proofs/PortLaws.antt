@@ -5,9 +5,9 @@ use Rattle.std.specs.declared.alloc.Global.{Global}
 use Rattle.std.proofs.lemmas.Bool.Decides.{nat_tests}
 use Rattle.std.proofs.lemmas.List.{drop_more, length-map}
 use Rattle.command_words.specs.CommandViews.{texts}
-use Rattle.spec_words.specs.Words.{most_ports}
-use Rattle.spec_trace.specs.Words.{new_port}
-use Rattle.spec_diff.specs.Words.{ports_with, ports_of, command_from, command_in}
+use Rattle.spec_input.specs.Words.{most_ports}
+use Rattle.spec_tools.specs.TraceWords.{new_port}
+use Rattle.spec_tools.specs.DiffWords.{ports_with, ports_of, command_from, command_in}
 
 pub one_port : (before word : List ℕ) (words : List (List ℕ)) (port : ℕ) → new_port before word ≡ Some port
     → ports_with before (word ∷ words) ≡ ports_with (before ++ port ∷ []) words

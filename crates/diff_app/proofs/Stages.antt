@@ -2,7 +2,7 @@
 use Rattle.std.proofs.Common.{◌≡◌, ℕ, List, [], ◌∷◌, ◌++◌, length, refl, sym, ap, ◌∙◌, subst, arith}
 use Rattle.std.specs.Prelude.{Some, None, Ok, Err}
 use Rattle.spec_tables.specs.Bundles.{edits_through}
-use Rattle.spec_script.specs.Script.{Script}
+use Rattle.spec_input.specs.Script.{Script}
 use Rattle.spec_run.specs.Verdict as run
 use Rattle.spec_run.specs.Verdict.{Files, script_in}
 use Rattle.rule_tables.specs.History.{History}
@@ -21,8 +21,8 @@ use Rattle.switch_input.specs.Reading.{Ending, HasOpenedUntil}
 use Rattle.switch_input.specs.Refused as reading
 use Rattle.switch_input.specs.Refused.{fault_view}
 use Rattle.switch_input.proofs.refusals.Reading.{opened_then}
-use Rattle.spec_diff.specs.Words.{Command, command_of}
-use Rattle.spec_diff.specs.Verdict.{Input, rules_of, accepted, case_of, verdict_of, verdict, command_in, opened_for, opened_after, files_opened, Usage as UsageOf}
+use Rattle.spec_tools.specs.DiffWords.{Command, command_of}
+use Rattle.spec_tools.specs.DiffVerdict.{Input, rules_of, accepted, case_of, verdict_of, verdict, command_in, opened_for, opened_after, files_opened, Usage as UsageOf}
 use Rattle.diff_app.specs.InputViews.{IsEditsFile}
 use Rattle.diff_app.specs.declared.refusal.Refusal.TheVariants.{Reading}
 use Rattle.diff_app.specs.Refused.{Explains}

@@ -1,8 +1,8 @@
 -- What stands where no difference is told, by the refusal.
 use Rattle.std.proofs.Common.{◌≡◌, ℕ, List, [], ◌∷◌, ◌⊎◌, inl, inr, refl}
 use Rattle.spec_run.specs.Statuses.{done_status}
-use Rattle.spec_diff.specs.Lines.{Line}
-use Rattle.spec_diff.specs.Statuses.{differ_status, found_status}
+use Rattle.spec_tools.specs.Lines.{Line}
+use Rattle.spec_tools.specs.DiffStatuses.{differ_status, found_status}
 use Rattle.edge_io.specs.declared.outside.Shelf as shelf
 use Rattle.edge_io.specs.declared.outside.Sink as sink
 use Rattle.diff_app.specs.declared.refusal.Refusal.{Refusal}

@@ -1,5 +1,5 @@
 -- The words, as the definitions see them.
-use Rattle.spec_diff.specs.Words as words
+use Rattle.spec_tools.specs.DiffWords as words
 use Rattle.diff_app.specs.declared.words.Command.{Command}
 
 abbrev pub command_view : Command → words.Command

@@ -9,9 +9,9 @@ use Rattle.edge_io.specs.declared.outside.Sink as sink
 use Rattle.edge_io.specs.Counts.{ReadFailed, with_fault}
 use Rattle.edge_io.specs.Opened.{HasOpened, HasOpenedPrefix, HasOpenedUpTo}
 use Rattle.edge_io.specs.ReadAll.{OnlyRead}
-use Rattle.spec_diff.specs.Verdict.{files_opened}
-use Rattle.spec_diff.specs.Outputs.{IsPrinted, IsCut, IsGivenUp}
-use Rattle.spec_diff.specs.Statuses.{differ_status, cubes_text, is_refusal, IsRefused, PrintsRefusal}
+use Rattle.spec_tools.specs.DiffVerdict.{files_opened}
+use Rattle.spec_tools.specs.DiffOutputs.{IsPrinted, IsCut, IsGivenUp}
+use Rattle.spec_tools.specs.DiffStatuses.{differ_status, cubes_text, is_refusal, IsRefused, PrintsRefusal}
 
 -- The call is made with these words, and with a shelf and a sink that are as here before it, and as here after it.
 module _ {S K : Type 0} (g : shelf.Ghosts S) (h : sink.Ghosts K) (words : List (List ℕ)) (old new : S) (said saying : K) where

@@ -3,13 +3,13 @@ use Rattle.std.specs.Prelude.{◌≡◌, ℕ, Bool, List, length, IsTrue}
 use Rattle.std.specs.List.{list_all}
 use Rattle.spec_tables.specs.Bundles.{AreBundles}
 use Rattle.spec_tables.specs.Edits.{has_sound_actions}
-use Rattle.spec_script.specs.Script.{Script}
+use Rattle.spec_input.specs.Script.{Script}
 use Rattle.rule_tables.specs.History.{history_of}
 use Rattle.edit_script.specs.ScriptViews.{script_view}
 use Rattle.pipe_model.specs.Runnable.{AreRunnable}
 use Rattle.dump_lines.specs.Live.{IsOfEdits, live_in}
 use Rattle.switch_input.specs.declared.edits.EditsFile.{EditsFile}
-use Rattle.spec_diff.specs.Verdict as verdicts
+use Rattle.spec_tools.specs.DiffVerdict as verdicts
 use Rattle.diff_app.specs.declared.inputs.Inputs.{Inputs}
 
 abbrev pub accepted_view : Inputs → verdicts.Accepted

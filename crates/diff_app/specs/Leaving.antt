@@ -6,8 +6,8 @@ use Rattle.edge_io.specs.declared.outside.Shelf as shelf
 use Rattle.edge_io.specs.declared.outside.Sink as sink
 use Rattle.edge_io.specs.Counts.{HasCause, with_fault}
 use Rattle.switch_input.specs.Reading.{Ending, Read, ReadsFiles}
-use Rattle.spec_diff.specs.Verdict.{verdict, files_opened}
-use Rattle.spec_diff.specs.Outputs.{IsCut, IsGivenUp}
+use Rattle.spec_tools.specs.DiffVerdict.{verdict, files_opened}
+use Rattle.spec_tools.specs.DiffOutputs.{IsCut, IsGivenUp}
 use Rattle.diff_app.specs.declared.refusal.Refusal.{Refusal}
 use Rattle.diff_app.specs.declared.refusal.Refusal.TheVariants.{Usage, Reading, TooManyCubes, Printing}
 use Rattle.diff_app.specs.Refused.{Explains, stop_of}

@@ -2,8 +2,8 @@
 use Rattle.std.specs.Prelude.{ℕ, Bool, if◌then◌else◌, List, [], ◌∷◌, ◌++◌, codes}
 use Rattle.std.specs.List.{list_any, flat_map}
 use Rattle.std.specs.Fmt.{decimal}
-use Rattle.spec_diff.specs.Lines.{Line}
-use Rattle.spec_diff.specs.Texts.{Kind, deed_text, is_same_kind, kinds_in, kind_line, kinds_text, line_text}
+use Rattle.spec_tools.specs.Lines.{Line}
+use Rattle.spec_tools.specs.DiffTexts.{Kind, deed_text, is_same_kind, kinds_in, kind_line, kinds_text, line_text}
 use Rattle.table_diff.specs.declared.class.Class.{Class}
 use Rattle.table_diff.specs.Deeds.{deed_view}
 

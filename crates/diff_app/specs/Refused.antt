@@ -7,8 +7,8 @@ use Rattle.switch_input.specs.Reading.{Ending, Read}
 use Rattle.switch_input.specs.Refused as reading
 use Rattle.switch_input.specs.Refused.{fault_view}
 use Rattle.switch_input.specs.Texts.{input_status, input_text}
-use Rattle.spec_diff.specs.Verdict as verdicts
-use Rattle.spec_diff.specs.Statuses.{usage_text, cubes_text}
+use Rattle.spec_tools.specs.DiffVerdict as verdicts
+use Rattle.spec_tools.specs.DiffStatuses.{usage_text, cubes_text}
 use Rattle.switch_input.specs.declared.refusals.refusal.InputRefusal.TheVariants as input
 use Rattle.table_diff.specs.declared.error.CompareError.{CompareError}
 use Rattle.table_diff.specs.declared.error.CompareError.TheVariants as compared

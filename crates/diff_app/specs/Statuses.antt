@@ -2,8 +2,8 @@
 use Rattle.std.specs.Prelude.{◌≡◌, ℕ, ◌⊎◌}
 use Rattle.spec_base.specs.Counts.{Rose}
 use Rattle.spec_run.specs.Statuses.{done_status, limit_status, read_fault_status, out_of_memory_status}
-use Rattle.spec_diff.specs.Verdict.{Refusal}
-use Rattle.spec_diff.specs.Statuses.{differ_status, status_of}
+use Rattle.spec_tools.specs.DiffVerdict.{Refusal}
+use Rattle.spec_tools.specs.DiffStatuses.{differ_status, status_of}
 use Rattle.edge_io.specs.declared.outside.Shelf as shelf
 use Rattle.edge_io.specs.declared.outside.Sink as sink
 

@@ -3,7 +3,7 @@ ghost use Rattle.std.specs.Prelude.{◌≡◌, ◌∷◌, [], Ok, IsTrue, IfOk, 
 ghost use Rattle.edge_io.specs.declared.outside.InUse.TheVariants.{Nothing};
 ghost use Rattle.command_words.specs.CommandViews.{texts};
 ghost use Rattle.edit_script.specs.ScriptViews.{script_view};
-ghost use Rattle.spec_diff.specs.Verdict.{case_of, verdict_of, verdict, opened_for, files_opened};
+ghost use Rattle.spec_tools.specs.DiffVerdict.{case_of, verdict_of, verdict, opened_for, files_opened};
 ghost use Rattle.diff_app.specs.Commands.{command_view};
 ghost use Rattle.diff_app.specs.InputViews.{accepted_view, accepted_of, AreComparable, IsEditsFile};
 ghost use Rattle.switch_input.specs.Reading.{ReadsFiles};

@@ -6,7 +6,7 @@
 //! # What is promised
 //!
 //! The contract of `run_diff` is one definition, `Ends` (specs/Ends.antt): the ways to end, by the status, and what
-//! holds with each, in the words of `spec_diff::run`. What is said of files holds where the shelf tells its bytes, and
+//! holds with each, in the words of `spec_tools::run`. What is said of files holds where the shelf tells its bytes, and
 //! what is said of text where the sink does.
 //!
 //! - Where all is done, the verdict accepts the words and both files, and exactly the text of a difference is

@@ -8,7 +8,7 @@
 //!
 //! # What is promised
 //!
-//! `print_difference` adds exactly the text that `spec_diff::run` gives, and nothing where there is no line. Out of
+//! `print_difference` adds exactly the text that `spec_tools::run` gives, and nothing where there is no line. Out of
 //! memory is the only error, and then the string has what it had, and perhaps a part of the text.
 //!
 //! # How
@@ -18,8 +18,7 @@
 //!
 //! # What is left to others
 //!
-//! The lines (`class_list`), matches (`dump_lines::megaflows`), datapath actions (`dp_text`) and flow actions
-//! (`action_text`).
+//! The lines (`class_list`), matches (`dump_lines::megaflows`), flow actions and datapath actions (`action_text`).
 
 mod kinds;
 mod text;

@@ -3,11 +3,11 @@ ghost use Rattle.spec_run.specs.Statuses.{done_status};
 ghost use Rattle.edge_io.specs.declared.outside.InUse.TheVariants.{Nothing};
 ghost use Rattle.edge_io.specs.Counts.{HasCause, with_fault};
 ghost use Rattle.command_words.specs.CommandViews.{texts};
-ghost use Rattle.spec_diff.specs.Progress.{IsUnfinished, cube_limit};
-ghost use Rattle.spec_diff.specs.Verdict.{old_switch, new_switch, verdict};
-ghost use Rattle.spec_diff.specs.Statuses.{differ_status, found_status};
-ghost use Rattle.spec_diff.specs.Outputs.{Tells};
-ghost use Rattle.spec_diff.specs.Texts.{text_of_lines};
+ghost use Rattle.spec_tools.specs.Progress.{IsUnfinished, cube_limit};
+ghost use Rattle.spec_tools.specs.DiffVerdict.{old_switch, new_switch, verdict};
+ghost use Rattle.spec_tools.specs.DiffStatuses.{differ_status, found_status};
+ghost use Rattle.spec_tools.specs.DiffOutputs.{Tells};
+ghost use Rattle.spec_tools.specs.DiffTexts.{text_of_lines};
 ghost use Rattle.class_list.specs.LineViews.{lines_view};
 ghost use Rattle.diff_app.specs.InputViews.{accepted_view, AreComparable};
 ghost use Rattle.diff_app.specs.Ends.{Ends, IsCompared};
@@ -122,7 +122,7 @@ fn end<S: Shelf, K: Sink>(alloc: Global, words: &[String], shelf: &mut S, say: &
 /// counts classes and pairs. Nothing is printed where no packet is treated differently, and nothing is written to the
 /// shelf.
 ///
-/// The answer is the exit status: 0 where no packet is treated differently, 1 where some is. `spec_diff::run` has the
+/// The answer is the exit status: 0 where no packet is treated differently, 1 where some is. `spec_tools::run` has the
 /// others, and the text that is printed with each. Of a text a prefix may be missing its end where the sink fails.
 pub fn run_diff<S: Shelf, K: Sink>(
     alloc: Global,

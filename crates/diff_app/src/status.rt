@@ -1,4 +1,4 @@
-//! The exit status of a refusal, as `spec_diff::run` has it.
+//! The exit status of a refusal, as `spec_tools::run` has it.
 ghost use Rattle.std.specs.Prelude.{◌≡◌};
 ghost use Rattle.diff_app.specs.Refused.{status_of};
 

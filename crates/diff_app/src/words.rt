@@ -3,9 +3,9 @@ ghost use Rattle.std.specs.Prelude.{◌≡◌, ◌==◌, IfOk};
 ghost use Rattle.std.specs.List.{list_any};
 ghost use Rattle.std.specs.Option.{option_map};
 ghost use Rattle.command_words.specs.CommandViews.{texts, text_view};
-ghost use Rattle.spec_words.specs.Words.{name_in};
-ghost use Rattle.spec_trace.specs.Words.{new_port};
-ghost use Rattle.spec_diff.specs.Words.{ports_of, command_from, command_in, command_of};
+ghost use Rattle.spec_input.specs.Words.{name_in};
+ghost use Rattle.spec_tools.specs.TraceWords.{new_port};
+ghost use Rattle.spec_tools.specs.DiffWords.{ports_of, command_from, command_in, command_of};
 ghost use Rattle.diff_app.specs.Commands.{command_view};
 
 use command_words::read_port_number;
@@ -34,7 +34,7 @@ fn names_port(ports: &[u16], port: u16) -> bool
 }
 
 // The port of a word, where none before it has its number.
-#[tactic(auto, unfolding(spec_trace::specs::Words::new_port))]
+#[tactic(auto, unfolding(spec_tools::specs::TraceWords::new_port))]
 fn read_new_port(before: &[u16], word: &str) -> Option<u16>
     ensures { result ≡ new_port before.now word.now }
 {
@@ -73,7 +73,7 @@ fn name_in(text: &str) -> Option<&str>
     Some(text)
 }
 
-#[tactic(auto, unfolding(spec_diff::specs::Words::command_from))]
+#[tactic(auto, unfolding(spec_tools::specs::DiffWords::command_from))]
 fn command_from<'a>(
     alloc: Global,
     brief: bool,
@@ -102,7 +102,7 @@ fn command_from<'a>(
 }
 
 // Both names and one port or more.
-#[tactic(auto, unfolding(spec_diff::specs::Words::command_in))]
+#[tactic(auto, unfolding(spec_tools::specs::DiffWords::command_in))]
 fn command_in(
     alloc: Global,
     brief: bool,
@@ -120,7 +120,7 @@ fn command_in(
 }
 
 /// Reads the words after the program's name: `[--brief] OLD NEW PORT..`.
-#[tactic(auto, unfolding(spec_diff::specs::Words::command_of))]
+#[tactic(auto, unfolding(spec_tools::specs::DiffWords::command_of))]
 pub fn read_command(alloc: Global, words: &[String]) -> Result<Option<Command<'_>>, AllocError>
     ensures { IfOk result (λ found. option_map command_view found ≡ command_of (texts words.now)) }
 {

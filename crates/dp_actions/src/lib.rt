@@ -27,7 +27,7 @@
 //! # What is left to others
 //!
 //! What actions do to a frame is `spec_exec`'s, and which of them a packet is given `spec_xlate`'s. That commit turns the
-//! one key into the other is a law of `translation_laws`. The text of actions is printed by `dp_text`.
+//! one key into the other is a law of `table_laws`. The text of actions is printed by `action_text`.
 #![tactic(auto)]
 
 mod action_list;

@@ -12,7 +12,7 @@
 //! - The line is the one that `spec_dumps` gives the entry. The entry names its actions by a place among those of a board,
 //!   so they are given beside it.
 //! - It is asked of the actions that their values and masks are within the fields that they are written to, as those of
-//!   every translation are (`dp_text`).
+//!   every translation are (`action_text`).
 //! - Out of memory is the only error, and then the string has what it had, and perhaps a part of the line after it.
 //!
 //! # How
@@ -22,7 +22,7 @@
 //!
 //! # What is left to others
 //!
-//! Numbers (`text_numbers`), names and values of fields (`field_text`), datapath actions (`dp_text`), and which entries
+//! Numbers (`text_numbers`), names and values of fields (`field_text`), datapath actions (`action_text`), and which entries
 //! there are, in which order (`flow_dump`).
 
 mod lines;

@@ -8,8 +8,8 @@ use Rattle.spec_tables.specs.Edits.{Edit, has_sound_actions}
 use Rattle.spec_tables.specs.Bundles.{edits_through, AreBundles}
 use Rattle.spec_tables.specs.declared.sync_point.SyncPoint.{SyncPoint}
 use Rattle.spec_case.specs.Blocks.{bundles_through, AreInOrder}
-use Rattle.spec_script.specs.Script.{Script, Begun, Reading, reads, with_bundle, with_edit_in, most_edits, most_syncs}
-use Rattle.bundle_laws.proofs.Bundles.{few_bundles, bundles-push}
+use Rattle.spec_input.specs.Script.{Script, Begun, Reading, reads, with_bundle, with_edit_in, most_edits, most_syncs}
+use Rattle.table_laws.proofs.Bundles.{few_bundles, bundles-push}
 use Rattle.edit_script.specs.WellFormed.{IsWellFormed}
 
 -- ---- bundles

@@ -1,7 +1,7 @@
 -- Where a bundle was begun, as the definitions see it.
 use Rattle.std.specs.Prelude.{Option}
 use Rattle.std.specs.Option.{option_map}
-use Rattle.spec_script.specs.Script as scripts
+use Rattle.spec_input.specs.Script as scripts
 use Rattle.edit_script.specs.declared.word_lines.Begun.{Begun}
 
 abbrev pub begun_view : Option Begun → Option scripts.Begun

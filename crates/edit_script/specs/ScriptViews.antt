@@ -1,6 +1,6 @@
 -- What was read of a file of edits, as the definitions see it.
 use Rattle.std.specs.Prelude.{map}
-use Rattle.spec_script.specs.Script as scripts
+use Rattle.spec_input.specs.Script as scripts
 use Rattle.edit_script.specs.declared.script.Kept.{Kept}
 use Rattle.edit_script.specs.declared.script.ReadEdits.{ReadEdits}
 use Rattle.edit_script.specs.declared.script.Reading.{Reading}

@@ -2,7 +2,7 @@
 use Rattle.std.specs.Prelude.{◌≡◌, ◌≤◌, length, IsTrue, None}
 use Rattle.std.specs.List.{list_all}
 use Rattle.spec_case.specs.Blocks.{AreInOrder}
-use Rattle.spec_script.specs.Script.{Reading, most_edits, most_syncs}
+use Rattle.spec_input.specs.Script.{Reading, most_edits, most_syncs}
 use Rattle.spec_tables.specs.Bundles.{edits_through, AreBundles}
 use Rattle.spec_tables.specs.Edits.{has_sound_actions}
 

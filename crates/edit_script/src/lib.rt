@@ -9,7 +9,7 @@
 //!
 //! # What is promised
 //!
-//! `spec_script` says what the bytes of a file say, or what is wrong with them first (`script_of`), and this crate answers
+//! `spec_input` says what the bytes of a file say, or what is wrong with them first (`script_of`), and this crate answers
 //! just that.
 //!
 //! - Where a script is read, it is the one that the bytes say, edit by edit and point by point.
@@ -57,4 +57,4 @@ mod word_lines;
 pub use edit_line::read_edit;
 pub use rule_tables::{Edit, SyncPoint};
 pub use script::{MOST_BYTES, MOST_CHANGES, MOST_EDITS, ReadEdits, Script, read_script};
-pub use spec_script::FileFault;
+pub use spec_input::FileFault;

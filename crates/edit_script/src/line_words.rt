@@ -1,8 +1,8 @@
 ghost use Rattle.std.specs.Prelude.{◌≡◌, ◌+◌, ◌<◌, ◌≤◌, ◌==◌, bytes_eq, length};
 ghost use Rattle.spec_flow_text.specs.Lines.{first_word as word_at_start};
 ghost use Rattle.spec_flow_text.specs.Matches.{uncommented};
-ghost use Rattle.spec_script.specs.Lines.{is_blank};
-ghost use Rattle.spec_script.specs.Script.{begins_with};
+ghost use Rattle.spec_input.specs.Lines.{is_blank};
+ghost use Rattle.spec_input.specs.Script.{begins_with};
 ghost use Rattle.field_text.specs.WordViews.{word_view};
 ghost use Rattle.edit_script.specs.Fronts.{IsFront, is_empty};
 

@@ -5,11 +5,11 @@ ghost use Rattle.spec_case.specs.Blocks.{AreInOrder};
 ghost use Rattle.spec_flow_text.specs.Lines.{edit_in, first_word as word_at_start};
 ghost use Rattle.spec_flow_text.specs.Matches.{uncommented};
 ghost use Rattle.spec_flow_text.specs.declared.fault.TextFault.TheVariants.{Syntax};
-ghost use Rattle.spec_script.specs.declared.fault.FileFault.TheVariants.{Line};
-ghost use Rattle.spec_script.specs.Given.{Gives};
-ghost use Rattle.spec_script.specs.Lines.{most_line_bytes, in_line};
-ghost use Rattle.spec_script.specs.Script as scripts;
-ghost use Rattle.spec_script.specs.Script.{most_edits, most_syncs, last_time, sync_time, word_alone, with_bundle, with_edit_in, with_edit, with_sync, with_begin, with_commit, with_line, script_of};
+ghost use Rattle.spec_input.specs.declared.fault.FileFault.TheVariants.{Line};
+ghost use Rattle.spec_input.specs.Given.{Gives};
+ghost use Rattle.spec_input.specs.Lines.{most_line_bytes, in_line};
+ghost use Rattle.spec_input.specs.Script as scripts;
+ghost use Rattle.spec_input.specs.Script.{most_edits, most_syncs, last_time, sync_time, word_alone, with_bundle, with_edit_in, with_edit, with_sync, with_begin, with_commit, with_line, script_of};
 ghost use Rattle.spec_tables.specs.Bundles.{edits_through, AreBundles};
 ghost use Rattle.spec_tables.specs.Edits.{Edit as SpecEdit, has_sound_actions};
 ghost use Rattle.rule_tables.specs.History.{applied};
@@ -27,7 +27,7 @@ use crate::word_lines::{Begun, read_sync_time, read_word_alone};
 use field_text::{TextFault, Word};
 use line_files::{LineReader, in_line, read_lines};
 use rule_tables::{Edit, SyncPoint, VersionedRules};
-use spec_script::FileFault;
+use spec_input::FileFault;
 use std::alloc::{AllocError, Global};
 use std::mem;
 use std::snapshot::Snapshot;
@@ -164,7 +164,7 @@ fn with_edit_in(
 }
 
 // The script with the edit of one more line.
-#[tactic(auto, unfolding(spec_script::specs::Script::with_edit))]
+#[tactic(auto, unfolding(spec_input::specs::Script::with_edit))]
 fn with_edit(
     alloc: Global,
     number: u32,
@@ -200,7 +200,7 @@ fn last_time(syncs: &[SyncPoint]) -> u64
 }
 
 // The script with the sync point of one more line.
-#[tactic(auto, unfolding(spec_script::specs::Script::with_sync))]
+#[tactic(auto, unfolding(spec_input::specs::Script::with_sync))]
 fn with_sync(number: u32, line: &[u8], mut reading: Reading) -> Result<Reading, FileFault>
     requires short { length line.now ≤ most_line_bytes }
     requires formed { IsWellFormed (reading_view reading) }
@@ -223,7 +223,7 @@ fn with_sync(number: u32, line: &[u8], mut reading: Reading) -> Result<Reading, 
 }
 
 // A bundle is begun.
-#[tactic(auto, unfolding(spec_script::specs::Script::with_begin))]
+#[tactic(auto, unfolding(spec_input::specs::Script::with_begin))]
 fn with_begin(number: u32, line: &[u8], mut reading: Reading) -> Result<Reading, FileFault>
     requires short { length line.now ≤ most_line_bytes }
     requires formed { IsWellFormed (reading_view reading) }
@@ -241,7 +241,7 @@ fn with_begin(number: u32, line: &[u8], mut reading: Reading) -> Result<Reading,
 }
 
 // The bundle that was begun ends.
-#[tactic(auto, unfolding(spec_script::specs::Script::with_commit))]
+#[tactic(auto, unfolding(spec_input::specs::Script::with_commit))]
 fn with_commit(
     alloc: Global,
     number: u32,
@@ -278,7 +278,7 @@ impl LineReader for ScriptReader {
     ghost after_line = { λ _. with_line };
 
     // The script with what one more line says.
-    #[tactic(auto, unfolding(spec_script::specs::Script::with_line))]
+    #[tactic(auto, unfolding(spec_input::specs::Script::with_line))]
     fn read_line(&self, number: u32, line: &[u8], reading: Reading) -> Result<Reading, FileFault> {
         let front = front_of(line);
         if front.text.is_empty() {
@@ -342,7 +342,7 @@ fn left_open(begun: Begun) -> FileFault
 /// edits make.
 ///
 /// A fault is the first of the file. Lines of it are counted from 1, and so are columns.
-#[tactic(auto, unfolding(spec_script::specs::Script::script_of))]
+#[tactic(auto, unfolding(spec_input::specs::Script::script_of))]
 pub fn read_script(alloc: Global, bytes: &[u8]) -> Result<ReadEdits, FileFault>
     requires { length bytes.now ≤ 33_554_432 }
     ensures script { Gives read_view result (script_of bytes.now) }

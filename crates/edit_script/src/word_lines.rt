@@ -3,7 +3,7 @@ ghost use Rattle.std.specs.Prelude.{◌≡◌, ◌-◌, ◌*◌, ◌^◌, ◌≤
 ghost use Rattle.std.specs.Option.{ok_or};
 ghost use Rattle.spec_flow_text.specs.declared.fault.TextFault.TheVariants.{BadValue};
 ghost use Rattle.spec_flow_text.specs.Items.{column, is_white, words};
-ghost use Rattle.spec_script.specs.Script.{most_seconds, seconds_of, fraction_of, seconds_with_fraction, time_of, time_in_words, sync_time, column_in_words, word_alone};
+ghost use Rattle.spec_input.specs.Script.{most_seconds, seconds_of, fraction_of, seconds_with_fraction, time_of, time_in_words, sync_time, column_in_words, word_alone};
 ghost use Rattle.edit_script.specs.Begun.{begun_view};
 ghost use Rattle.field_text.specs.WordViews.{word_view};
 
@@ -25,7 +25,7 @@ pub struct Begun {
 }
 
 // Whole seconds below 2^32, in nanoseconds.
-#[tactic(auto, unfolding(spec_script::specs::Script::seconds_of))]
+#[tactic(auto, unfolding(spec_input::specs::Script::seconds_of))]
 fn read_seconds(text: &[u8]) -> Option<u64>
     ensures value { result ≡ seconds_of text.now }
     ensures fits { IfSome result (λ n. n ≤ most_seconds * 10 ^ 9) }
@@ -44,7 +44,7 @@ fn digit_value(digits: usize) -> u64
 }
 
 // The fraction of a second that these digits write after a dot, in nanoseconds.
-#[tactic(auto, unfolding(spec_script::specs::Script::fraction_of))]
+#[tactic(auto, unfolding(spec_input::specs::Script::fraction_of))]
 fn read_fraction(digits: &[u8]) -> Option<u64>
     ensures value { result ≡ fraction_of digits.now }
     ensures fits { IfSome result (λ n. n ≤ 10 ^ 18) }
@@ -56,7 +56,7 @@ fn read_fraction(digits: &[u8]) -> Option<u64>
     Some(number as u64 * digit_value(digits.len()))
 }
 
-#[tactic(auto, unfolding(spec_script::specs::Script::seconds_with_fraction))]
+#[tactic(auto, unfolding(spec_input::specs::Script::seconds_with_fraction))]
 fn read_seconds_with_fraction(whole: &[u8], digits: &[u8]) -> Option<u64>
     ensures { result ≡ seconds_with_fraction (whole.now, digits.now) }
 {
@@ -65,7 +65,7 @@ fn read_seconds_with_fraction(whole: &[u8], digits: &[u8]) -> Option<u64>
     Some(seconds + fraction)
 }
 
-#[tactic(auto, unfolding(spec_script::specs::Script::time_of))]
+#[tactic(auto, unfolding(spec_input::specs::Script::time_of))]
 fn read_time(word: &[u8]) -> Option<u64>
     ensures { result ≡ time_of word.now }
 {
@@ -128,7 +128,7 @@ fn column_in_words(may_stand: bool, text: Word<'_>) -> Result<u32, TextFault>
 
 /// The time of a sync line, in nanoseconds: after `sync` one word, of seconds from 0 to 4,294,967,295 and perhaps a dot
 /// and one to nine digits. There is none in a bundle.
-#[tactic(auto, unfolding(spec_script::specs::Script::sync_time))]
+#[tactic(auto, unfolding(spec_input::specs::Script::sync_time))]
 pub fn read_sync_time(begun: Option<Begun>, line: &[u8]) -> Result<u64, TextFault>
     requires { length line.now ≤ 4_294_967_294 }
     ensures { result ≡ sync_time (begun_view begun) line.now }
@@ -138,7 +138,7 @@ pub fn read_sync_time(begun: Option<Begun>, line: &[u8]) -> Result<u64, TextFaul
 }
 
 /// The column of the word of a line, where it stands alone and may stand there.
-#[tactic(auto, unfolding(spec_script::specs::Script::word_alone))]
+#[tactic(auto, unfolding(spec_input::specs::Script::word_alone))]
 pub fn read_word_alone(may_stand: bool, line: &[u8]) -> Result<u32, TextFault>
     requires { length line.now ≤ 4_294_967_294 }
     ensures { result ≡ word_alone may_stand line.now }

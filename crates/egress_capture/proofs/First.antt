@@ -8,7 +8,7 @@ use Rattle.spec_pcap.specs.Pcap.{Frame}
 use Rattle.spec_actions.specs.declared.action.DpAction.{DpAction}
 use Rattle.spec_actions.specs.declared.action.DpAction.TheVariants.{Output, PopVlan, PushVlan, Set}
 use Rattle.spec_exec.specs.Sent.{is_output, sent}
-use Rattle.spec_script.specs.Mirrors.{is_among}
+use Rattle.spec_input.specs.Mirrors.{is_among}
 use Rattle.egress_capture.specs.Sending.{sends_to_one, frame_of, first_frame_to, next, rewritten}
 
 -- actions that only send leave a frame as it is

@@ -6,7 +6,7 @@ use Rattle.std.proofs.lemmas.Bool.{cases_Bool, false≢true, eqb-true, eq-eqb}
 use Rattle.std.proofs.lemmas.List.Elements.{All-head, All-tail}
 use Rattle.spec_actions.specs.declared.action.DpAction.{DpAction}
 use Rattle.spec_actions.specs.declared.action.DpAction.TheVariants.{Output, PopVlan, PushVlan, Set}
-use Rattle.spec_script.specs.Mirrors.{is_among}
+use Rattle.spec_input.specs.Mirrors.{is_among}
 use Rattle.egress_capture.specs.Sending.{sends_to_one, first_frame_to, next}
 use Rattle.egress_capture.specs.Filters.{bit_of}
 use Rattle.egress_capture.proofs.Filters.{Passes}

@@ -6,7 +6,7 @@ use Rattle.spec_actions.specs.declared.action.DpAction.{DpAction}
 use Rattle.spec_actions.specs.declared.action.DpAction.TheVariants.{Output, PopVlan, PushVlan, Set}
 use Rattle.spec_exec.specs.Sent.{Piece, sent}
 use Rattle.spec_exec.specs.Rewriting.{after_action}
-use Rattle.spec_script.specs.Mirrors.{is_among}
+use Rattle.spec_input.specs.Mirrors.{is_among}
 use Rattle.spec_run.specs.Mirrored.{first_to}
 
 abbrev pub sends_to : ℕ → DpAction → Bool

@@ -29,4 +29,4 @@
 mod mirror_file;
 
 pub use mirror_file::write_mirror;
-pub use spec_script::mirrors::Mirror;
+pub use spec_input::mirrors::Mirror;

@@ -17,7 +17,7 @@ use Rattle.spec_actions.specs.declared.action.DpAction.{DpAction}
 use Rattle.spec_actions.specs.declared.action.DpAction.TheVariants.{PopVlan, PushVlan, Set}
 use Rattle.spec_xlate.specs.Tags.{VlanTag, is_tag, outer_tag, inner_tag, no_tag, is_same_tag, is_full, tags_of, outer_tags, commit_tags}
 use Rattle.spec_xlate.specs.Commit.{fields_before_tags, fields_after_tags, commit, commit_field, commit_fields}
-use Rattle.translation_laws.specs.Applied.{applied, is_tag_or_none, is_proper}
+use Rattle.table_laws.specs.Applied.{applied, is_tag_or_none, is_proper}
 use Rattle.frame_laws.proofs.keys.KeyLaws.{key_of-IsKey}
 use Rattle.std.specs.List.{list_all}
 use Rattle.std.proofs.lemmas.List.Elements.{All-cons, All-nil, All-head, All-tail}

@@ -16,8 +16,8 @@ use Rattle.spec_frames.specs.Key.{key_of}
 use Rattle.spec_actions.specs.declared.action.DpAction.{DpAction}
 use Rattle.spec_actions.specs.declared.action.DpAction.TheVariants.{PopVlan, PushVlan, Set}
 use Rattle.spec_xlate.specs.Tags.{VlanTag, is_tag}
-use Rattle.translation_laws.specs.Applied.{applied}
-use Rattle.translation_laws.proofs.CommitLaws.{applied-append}
+use Rattle.table_laws.specs.Applied.{applied}
+use Rattle.table_laws.proofs.CommitLaws.{applied-append}
 use Rattle.spec_exec.specs.Places.{place_in}
 use Rattle.spec_frames.specs.declared.layout.Layout.{Layout}
 use Rattle.spec_exec.specs.Rewriting.{pop_tag, after_action}

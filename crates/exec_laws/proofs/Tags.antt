@@ -12,7 +12,7 @@ use Rattle.spec_frames.specs.Ethernet.{header_size, tag_size, type_at, inner_at,
 use Rattle.spec_frames.specs.Key.{key_of}
 use Rattle.spec_frames.specs.Layout.{layout_of}
 use Rattle.spec_xlate.specs.Tags.{VlanTag, is_tag, no_tag, is_same_tag}
-use Rattle.translation_laws.specs.Applied.{is_tag_or_none}
+use Rattle.table_laws.specs.Applied.{is_tag_or_none}
 use Rattle.exec_laws.proofs.Fields.{outer_of, inner_of}
 use Rattle.spec_actions.specs.declared.action.DpAction.TheVariants.{PopVlan, PushVlan}
 use Rattle.spec_exec.specs.Rewriting.{content_bits, push_tag, pop_tag, after_action}

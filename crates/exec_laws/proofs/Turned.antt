@@ -16,8 +16,8 @@ use Rattle.spec_actions.specs.declared.action.DpAction.{DpAction}
 use Rattle.spec_actions.specs.declared.action.DpAction.TheVariants.{Output, PopVlan, PushVlan}
 use Rattle.spec_xlate.specs.Tags.{VlanTag, is_same_tag, tags_of, outer_tags, commit_tags}
 use Rattle.spec_xlate.specs.Commit.{fields_before_tags, fields_after_tags, commit, commit_field, commit_fields}
-use Rattle.translation_laws.specs.Applied.{applied, is_frame_field, is_proper}
-use Rattle.translation_laws.proofs.CommitLaws.{commit-Turns}
+use Rattle.table_laws.specs.Applied.{applied, is_frame_field, is_proper}
+use Rattle.table_laws.proofs.CommitLaws.{commit-Turns}
 use Rattle.spec_exec.specs.Places.{in_network}
 use Rattle.spec_exec.specs.Sent.{Piece, is_output, sent}
 use Rattle.frame_laws.proofs.keys.KeyLaws.{key_of-IsClean}

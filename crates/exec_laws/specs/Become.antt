@@ -12,7 +12,7 @@ use Rattle.spec_actions.specs.declared.action.DpAction.{DpAction}
 use Rattle.spec_actions.specs.declared.action.DpAction.TheVariants.{Output}
 use Rattle.spec_xlate.specs.Tags.{tag_fields, tags_of, is_full}
 use Rattle.spec_xlate.specs.Commit.{commit}
-use Rattle.translation_laws.specs.Applied.{is_proper}
+use Rattle.table_laws.specs.Applied.{is_proper}
 use Rattle.exec_laws.specs.ReadBack.{AreBytes, shows}
 use Rattle.spec_exec.specs.Sent.{sent}
 use Rattle.exec_laws.specs.Sends.{keys_of, after_actions}

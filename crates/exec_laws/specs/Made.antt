@@ -10,7 +10,7 @@ use Rattle.spec_actions.specs.declared.action.OfAction.TheVariants.{PushVlan}
 use Rattle.spec_actions.specs.declared.named_field.Prerequisite.TheVariants as needs
 use Rattle.spec_xlate.specs.Needs.{is_met}
 use Rattle.spec_xlate.specs.Translation.{Switch, in_port_of}
-use Rattle.translation_laws.specs.Applied.{is_proper}
+use Rattle.table_laws.specs.Applied.{is_proper}
 use Rattle.exec_laws.specs.Become.{HasTagTypes}
 
 -- Whether a flow action can write a field of a packet of this key. None writes where the packet came in, its Ethernet type,

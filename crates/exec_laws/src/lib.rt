@@ -39,7 +39,7 @@
 //! (`AfterHeaders`, `Ipv4Written`), so that they change no key.
 //!
 //! The commit goes action by action (`OnTheWay`): each frame on the way shows the fields that the first one shows, and
-//! each action does to its key what `translation_laws` says of keys (`applied`). There it is proved that the actions of
+//! each action does to its key what `table_laws` says of keys (`applied`). There it is proved that the actions of
 //! a commit turn one key into the other. Tags in front of a third one are changed in one step, since the frames between
 //! would show that. A write to a field that the frame doesn't show does nothing to the key, so such a commit is that to
 //! another key, which has these fields as before (`CommitSteps`).

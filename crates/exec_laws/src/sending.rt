@@ -47,7 +47,7 @@
 //! # What is left to others
 //!
 //! Which rule is found, what a write writes, in which order `all` sends and when a list of actions ends is as `spec_xlate`
-//! says: its rows and `translation_laws` speak of that. What happens to lengths and to other bytes is the matter of
+//! says: its rows and `table_laws` speak of that. What happens to lengths and to other bytes is the matter of
 //! `exec_laws`.
 
 mod actions;

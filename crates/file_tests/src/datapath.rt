@@ -1,4 +1,4 @@
-use dp_text::{DpAction, print_dp_actions};
+use action_text::{DpAction, print_dp_actions};
 use ovs_fields::FieldId;
 use std::test::Fail;
 

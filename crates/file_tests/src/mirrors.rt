@@ -1,5 +1,5 @@
 ghost use Rattle.std.specs.Prelude.{◌≤◌, length};
-ghost use Rattle.spec_script.specs.Mirrors.{most_mirrors_bytes};
+ghost use Rattle.spec_input.specs.Mirrors.{most_mirrors_bytes};
 
 use field_text::TextFault;
 use port_scripts::{FileFault, MOST_MIRRORS, MOST_MIRRORS_BYTES, read_mirrors};

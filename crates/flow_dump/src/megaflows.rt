@@ -9,8 +9,8 @@ ghost use Rattle.pmd_board.specs.BoardView.{journal_view, state_of};
 ghost use Rattle.dump_lines.specs.Views.{entry_with};
 ghost use Rattle.flow_dump.specs.Numbered.{line_of_number};
 
+use action_text::translation_is_within_fields;
 use board_laws::{entries_are_found, entries_cover_what_they_were_made_for};
-use dp_text::translation_is_within_fields;
 use dump_lines::megaflows::push_megaflow;
 use edge_io::{Failed, Shelf, write_all};
 use megaflow_table::Entry;

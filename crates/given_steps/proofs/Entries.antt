@@ -10,7 +10,7 @@ use Rattle.spec_board.specs.State.{Entry, State}
 use Rattle.spec_board.specs.Results.{entry_of}
 use Rattle.spec_board.specs.Effects.{effect, is_among, key_of_entry}
 use Rattle.spec_board.specs.Journals.{Legal}
-use Rattle.translation_laws.proofs.MemberLaws.{Among}
+use Rattle.table_laws.proofs.MemberLaws.{Among}
 use Rattle.board_laws.proofs.NumberLaws.{Rising, entry_of-among, entry_of-some}
 use Rattle.board_laws.proofs.Origins.{IsNew, Was, was, origin}
 use Rattle.board_laws.proofs.Apart.{AreEntriesApart, made_le}

@@ -3,7 +3,7 @@ ghost use Rattle.std.specs.Prelude.{◌≡◌, ◌≤◌, IsTrue, IfOk, length, 
 ghost use Rattle.std.specs.List.{list_all};
 ghost use Rattle.spec_case.specs.Blocks.{hi};
 ghost use Rattle.spec_tables.specs.Edits.{has_sound_actions};
-ghost use Rattle.spec_script.specs.Steps.{most_steps};
+ghost use Rattle.spec_input.specs.Steps.{most_steps};
 ghost use Rattle.spec_board.specs.GivenSteps.{with_given_steps};
 ghost use Rattle.spec_board.specs.Scheduled as whole_runs;
 ghost use Rattle.spec_run.specs.Journals.{AreJournals};

@@ -2,10 +2,10 @@
 use Rattle.std.proofs.Common.{◌≡◌, ℕ, ◌+◌, List, Some, None, Result, Ok, Err, refl, sym, ◌∙◌}
 use Rattle.spec_flow_text.specs.Numbers.{split_once}
 use Rattle.text_numbers.proofs.Cuts.{none_cut, some_split}
-use Rattle.spec_script.specs.declared.fault.FileFault.{FileFault}
-use Rattle.spec_script.specs.declared.fault.FileFault.TheVariants.{Line, SyncOrder, LineTooLong, TooManyEdits, TooManySyncs, TooManySteps, TooManyMirrors, OutOfMemory}
-use Rattle.spec_script.specs.Given.{IsFault}
-use Rattle.spec_script.specs.Lines.{◌>>=◌, with_next, with_lines, lines_of}
+use Rattle.spec_input.specs.declared.fault.FileFault.{FileFault}
+use Rattle.spec_input.specs.declared.fault.FileFault.TheVariants.{Line, SyncOrder, LineTooLong, TooManyEdits, TooManySyncs, TooManySteps, TooManyMirrors, OutOfMemory}
+use Rattle.spec_input.specs.Given.{IsFault}
+use Rattle.spec_input.specs.Lines.{◌>>=◌, with_next, with_lines, lines_of}
 
 module _ {S : Type 0} (with_line : ℕ → List ℕ → S → Result S FileFault) (number : ℕ) (before : S) (text : List ℕ) where
   -- what all lines say, of which the first has this number

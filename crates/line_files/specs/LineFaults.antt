@@ -2,8 +2,8 @@
 use Rattle.std.specs.Prelude.{ℕ, Result, Ok, Err}
 use Rattle.spec_flow_text.specs.declared.fault.TextFault.{TextFault}
 use Rattle.spec_flow_text.specs.declared.fault.TextFault.TheVariants as text
-use Rattle.spec_script.specs.declared.fault.FileFault.{FileFault}
-use Rattle.spec_script.specs.declared.fault.FileFault.TheVariants.{Line, OutOfMemory}
+use Rattle.spec_input.specs.declared.fault.FileFault.{FileFault}
+use Rattle.spec_input.specs.declared.fault.FileFault.TheVariants.{Line, OutOfMemory}
 
 abbrev pub fault_in_line : ℕ → TextFault → FileFault
 fault_in_line number text.OutOfMemory = OutOfMemory

@@ -8,7 +8,7 @@
 //!
 //! # What is promised
 //!
-//! `spec_script` says what the lines of a text say (`Lines`), and `read_lines` answers just that, or that memory ran
+//! `spec_input` says what the lines of a text say (`Lines`), and `read_lines` answers just that, or that memory ran
 //! out, if its reader does so of one line. What a reader keeps from line to line holds of what is answered. A line
 //! that is too long is never handed to a reader.
 //!
@@ -26,5 +26,5 @@ mod lines;
 mod told;
 
 pub use lines::{LineReader, read_lines};
-pub use spec_script::FileFault;
+pub use spec_input::FileFault;
 pub use told::in_line;

@@ -1,9 +1,9 @@
 ghost use Rattle.std.specs.Prelude.{◌≡◌, ◌≤◌, ℕ, List, Result, length, IfOk};
-ghost use Rattle.spec_script.specs.Given.{Gives};
-ghost use Rattle.spec_script.specs.Lines.{most_line_bytes, with_next, said_by};
-ghost use Rattle.spec_script.specs.declared.fault.FileFault.{FileFault as Fault};
+ghost use Rattle.spec_input.specs.Given.{Gives};
+ghost use Rattle.spec_input.specs.Lines.{most_line_bytes, with_next, said_by};
+ghost use Rattle.spec_input.specs.declared.fault.FileFault.{FileFault as Fault};
 
-use spec_script::FileFault;
+use spec_input::FileFault;
 use text_numbers::cut_at;
 
 // The most bytes of a line without its line feed.

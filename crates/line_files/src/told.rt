@@ -2,7 +2,7 @@ ghost use Rattle.std.specs.Prelude.{◌≡◌};
 ghost use Rattle.line_files.specs.LineFaults.{fault_in_line, told};
 
 use spec_flow_text::TextFault;
-use spec_script::FileFault;
+use spec_input::FileFault;
 
 fn fault_in_line(number: u32, why: TextFault) -> FileFault
     ensures { result ≡ fault_in_line number why }

@@ -3,7 +3,7 @@ use Rattle.std.proofs.Common.{◌≡◌, ℕ, zero, suc, ◌≤◌, List, [], �
 use Rattle.std.specs.Int.Bits.{or_zero_r}
 use Rattle.spec_keys.specs.Fields.{field_count}
 use Rattle.spec_keys.specs.Keys.{joined, none, IsKey}
-use Rattle.translation_laws.proofs.UnionLaws.{joined_assoc, joined_comm}
+use Rattle.table_laws.proofs.UnionLaws.{joined_assoc, joined_comm}
 
 -- which of two comes first makes no difference
 pub joined_turned : (m x y : List ℕ) → joined (joined m x) y ≡ joined (joined m y) x

@@ -11,7 +11,7 @@ use Rattle.spec_keys.specs.Keys.{value_of, masked, same, IsKey}
 use Rattle.ovs_fields.proofs.KeyLaws.{within_width}
 use Rattle.ovs_fields.specs.Equality.{equal_from_same, same_from_equal}
 use Rattle.ovs_fields.specs.Feeding.{joined_words}
-use Rattle.translation_laws.proofs.KeyLaws.{number_at-masked}
+use Rattle.table_laws.proofs.KeyLaws.{number_at-masked}
 use Rattle.masked_map.specs.declared.fields.CompactFields.{CompactFields}
 use Rattle.masked_map.specs.declared.key_words.KeyWords.{KeyWords}
 use Rattle.masked_map.specs.Compact.{list_of}

@@ -16,8 +16,8 @@ use Rattle.spec_xlate.specs.Needs.{is_met}
 use Rattle.spec_xlate.specs.Tags.{is_full, pushed}
 use Rattle.spec_xlate.specs.Translation.{Switch, State, Mode, deepest, lookup_limit, action_limit, stopped, with_current, emit, emit_all, committed, is_other_port, other_ports, output, output_all, in_field, written, written_bits, write, slice_of, slice_bits, lower_ttl, act, in_mode, while_going, run, visited, resumed, follow, with_lookups_left, enter, look, start}
 use Rattle.spec_xlate.specs.Translation.Mode.{Going, ListEnded, Stopped}
-use Rattle.spec_trace.specs.declared.lookup.Lookup.{Lookup}
-use Rattle.spec_trace.specs.Paths.{act_path, in_mode_path, while_going_path, run_path, follow_path, enter_path, look_path, path_of}
+use Rattle.spec_tools.specs.declared.lookup.Lookup.{Lookup}
+use Rattle.spec_tools.specs.Paths.{act_path, in_mode_path, while_going_path, run_path, follow_path, enter_path, look_path, path_of}
 
 -- ---- no action but a lookup takes one of those that are left
 

@@ -11,8 +11,8 @@ use Rattle.spec_xlate.specs.Translation.{Switch, State, Mode, deepest, switch_of
 use Rattle.spec_xlate.specs.Translation.Mode.{Going, ListEnded, Stopped}
 use Rattle.pipe_model.specs.Runnable.{AreRunnable}
 use Rattle.pipe_model.proofs.Winners.{won_by_number}
-use Rattle.spec_trace.specs.declared.lookup.Lookup.{Lookup}
-use Rattle.spec_trace.specs.Paths.{looked_up, act_path, in_mode_path, while_going_path, run_path, follow_path, enter_path, look_path, path_of}
+use Rattle.spec_tools.specs.declared.lookup.Lookup.{Lookup}
+use Rattle.spec_tools.specs.Paths.{looked_up, act_path, in_mode_path, while_going_path, run_path, follow_path, enter_path, look_path, path_of}
 use Rattle.ofp_trace.specs.Winners.{HasLiveWinner}
 
 module _ (rules : List Rule) (ports : List ℕ) (runnable : AreRunnable rules) where

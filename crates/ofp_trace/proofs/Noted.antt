@@ -11,8 +11,8 @@ use Rattle.spec_xlate.specs.Translation.{Switch, State, Mode, deepest, lookup_li
 use Rattle.spec_xlate.specs.Translation.Mode.{Going, ListEnded, Stopped}
 use Rattle.pipe_model.specs.Events.{Event, act_events, in_mode_events, while_going_events, run_events, follow_events, enter_events, look_events, events_of}
 use Rattle.pipe_model.specs.Events.Event.{Looked, Acted}
-use Rattle.spec_trace.specs.declared.lookup.Lookup.{Lookup}
-use Rattle.spec_trace.specs.Paths.{looked_up, act_path, in_mode_path, while_going_path, run_path, follow_path, enter_path, look_path, path_of}
+use Rattle.spec_tools.specs.declared.lookup.Lookup.{Lookup}
+use Rattle.spec_tools.specs.Paths.{looked_up, act_path, in_mode_path, while_going_path, run_path, follow_path, enter_path, look_path, path_of}
 use Rattle.ofp_trace.specs.Notes.{with_lookup, with_event}
 use Rattle.ofp_trace.proofs.FewLookups.{few_lookups}
 

@@ -4,8 +4,8 @@ use Rattle.spec_tables.specs.Rules.{winner}
 use Rattle.spec_xlate.specs.Translation.{lookup_limit}
 use Rattle.pipe_model.specs.Events.{Event}
 use Rattle.pipe_model.specs.Events.Event.{Looked, Acted}
-use Rattle.spec_trace.specs.declared.lookup.Lookup.{Lookup}
-use Rattle.spec_trace.specs.Paths.{looked_up}
+use Rattle.spec_tools.specs.declared.lookup.Lookup.{Lookup}
+use Rattle.spec_tools.specs.Paths.{looked_up}
 use Rattle.ofp_trace.specs.declared.path.Path.{Path}
 
 abbrev pub lookups_in : Path → List Lookup

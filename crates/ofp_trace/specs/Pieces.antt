@@ -5,8 +5,8 @@ use Rattle.spec_actions.specs.declared.action.OfAction.{OfAction}
 use Rattle.spec_actions.specs.declared.action.DpAction.{DpAction}
 use Rattle.spec_tables.specs.Rules.{Rule, Match}
 use Rattle.spec_flow_text.specs.Printed.{match_printed, actions_printed}
-use Rattle.spec_trace.specs.declared.lookup.Lookup.{Lookup}
-use Rattle.spec_trace.specs.Texts.{after_space, winner_text, winner_of, last_line, megaflow_line, datapath_line}
+use Rattle.spec_tools.specs.declared.lookup.Lookup.{Lookup}
+use Rattle.spec_tools.specs.TraceTexts.{after_space, winner_text, winner_of, last_line, megaflow_line, datapath_line}
 
 abbrev pub done_text : List OfAction → List ℕ
 done_text actions = codes " actions=" ++ actions_printed actions

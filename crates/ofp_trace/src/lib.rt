@@ -9,7 +9,7 @@
 //!
 //! # What is promised
 //!
-//! - `path` is the list of the definition `path_of` of `spec_trace`: every lookup that is made, in the order in which they
+//! - `path` is the list of the definition `path_of` of `spec_tools`: every lookup that is made, in the order in which they
 //!   are, and no other. `last` is the key of `last_of`. Both go along the states of the plain translation, `pipe` of
 //!   `spec_xlate`.
 //! - The translation is that of `xlate_pipeline`: both lists of `pipe`, and the bits of `consulted`.
@@ -36,5 +36,5 @@ mod path;
 mod tracing;
 mod watched;
 
-pub use spec_trace::Lookup;
+pub use spec_tools::Lookup;
 pub use tracing::{Traced, trace};

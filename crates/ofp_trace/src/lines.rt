@@ -7,11 +7,11 @@
 //!
 //! # What is promised
 //!
-//! - The text is the one that `spec_trace` gives what was traced (`told_text`): a rule's match and actions as in the dump of
+//! - The text is the one that `spec_tools` gives what was traced (`told_text`): a rule's match and actions as in the dump of
 //!   rules, the last two lines as in the dump of megaflows.
 //! - It is asked that some edits of sound actions made the rules, that each rule which won is live in their last version, and
 //!   that the values and masks of the datapath actions are within their fields. So it is with every trace over these rules
-//!   (`ofp_trace`, `dp_text`).
+//!   (`ofp_trace`, `action_text`).
 //! - Out of memory is the only error, and then the string has what it had, and perhaps a part of the text after it.
 //!
 //! # How
@@ -21,7 +21,7 @@
 //!
 //! # What is left to others
 //!
-//! Numbers (`text_numbers`), matches (`match_text`, `dump_lines::megaflows`), actions (`action_text`, `dp_text`), the rules
+//! Numbers (`text_numbers`), matches (`match_text`, `dump_lines::megaflows`), actions (`action_text`), the rules
 //! (`rule_tables`), and what is traced (`ofp_trace`).
 
 mod keys;

@@ -1,7 +1,7 @@
 ghost use Rattle.std.specs.Prelude.{◌≡◌, ◌≤◌, [], vec_capacity, IfOk};
 ghost use Rattle.spec_xlate.specs.Translation.{lookup_limit};
 
-use spec_trace::Lookup;
+use spec_tools::Lookup;
 use std::alloc::{AllocError, Global};
 
 /// How many lookups a translation may make (the limit is this profile's).

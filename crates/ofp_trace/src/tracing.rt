@@ -3,14 +3,14 @@ ghost use Rattle.spec_xlate.specs.Translation.{switch_of, pipe};
 ghost use Rattle.spec_xlate.specs.Consulted.{consulted};
 ghost use Rattle.ovs_fields.specs.Packed.{numbers};
 ghost use Rattle.pipe_model.specs.Runnable.{AreRunnable};
-ghost use Rattle.spec_trace.specs.Paths.{path_of, last_of};
+ghost use Rattle.spec_tools.specs.Paths.{path_of, last_of};
 ghost use Rattle.ofp_trace.specs.Winners.{HasLiveWinner};
 
 use crate::path::Path;
 use crate::watched::Watched;
 use ovs_fields::Key;
 use pipe_model::{SpareLists, Translated, run_through};
-use spec_trace::Lookup;
+use spec_tools::Lookup;
 use std::alloc::{AllocError, Global};
 use tuple_classifier::Tables;
 use xlate_pipeline::translate;

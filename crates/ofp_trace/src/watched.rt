@@ -2,7 +2,7 @@ use crate::path::Path;
 use ovs_fields::{Key, Mask};
 use pipe_model::{Found, Lookups};
 use rule_tables::OfAction;
-use spec_trace::Lookup;
+use spec_tools::Lookup;
 use tuple_classifier::Tables;
 
 /// The tables of a version, and the ports. Each lookup is noted.
@@ -14,7 +14,7 @@ pub(crate) struct Watched<'a> {
 
 impl Lookups for Watched<'_> {
     ghost use Rattle.std.specs.Prelude.{List};
-    ghost use Rattle.spec_trace.specs.declared.lookup.Lookup as noting;
+    ghost use Rattle.spec_tools.specs.declared.lookup.Lookup as noting;
     ghost use Rattle.ofp_trace.specs.Notes.{lookups_in, with_event};
     ghost use Rattle.ofp_trace.specs.Watching.{switch_in, CanRun};
 

@@ -6,8 +6,8 @@ use Rattle.spec_tables.specs.Bundles.{each_alone}
 use Rattle.spec_case.specs.Run.{Run}
 use Rattle.spec_board.specs.Texts.{Journal}
 use Rattle.spec_flow_text.specs.Actions.{is_respellable}
-use Rattle.spec_script.specs.Lines.{most_line_bytes, lines_of}
-use Rattle.spec_script.specs.Script.{Script, most_edits}
+use Rattle.spec_input.specs.Lines.{most_line_bytes, lines_of}
+use Rattle.spec_input.specs.Script.{Script, most_edits}
 use Rattle.spec_dumps.specs.Rules.{counts_of, in_order, live_rules, rules_text}
 use Rattle.output_laws.specs.Lines.{added, WasRead, AreCounts}
 

@@ -5,7 +5,7 @@ use Rattle.spec_pcap.specs.Pcap.{header_length}
 use Rattle.spec_tables.specs.Rules.{Rule}
 use Rattle.spec_case.specs.Run.{Run}
 use Rattle.spec_board.specs.Texts.{Journal}
-use Rattle.spec_script.specs.Mirrors.{Mirror}
+use Rattle.spec_input.specs.Mirrors.{Mirror}
 use Rattle.spec_dumps.specs.Summary.{frame_count, sent_count, dropped_count}
 use Rattle.spec_dumps.specs.declared.rule_counts.RuleCounts.{RuleCounts}
 use Rattle.spec_dumps.specs.Rules.{packets_of, bytes_of, counts_of, in_order, rule_line_with, gone_line_with, live_rules, gone_rules, rules_text}

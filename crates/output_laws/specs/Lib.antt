@@ -7,3 +7,6 @@ pub mod Few
 pub mod Widths
 pub mod Dumps
 pub mod Lines
+pub mod RoundTrip
+pub mod Printed
+pub mod Calls

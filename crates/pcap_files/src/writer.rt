@@ -19,7 +19,7 @@
 //! # What is left to others
 //!
 //! The order of the frames that are written, and which file of a shelf is in use: a writer writes to the one that is.
-//! That what was written is read back is a law (`pcap_laws`).
+//! That what was written is read back is a law (`output_laws`).
 
 mod writer;
 

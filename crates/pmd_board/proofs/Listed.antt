@@ -8,7 +8,7 @@ use Rattle.std.proofs.lemmas.List.Folds.{list_any_none, list_any_more}
 use Rattle.spec_board.specs.Effects.{is_among}
 use Rattle.megaflow_table.specs.Live.{IsIn, IsRising}
 use Rattle.megaflow_table.proofs.LiveLaws.{rising_get}
-use Rattle.translation_laws.proofs.MemberLaws.{Among}
+use Rattle.table_laws.proofs.MemberLaws.{Among}
 use Rattle.board_laws.proofs.NumberLaws.{Rising}
 
 -- ---- numbers that rise

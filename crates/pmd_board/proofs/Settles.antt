@@ -14,7 +14,7 @@ use Rattle.spec_board.specs.Results.{covering, entry_of, key_at, mask_for, numbe
 use Rattle.spec_board.specs.Effects.{effect, key_of_entry, put_by, with_put}
 use Rattle.spec_board.specs.Refusals.{put_fault, settle_fault}
 use Rattle.spec_board.specs.Journals.{IsLegal, after}
-use Rattle.bundle_laws.proofs.Bundles.{within}
+use Rattle.table_laws.proofs.Bundles.{within}
 use Rattle.board_laws.specs.Entries.{HasKeys}
 use Rattle.board_laws.proofs.Kept.{kept_after}
 use Rattle.board_laws.proofs.NumberLaws.{among_number, entry_of-among, entry_of-some, is_among-Among}

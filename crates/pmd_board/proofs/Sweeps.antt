@@ -8,7 +8,7 @@ use Rattle.spec_board.specs.Steps.{Settle, Put, Settled, Present, Full, Installe
 use Rattle.spec_board.specs.State.{State, Decided}
 use Rattle.spec_board.specs.Results.{key_at, translated}
 use Rattle.spec_board.specs.Effects.{effect, is_among}
-use Rattle.translation_laws.proofs.MemberLaws.{Among}
+use Rattle.table_laws.proofs.MemberLaws.{Among}
 use Rattle.pmd_board.specs.Fields.{steps_left}
 use Rattle.pmd_board.specs.SweepLists.{without_dropped}
 

@@ -5,7 +5,7 @@ use Rattle.std.specs.Global.{Vec}
 use Rattle.std.proofs.lemmas.Bool.{not-true}
 use Rattle.std.proofs.lemmas.List.{length-map, map-append}
 use Rattle.std.proofs.lemmas.List.Filters.{length-filter_both}
-use Rattle.translation_laws.proofs.MemberLaws.{Among, All_from-Among}
+use Rattle.table_laws.proofs.MemberLaws.{Among, All_from-Among}
 use Rattle.spec_actions.specs.declared.action.DpAction.{DpAction}
 use Rattle.spec_board.specs.State as states
 use Rattle.spec_board.specs.Results as board

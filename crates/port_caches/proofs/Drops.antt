@@ -2,7 +2,7 @@
 use Rattle.std.proofs.Common.{◌≡◌, ℕ, ◌+◌, ◌<◌, ◌≤◌, Bool, true, false, cond, ◌||◌, ◌==◌, List, [], ◌∷◌, map, Option, Some, None, inl, inr, refl, sym, ap, ap₂, subst, ◌∙◌, drop, length, get_or, add-one, drop-cons, arith}
 use Rattle.std.specs.Prelude.{filter, ◌≢◌, not}
 use Rattle.std.proofs.lemmas.Bool.{cond-true, cond-false, eq-eqb, ne_eqb, not_from_true, not_from_false}
-use Rattle.translation_laws.proofs.MemberLaws.{Among}
+use Rattle.table_laws.proofs.MemberLaws.{Among}
 use Rattle.spec_board.specs.State.{Total}
 use Rattle.port_caches.specs.Sums.{IsCountable}
 use Rattle.spec_board.specs.Effects.{credited, credited_by, is_among}

@@ -6,7 +6,7 @@ use Rattle.std.proofs.Math.ListN.{length-set}
 use Rattle.std.proofs.lemmas.Option.{same_Some}
 use Rattle.std.proofs.lemmas.Bool.{eqb-true}
 use Rattle.std.proofs.Math.Nat.{min-eq_left}
-use Rattle.translation_laws.proofs.MemberLaws.{Among}
+use Rattle.table_laws.proofs.MemberLaws.{Among}
 use Rattle.spec_board.specs.State as states
 use Rattle.spec_board.specs.Effects as effects
 use Rattle.spec_pcap.specs.Pcap.{Frame}

@@ -4,7 +4,7 @@ use Rattle.std.specs.Prelude.{◌≢◌, ◌⊎◌, filter, not, nat_le}
 use Rattle.std.specs.Option.{option_map}
 use Rattle.std.proofs.lemmas.Bool.{cases_eq, eq-eqb, ne_eqb, eqb-true, cond-true, cond-false, and_parts}
 use Rattle.std.proofs.lemmas.Option.{same_Some}
-use Rattle.translation_laws.proofs.MemberLaws.{Among}
+use Rattle.table_laws.proofs.MemberLaws.{Among}
 use Rattle.spec_keys.specs.Keys.{covers, same}
 use Rattle.spec_xlate.specs.Translation.{Translation}
 use Rattle.spec_board.specs.State as states

@@ -4,7 +4,7 @@ use Rattle.std.specs.Prelude.{IsSome, is_some, ◌≢◌}
 use Rattle.std.specs.Option.{option_map}
 use Rattle.std.proofs.lemmas.Bool.{eqb-true, eqb-false}
 use Rattle.std.proofs.lemmas.Option.{none-some, same_Some}
-use Rattle.translation_laws.proofs.MemberLaws.{Among}
+use Rattle.table_laws.proofs.MemberLaws.{Among}
 use Rattle.spec_keys.specs.Keys.{agree}
 use Rattle.spec_board.specs.State as states
 use Rattle.spec_board.specs.Results as board

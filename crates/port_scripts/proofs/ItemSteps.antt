@@ -5,7 +5,7 @@ use Rattle.spec_flow_text.specs.declared.fault.TextFault.{TextFault}
 use Rattle.spec_flow_text.specs.declared.fault.TextFault.TheVariants.{Syntax, UnknownName, Unsupported, BadValue, Repeated, TooManyActions, OutOfMemory}
 use Rattle.spec_flow_text.specs.Given.{IsFault}
 use Rattle.spec_flow_text.specs.Items.{Word}
-use Rattle.spec_script.specs.Mirrors.{Mirror, with_item, with_items}
+use Rattle.spec_input.specs.Mirrors.{Mirror, with_item, with_items}
 
 module _ (ports : List ℕ) (before : Mirror) where
   pub at_end : with_items ports [] before ≡ Ok before

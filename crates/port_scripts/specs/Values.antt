@@ -2,7 +2,7 @@
 use Rattle.std.specs.Prelude.{ℕ, true, List, Result, Ok, Err}
 use Rattle.spec_flow_text.specs.declared.fault.TextFault.{TextFault}
 use Rattle.spec_flow_text.specs.Items.{Word, words, ◌>>=◌}
-use Rattle.spec_script.specs.Steps.{is_gap, number_in, port_in, one_value, two_values}
+use Rattle.spec_input.specs.Steps.{is_gap, number_in, port_in, one_value, two_values}
 
 -- what was read, seen by a view
 abbrev pub read_as : {X Y : Type 0} → (X → Y) → Result X TextFault → Result Y TextFault

@@ -14,7 +14,7 @@
 //!
 //! # What is promised
 //!
-//! `spec_script::steps` and `spec_script::mirrors` say what the bytes of a file say for a switch of these ports, or what is wrong
+//! `spec_input::steps` and `spec_input::mirrors` say what the bytes of a file say for a switch of these ports, or what is wrong
 //! with them first (`steps_of`, `mirrors_in`), and this crate answers just that, or out of memory. A fault has the
 //! number of its line, and its column there. There are 16 mirrors at most.
 //!
@@ -39,6 +39,6 @@ mod steps;
 
 pub use mirrors::{MOST_MIRRORS, MOST_MIRRORS_BYTES, read_mirrors};
 pub use spec_case::RunStep;
-pub use spec_script::FileFault;
-pub use spec_script::mirrors::Mirror;
+pub use spec_input::FileFault;
+pub use spec_input::mirrors::Mirror;
 pub use steps::{MOST_STEPS, MOST_STEPS_BYTES, read_steps};

@@ -1,17 +1,17 @@
 //! The mirror of a line.
 ghost use Rattle.std.specs.Prelude.{◌≡◌, ◌≤◌, length};
 ghost use Rattle.spec_flow_text.specs.Given.{Gives};
-ghost use Rattle.spec_script.specs.Mirrors.{port_in, with_port, with_valued, with_bare, with_item, mirror_in};
+ghost use Rattle.spec_input.specs.Mirrors.{port_in, with_port, with_valued, with_bare, with_item, mirror_in};
 ghost use Rattle.field_text.specs.WordViews.{word_view};
 
 use crate::selectors::selector_named;
 use field_text::{Separators, TextFault, Word, next_word, text_from};
-use spec_script::mirrors::{Mirror, Selector};
+use spec_input::mirrors::{Mirror, Selector};
 use std::alloc::Global;
 use text_numbers::{LAST_PORT, cut_at, read_decimal};
 
 // The port that a value says, which is one of the switch's.
-#[tactic(auto, unfolding(spec_script::specs::Mirrors::port_in))]
+#[tactic(auto, unfolding(spec_input::specs::Mirrors::port_in))]
 fn port_in(ports: &[u16], col: u32, value_col: u32, value: &[u8]) -> Result<u16, TextFault>
     ensures { result ≡ port_in ports.now col value_col value.now }
 {
@@ -30,7 +30,7 @@ fn port_in(ports: &[u16], col: u32, value_col: u32, value: &[u8]) -> Result<u16,
 }
 
 // Ports, and the one that a value says, which isn't among them yet.
-#[tactic(auto, unfolding(spec_script::specs::Mirrors::with_port))]
+#[tactic(auto, unfolding(spec_input::specs::Mirrors::with_port))]
 fn with_port(
     ports: &[u16],
     col: u32,
@@ -50,7 +50,7 @@ fn with_port(
 }
 
 // A mirror with an item of this name and value more.
-#[tactic(auto, unfolding(spec_script::specs::Mirrors::with_valued))]
+#[tactic(auto, unfolding(spec_input::specs::Mirrors::with_valued))]
 fn with_valued(
     ports: &[u16],
     col: u32,
@@ -77,7 +77,7 @@ fn with_valued(
 }
 
 // A mirror with an item more that is a name alone.
-#[tactic(auto, unfolding(spec_script::specs::Mirrors::with_bare))]
+#[tactic(auto, unfolding(spec_input::specs::Mirrors::with_bare))]
 fn with_bare(col: u32, name: Option<Selector>, mirror: Mirror) -> Result<Mirror, TextFault>
     ensures { Gives (λ m. m) result (with_bare col name mirror) }
 {
@@ -95,7 +95,7 @@ fn with_bare(col: u32, name: Option<Selector>, mirror: Mirror) -> Result<Mirror,
 }
 
 // A mirror with one item more.
-#[tactic(auto, unfolding(spec_script::specs::Mirrors::with_item))]
+#[tactic(auto, unfolding(spec_input::specs::Mirrors::with_item))]
 fn with_item(ports: &[u16], item: Word<'_>, mirror: Mirror) -> Result<Mirror, TextFault>
     ensures { Gives (λ m. m) result (with_item ports.now (word_view item.entry) mirror) }
 {
@@ -110,7 +110,7 @@ fn with_item(ports: &[u16], item: Word<'_>, mirror: Mirror) -> Result<Mirror, Te
 }
 
 /// The mirror of a line, for a switch of these ports. Its items are read from left to right.
-#[tactic(auto, unfolding(spec_script::specs::Mirrors::mirror_in))]
+#[tactic(auto, unfolding(spec_input::specs::Mirrors::mirror_in))]
 pub fn read_mirror(alloc: Global, ports: &[u16], line: &[u8]) -> Result<Mirror, TextFault>
     requires { length line.now ≤ 4_294_967_294 }
     ensures { Gives (λ m. m) result (mirror_in ports.now line.now) }

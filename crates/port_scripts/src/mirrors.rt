@@ -1,15 +1,15 @@
 //! The mirrors of a file.
 ghost use Rattle.std.specs.Prelude.{◌≡◌, ◌≤◌, List, length, IfOk};
-ghost use Rattle.spec_script.specs.Given.{Gives};
-ghost use Rattle.spec_script.specs.Lines.{most_line_bytes, is_blank};
-ghost use Rattle.spec_script.specs.Mirrors as files;
-ghost use Rattle.spec_script.specs.Mirrors.{most_mirrors_bytes, most_mirrors, with_line, mirrors_in};
+ghost use Rattle.spec_input.specs.Given.{Gives};
+ghost use Rattle.spec_input.specs.Lines.{most_line_bytes, is_blank};
+ghost use Rattle.spec_input.specs.Mirrors as files;
+ghost use Rattle.spec_input.specs.Mirrors.{most_mirrors_bytes, most_mirrors, with_line, mirrors_in};
 
 use crate::mirror_line::read_mirror;
 use field_text::{is_white, uncommented};
 use line_files::{LineReader, in_line, read_lines};
-use spec_script::FileFault;
-use spec_script::mirrors::Mirror;
+use spec_input::FileFault;
+use spec_input::mirrors::Mirror;
 use std::alloc::Global;
 
 /// The most bytes of a mirrors file.
@@ -44,7 +44,7 @@ impl LineReader for MirrorReader<'_> {
     ghost after_line = { λ reader. with_line reader.ports.now };
 
     // The mirrors with that of one more line.
-    #[tactic(auto, unfolding(spec_script::specs::Mirrors::with_line))]
+    #[tactic(auto, unfolding(spec_input::specs::Mirrors::with_line))]
     fn read_line(
         &self,
         number: u32,
@@ -68,7 +68,7 @@ impl LineReader for MirrorReader<'_> {
 ///
 /// A fault is the first of the file. Lines of it are counted from 1, and so are columns. In a line the length is tested
 /// first, then the number of mirrors, then its items from left to right.
-#[tactic(auto, unfolding(spec_script::specs::Mirrors::mirrors_in))]
+#[tactic(auto, unfolding(spec_input::specs::Mirrors::mirrors_in))]
 pub fn read_mirrors(alloc: Global, bytes: &[u8], ports: &[u16]) -> Result<Vec<Mirror>, FileFault>
     requires { length bytes.now ≤ most_mirrors_bytes }
     ensures mirrors { Gives (λ v. v.items) result (mirrors_in ports.now bytes.now) }

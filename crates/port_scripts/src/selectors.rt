@@ -1,9 +1,9 @@
 ghost use Rattle.std.specs.Prelude.{◌≡◌};
 ghost use Rattle.spec_flow_text.specs.Names as names;
-ghost use Rattle.spec_script.specs.Mirrors.{selectors};
+ghost use Rattle.spec_input.specs.Mirrors.{selectors};
 
 use field_text::meaning_of;
-use spec_script::mirrors::Selector;
+use spec_input::mirrors::Selector;
 
 const SELECTORS: [(&str, Selector); 3] = [
     ("select_src_port", Selector::SrcPort),

@@ -1,17 +1,17 @@
 //! The step of a line.
 ghost use Rattle.std.specs.Prelude.{◌≡◌, []};
-ghost use Rattle.spec_script.specs.Steps.{Alone, shape_of, number_in, of_switch, port_in, one_value, two_values, with_values, step_in};
+ghost use Rattle.spec_input.specs.Steps.{Alone, shape_of, number_in, of_switch, port_in, one_value, two_values, with_values, step_in};
 ghost use Rattle.port_scripts.specs.Values.{read_as, words_at, port_value, port_and_number};
 ghost use Rattle.field_text.specs.WordViews.{word_view};
 
 use crate::step_words::{Blanks, step_word};
 use field_text::{TextFault, Word, next_word};
 use spec_case::RunStep;
-use spec_script::steps::StepWord;
+use spec_input::steps::StepWord;
 use text_numbers::read_decimal;
 
 // The number that a word says, from 1.
-#[tactic(auto, unfolding(spec_script::specs::Steps::number_in))]
+#[tactic(auto, unfolding(spec_input::specs::Steps::number_in))]
 fn number_in(word: Word<'_>) -> Result<u32, TextFault>
     ensures { result ≡ number_in (word_view word.entry) }
 {
@@ -32,7 +32,7 @@ fn of_switch(ports: &[u16], number: u32) -> Option<u16>
 }
 
 // The port that a word says, which is one of the switch's.
-#[tactic(auto, unfolding(spec_script::specs::Steps::port_in))]
+#[tactic(auto, unfolding(spec_input::specs::Steps::port_in))]
 fn port_in(ports: &[u16], word: Word<'_>) -> Result<u16, TextFault>
     ensures { result ≡ port_in ports.now (word_view word.entry) }
 {
@@ -156,7 +156,7 @@ fn with_values(
 }
 
 /// The step of a line's first word and of those behind it, for a switch of these ports.
-#[tactic(auto, unfolding(spec_script::specs::Steps::step_in))]
+#[tactic(auto, unfolding(spec_input::specs::Steps::step_in))]
 pub fn step_in(ports: &[u16], first: Word<'_>, values: Word<'_>) -> Result<RunStep, TextFault>
     ensures { result ≡ step_in ports.now (word_view first.entry) (words_at (word_view values.entry)) }
 {

@@ -1,9 +1,9 @@
 ghost use Rattle.std.specs.Prelude.{◌≡◌};
 ghost use Rattle.spec_flow_text.specs.Names as names;
-ghost use Rattle.spec_script.specs.Steps.{is_gap, step_words};
+ghost use Rattle.spec_input.specs.Steps.{is_gap, step_words};
 
 use field_text::{Gap, meaning_of};
-use spec_script::steps::StepWord;
+use spec_input::steps::StepWord;
 
 const STEP_WORDS: [(&str, StepWord); 9] = [
     ("edit", StepWord::Edit),

@@ -20,8 +20,8 @@ use Rattle.spec_xlate.specs.Needs.{is_met}
 use Rattle.spec_xlate.specs.Tags.{VlanTag, tag_fields, is_tag, is_tag_field, with_tags, pushed, tagged, is_full}
 use Rattle.spec_xlate.specs.Translation.{Switch, State, Mode, deepest, action_limit, kept as kept_actions, stopped, with_current, emit, emit_all, rebased, committed, in_port_of, is_other_port, other_ports, output, output_all, slice_bits, slice_of, with_value, written, write, vid_bits, pcp_bits, pcp_unit, lower_ttl, act, in_mode, run, resumed, visited, follow, with_lookups_left, enter, look, start, last_state, pipe}
 use Rattle.spec_xlate.specs.Translation.Mode.{Going, ListEnded, Stopped}
-use Rattle.translation_laws.proofs.KeyLaws.{and_zero, masked_from-places}
-use Rattle.spec_diff.specs.Classes.{done, leads}
+use Rattle.table_laws.proofs.KeyLaws.{and_zero, masked_from-places}
+use Rattle.spec_tools.specs.Classes.{done, leads}
 use Rattle.rule_changes.specs.Lockstep.{written_with, keeps, FoundAlike}
 
 -- ---- a state with other visits, and as many lookups left

@@ -3,7 +3,7 @@ use Rattle.std.proofs.Common.{◌≡◌, ℕ, true, List, length, bit_and, sym, 
 use Rattle.std.proofs.lemmas.Nat.{and_comm, and_assoc}
 use Rattle.spec_keys.specs.Keys.{number_at, masked, overlap}
 use Rattle.spec_tables.specs.Rules.{Match, is_matched}
-use Rattle.translation_laws.proofs.KeyLaws.{agree-masked, agree_from-masked, masked_from-places, places_from-masked, number_at-masked, length_from-masked}
+use Rattle.table_laws.proofs.KeyLaws.{agree-masked, agree_from-masked, masked_from-places, places_from-masked, number_at-masked, length_from-masked}
 
 pub masked-common : (k x m n : List ℕ) → length x ≡ length k → masked k m ≡ masked x m → masked k (masked m n) ≡ masked x (masked m n)
 masked-common k x m n l e = masked_from-places k x (masked m n) l (λ q. at k q ∙ ap (λ (z : ℕ). bit_and z (number_at n q)) (places_from-masked k x m q e) ∙ sym (at x q))

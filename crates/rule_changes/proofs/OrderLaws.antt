@@ -4,7 +4,7 @@ use Rattle.spec_actions.specs.declared.action.OfAction.{OfAction}
 use Rattle.spec_keys.specs.Keys.{overlap}
 use Rattle.spec_tables.specs.Rules.{Rule, Match, is_matched}
 use Rattle.spec_tables.specs.Live.{rule_numbered}
-use Rattle.translation_laws.specs.Members.{Among}
+use Rattle.table_laws.specs.Members.{Among}
 use Rattle.rule_tables.specs.declared.rule.Rule as stored
 use Rattle.rule_tables.specs.History.{History}
 use Rattle.rule_tables.specs.Views.{match_view}

@@ -6,10 +6,10 @@ use Rattle.spec_keys.specs.Keys.{masked}
 use Rattle.spec_tables.specs.Rules.{Rule, Match, rules_in, is_matched, winner}
 use Rattle.spec_tables.specs.Live.{rule_numbered}
 use Rattle.spec_xlate.specs.Translation.{switch_of}
-use Rattle.spec_diff.specs.Classes.{done}
-use Rattle.translation_laws.specs.Members.{Among}
-use Rattle.translation_laws.proofs.MemberLaws.{Among-filter, Among_in-filter}
-use Rattle.translation_laws.proofs.WinnerLaws.{IsWinner, winner-IsWinner}
+use Rattle.spec_tools.specs.Classes.{done}
+use Rattle.table_laws.specs.Members.{Among}
+use Rattle.table_laws.proofs.MemberLaws.{Among-filter, Among_in-filter}
+use Rattle.table_laws.proofs.WinnerLaws.{IsWinner, winner-IsWinner}
 use Rattle.pipe_model.specs.Runnable.{IsAmong, AreRunnable}
 use Rattle.rule_changes.specs.declared.pair.Pair.{Pair}
 use Rattle.rule_changes.specs.declared.pair.Side.TheVariants.{Old, New}

@@ -4,7 +4,7 @@ use Rattle.std.specs.List.{list_all}
 use Rattle.spec_keys.specs.Keys.{masked}
 use Rattle.spec_tables.specs.Rules.{Rule, Match, rules_in, winner}
 use Rattle.spec_xlate.specs.Translation.{switch_of}
-use Rattle.spec_diff.specs.Classes.{done}
+use Rattle.spec_tools.specs.Classes.{done}
 use Rattle.ovs_fields.specs.Packed.{bits}
 use Rattle.rule_tables.specs.Views.{match_view}
 use Rattle.pipe_model.specs.Runnable.{IsAmong}

@@ -3,7 +3,7 @@ use Rattle.std.specs.Prelude.{◌≡◌, ◌⊎◌, ◌<◌, ◌==◌, ℕ, true
 use Rattle.std.specs.List.{list_any}
 use Rattle.spec_tables.specs.Rules.{Rule, Match, is_matched}
 use Rattle.spec_tables.specs.Live.{rule_numbered}
-use Rattle.translation_laws.specs.Members.{Among}
+use Rattle.table_laws.specs.Members.{Among}
 use Rattle.rule_changes.specs.declared.pair.Pair.{Pair}
 use Rattle.rule_changes.specs.declared.pair.Side.{Side}
 use Rattle.rule_changes.specs.declared.pair.Side.TheVariants.{Old, New}

@@ -2,7 +2,7 @@
 ghost use Rattle.std.specs.Prelude.{◌≡◌, List, Some, map, IfOk, OnOk};
 ghost use Rattle.spec_tables.specs.Rules as tables;
 ghost use Rattle.spec_tables.specs.Live.{rule_numbered};
-ghost use Rattle.translation_laws.specs.Members.{Among};
+ghost use Rattle.table_laws.specs.Members.{Among};
 ghost use Rattle.rule_tables.specs.Views.{match_view};
 ghost use Rattle.pipe_model.specs.Runnable.{IsAmong, AreRunnable};
 ghost use Rattle.dump_lines.specs.Live.{IsOfEdits, live_in};

@@ -1,7 +1,7 @@
 //! A law of what the same rules do, as the contract of a function that does nothing.
 ghost use Rattle.std.specs.Prelude.{◌≡◌, ℕ, List};
 ghost use Rattle.spec_xlate.specs.Translation.{Switch};
-ghost use Rattle.spec_diff.specs.Classes.{done};
+ghost use Rattle.spec_tools.specs.Classes.{done};
 ghost use Rattle.rule_changes.specs.Lockstep.{FindAlike, KeepAll};
 
 /// Two switches do the same to a frame, where each of their lookups finds rules of the same actions, or none, for

@@ -9,7 +9,7 @@
 //! # What is promised
 //!
 //! Both versions do the same to each packet that none of these matches speaks of, whatever becomes of the bits that
-//! actions write: `AreAllChanges` (specs/Changes.antt), in the words of `spec_diff`. `same_rules_do_the_same` is the
+//! actions write: `AreAllChanges` (specs/Changes.antt), in the words of `spec_tools`. `same_rules_do_the_same` is the
 //! law under it: two switches whose lookups find rules of the same actions, for every key that has what the frame's
 //! key has of bits that no action writes, do the same to the frame.
 //!

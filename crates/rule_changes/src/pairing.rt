@@ -1,7 +1,7 @@
 //! Pairs of rules that both versions have.
 ghost use Rattle.std.specs.Prelude.{◌≡◌, true, false, List, IfOk, IfSome, OnOk};
 ghost use Rattle.spec_tables.specs.Rules as tables;
-ghost use Rattle.translation_laws.specs.Members.{Among};
+ghost use Rattle.table_laws.specs.Members.{Among};
 ghost use Rattle.dump_lines.specs.Live.{IsOfEdits, live_in};
 ghost use Rattle.rule_changes.specs.Pairs.{IsPair, KeepOrder, ArePairs};
 ghost use Rattle.rule_changes.specs.Twins.{AreTwins, DontClash};

@@ -10,7 +10,7 @@ use Rattle.spec_tables.specs.Edits.{Edit, edited, after_edits}
 use Rattle.spec_tables.specs.Bundles.{edits_through, bundle, version, AreBundles}
 use Rattle.spec_tables.specs.Changes.{changes_by, changes_to}
 use Rattle.rule_tables.specs.History.{EditHistory, History, no_edits, no_bundles, applied, rules_after, rules_of, edited_by, edited_by_all, bundled_by, states_to, edit_history, history_of}
-use Rattle.bundle_laws.proofs.Bundles.{within, bundle-after, length-bundle}
+use Rattle.table_laws.proofs.Bundles.{within, bundle-after, length-bundle}
 use Rattle.rule_tables.proofs.FilterMaps.{slice_get-append, slice_get-push}
 
 -- later edits don't count

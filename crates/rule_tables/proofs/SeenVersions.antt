@@ -4,7 +4,7 @@ use Rattle.spec_tables.specs.Bundles.{edits_through}
 use Rattle.rule_tables.specs.declared.versions.VersionedRules.TheInside.{Inside}
 use Rattle.rule_tables.specs.History.{History, applied, newest, rules_after, rules_of}
 use Rattle.rule_tables.specs.Versions.{versions_in, AreBundled}
-use Rattle.bundle_laws.proofs.Bundles.{within}
+use Rattle.table_laws.proofs.Bundles.{within}
 
 module _ (a : Inside) (h : History) (view : versions_in a ≡ h) where
   -- no version is of more edits than were applied

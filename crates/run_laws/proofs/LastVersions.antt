@@ -15,7 +15,7 @@ use Rattle.spec_board.specs.Journals.{after, opened}
 use Rattle.spec_board.specs.Decisions.{Decision, decided_place, decision_as, decision_at, decisions_from, decisions, is_of, decision_of, decides, times_decided, IsDecided, visits_of, due_packets, due_bytes}
 use Rattle.spec_board.specs.Texts.{Journal}
 use Rattle.spec_run.specs.Journals.{HasEditsApart, IsWhole, IsByLastVersion, actions_in}
-use Rattle.translation_laws.proofs.MemberLaws.{Among, Among-append}
+use Rattle.table_laws.proofs.MemberLaws.{Among, Among-append}
 use Rattle.board_laws.proofs.Journals.{after_step}
 use Rattle.board_laws.proofs.PlaceLaws.{at_there}
 use Rattle.board_laws.proofs.Places.{all_places}

@@ -4,7 +4,7 @@ use Rattle.std.specs.List.{list_all}
 use Rattle.spec_tables.specs.Edits.{has_sound_actions}
 use Rattle.spec_tables.specs.Bundles.{version, AreBundles}
 use Rattle.spec_case.specs.Run.{Run, edit_count, last_version}
-use Rattle.bundle_laws.proofs.Bundles.{within}
+use Rattle.table_laws.proofs.Bundles.{within}
 use Rattle.rule_tables.specs.History.{History, newest, history_of}
 use Rattle.rule_tables.proofs.Histories.{rules_of-history}
 use Rattle.pipe_model.specs.Runnable.{AreRunnable}

@@ -2,7 +2,7 @@
 use Rattle.spec_keys.specs.Keys.{IsKey}
 use Rattle.spec_case.specs.Run.{Run}
 use Rattle.spec_board.specs.Results.{switch_at}
-use Rattle.translation_laws.proofs.SoundLaws.{consulted-sound}
+use Rattle.table_laws.proofs.SoundLaws.{consulted-sound}
 use Rattle.pipe_model.specs.Xlates.{IsWildcardSound}
 use Rattle.run_xlate.specs.Views.{XlateView, xlate_of}
 

@@ -18,7 +18,7 @@
 //! # How
 //!
 //! The type keeps that translation and mask are those of its key and version, so a value can be handed on from a thread
-//! to another, or stored, and nothing has to be proved of it again. The laws are those of `translation_laws`.
+//! to another, or stored, and nothing has to be proved of it again. The laws are those of `table_laws`.
 //!
 //! # What is left to others
 //!

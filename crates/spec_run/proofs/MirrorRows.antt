@@ -30,7 +30,7 @@ use Rattle.spec_board.specs.Effects.{credited_by}
 use Rattle.spec_board.specs.Decisions.{decisions_from}
 use Rattle.spec_board.specs.Schedules.{finish, finish_board, least_block}
 use Rattle.spec_board.specs.GivenSteps.{with_given_steps}
-use Rattle.spec_script.specs.Mirrors.{Mirror}
+use Rattle.spec_input.specs.Mirrors.{Mirror}
 use Rattle.spec_run.specs.Journals.{scheduled_journals}
 use Rattle.spec_run.specs.Mirrored.{copy_of, copies, mirror_files}
 

@@ -12,8 +12,8 @@ use Rattle.spec_tables.specs.Edits.{after_edits}
 use Rattle.spec_tables.specs.Changes.{changes_to}
 use Rattle.spec_flow_text.specs.Numbers.{digits_upto, decimal_upto, number_upto, octet, octet_before_colon, mac}
 use Rattle.clap.proofs.OnLiterals.{clap_on_literals}
-use Rattle.spec_words.specs.Words as command_line
-use Rattle.spec_words.specs.Words.{port_number, port_word, new_port, port_words, command_of}
+use Rattle.spec_input.specs.Words as command_line
+use Rattle.spec_input.specs.Words.{port_number, port_word, new_port, port_words, command_of}
 use Rattle.spec_flow_text.specs.declared.fault.TextFault.TheVariants as text
 use Rattle.spec_flow_text.specs.Names.{field_named, is_field_left_out, shorthand_named, keyword_named, item_named, reserved_port_named, is_action_left_out, action_named}
 use Rattle.spec_flow_text.specs.Values.{value_in, whole_value, value_of, bits_stated, field_stated}
@@ -23,9 +23,9 @@ use Rattle.spec_flow_text.specs.Matches.{kept, match_of, read_match}
 use Rattle.spec_flow_text.specs.Actions as actions
 use Rattle.spec_flow_text.specs.Actions.{up_to_end, items, is_closed, argument_of, port_of, drop_item, actions_of_item, read_items, read_actions}
 use Rattle.spec_flow_text.specs.Lines.{edit_from, edit_in}
-use Rattle.spec_script.specs.declared.fault.FileFault.TheVariants as fault
-use Rattle.spec_script.specs.Lines.{with_lines}
-use Rattle.spec_script.specs.Script.{with_line, script_of, with_edit, with_sync, sync_time, time_of, seconds_with_fraction, seconds_of, fraction_of}
+use Rattle.spec_input.specs.declared.fault.FileFault.TheVariants as fault
+use Rattle.spec_input.specs.Lines.{with_lines}
+use Rattle.spec_input.specs.Script.{with_line, script_of, with_edit, with_sync, sync_time, time_of, seconds_with_fraction, seconds_of, fraction_of}
 use Rattle.spec_frames.specs.Ethernet.{is_tag_at, tag_count, tci_at, carried, carried_by}
 use Rattle.spec_frames.specs.Network.{network_at}
 use Rattle.spec_frames.specs.Key.{with_network, key_of}
@@ -50,9 +50,9 @@ use Rattle.spec_board.specs.GivenSteps.{with_given_steps}
 use Rattle.spec_case.specs.declared.run_step.RunStep.{RunStep}
 use Rattle.spec_case.specs.declared.run_step.RunStep.TheVariants as step
 use Rattle.spec_dumps.specs.declared.ran.Ran.{Ran}
-use Rattle.spec_script.specs.Steps as steps_file
-use Rattle.spec_script.specs.Steps.{number_in, port_in, step_in, with_words, steps_of}
-use Rattle.spec_script.specs.Mirrors as mirrors_file
+use Rattle.spec_input.specs.Steps as steps_file
+use Rattle.spec_input.specs.Steps.{number_in, port_in, step_in, with_words, steps_of}
+use Rattle.spec_input.specs.Mirrors as mirrors_file
 use Rattle.spec_run.specs.declared.quantity.Quantity.{Quantity}
 use Rattle.spec_run.specs.declared.quantity.Quantity.TheVariants.{EditsBytes, StepsBytes, MirrorsBytes, Line, Edits, Syncs, Actions, Steps, Mirrors, Changes, TraceBytes, Frames}
 use Rattle.spec_run.specs.Verdict.{Files, Refusal, Usage, Missing, Text, Trace, Limit, TraceFile, Accepted, command_in, script_in, file_in, traces_after, run_in, verdict, refused_text, traces_opened, last_opened, later_opened, sources_opened, files_opened}

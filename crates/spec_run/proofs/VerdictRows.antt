@@ -10,13 +10,13 @@ use Rattle.spec_case.specs.Run.{Run}
 use Rattle.spec_tables.specs.Changes.{changes_to}
 use Rattle.spec_flow_text.specs.Numbers.{digits_upto, decimal_upto}
 use Rattle.clap.proofs.OnLiterals.{clap_on_literals}
-use Rattle.spec_words.specs.Words as command_line
-use Rattle.spec_words.specs.Words.{PortWord, port_number, port_word, new_port, port_words, command_of}
+use Rattle.spec_input.specs.Words as command_line
+use Rattle.spec_input.specs.Words.{PortWord, port_number, port_word, new_port, port_words, command_of}
 use Rattle.spec_flow_text.specs.declared.fault.TextFault.TheVariants as text
-use Rattle.spec_script.specs.declared.fault.FileFault.{FileFault}
-use Rattle.spec_script.specs.declared.fault.FileFault.TheVariants as fault
-use Rattle.spec_script.specs.Lines.{with_lines}
-use Rattle.spec_script.specs.Script.{with_line, script_of}
+use Rattle.spec_input.specs.declared.fault.FileFault.{FileFault}
+use Rattle.spec_input.specs.declared.fault.FileFault.TheVariants as fault
+use Rattle.spec_input.specs.Lines.{with_lines}
+use Rattle.spec_input.specs.Script.{with_line, script_of}
 use Rattle.spec_run.specs.declared.quantity.Quantity.TheVariants.{Line, Edits, Syncs, Actions, Steps, Mirrors, TraceBytes, Frames}
 use Rattle.spec_run.specs.Verdict.{Files, Refusal, Text, Trace, Limit, command_in, script_in, file_in, refused_text, refused_trace, traces_after, traces_in, traces_opened, last_opened, later_opened, sources_opened, files_opened, run_in, verdict}
 

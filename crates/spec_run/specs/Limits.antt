@@ -1,10 +1,10 @@
 -- The quantities that have a limit: their names and their greatest numbers (this profile).
 use Rattle.std.specs.Prelude.{ℕ, List, codes}
 use Rattle.spec_flow_text.specs.Actions.{most_actions}
-use Rattle.spec_script.specs.Lines.{most_line_bytes}
-use Rattle.spec_script.specs.Script.{most_edits, most_syncs}
-use Rattle.spec_script.specs.Steps.{most_steps}
-use Rattle.spec_script.specs.Mirrors.{most_mirrors_bytes, most_mirrors}
+use Rattle.spec_input.specs.Lines.{most_line_bytes}
+use Rattle.spec_input.specs.Script.{most_edits, most_syncs}
+use Rattle.spec_input.specs.Steps.{most_steps}
+use Rattle.spec_input.specs.Mirrors.{most_mirrors_bytes, most_mirrors}
 use Rattle.spec_run.specs.declared.quantity.Quantity.{Quantity}
 use Rattle.spec_run.specs.declared.quantity.Quantity.TheVariants.{EditsBytes, StepsBytes, MirrorsBytes, Line, Edits, Syncs, Actions, Steps, Mirrors, Changes, TraceBytes, Frames}
 

@@ -11,7 +11,7 @@ use Rattle.spec_case.specs.Run.{Run, frame_at, is_nanos}
 use Rattle.spec_case.specs.Arrivals.{arrivals, in_order}
 use Rattle.spec_board.specs.Texts.{Journal}
 use Rattle.spec_exec.specs.Sent.{Piece, sent}
-use Rattle.spec_script.specs.Mirrors.{Mirror, is_among}
+use Rattle.spec_input.specs.Mirrors.{Mirror, is_among}
 use Rattle.spec_run.specs.Journals.{actions_for}
 
 -- whether a mirror copies what comes in at a port

@@ -11,9 +11,9 @@ use Rattle.spec_case.specs.Run.{Run, frame_at, is_nanos}
 use Rattle.spec_case.specs.Arrivals.{arrivals, in_order}
 use Rattle.spec_board.specs.Scheduled.{scheduled}
 use Rattle.spec_board.specs.Texts.{Journal, journals_text}
-use Rattle.spec_words.specs.Words.{Input, Files as Named, Made}
+use Rattle.spec_input.specs.Words.{Input, Files as Named, Made}
 use Rattle.spec_netflow.specs.Datagrams.{netflow_file}
-use Rattle.spec_script.specs.Mirrors.{Mirror}
+use Rattle.spec_input.specs.Mirrors.{Mirror}
 use Rattle.spec_dumps.specs.declared.ran.Ran.{Ran}
 use Rattle.spec_dumps.specs.Rules.{rules_text}
 use Rattle.spec_dumps.specs.Megaflows.{megaflows_text}

@@ -8,8 +8,8 @@ use Rattle.spec_flow_text.specs.Characters.{dot}
 use Rattle.spec_board.specs.Texts.{line_of}
 use Rattle.spec_flow_text.specs.declared.fault.TextFault.{TextFault}
 use Rattle.spec_flow_text.specs.declared.fault.TextFault.TheVariants as text
-use Rattle.spec_script.specs.declared.fault.FileFault.{FileFault}
-use Rattle.spec_script.specs.declared.fault.FileFault.TheVariants as fault
+use Rattle.spec_input.specs.declared.fault.FileFault.{FileFault}
+use Rattle.spec_input.specs.declared.fault.FileFault.TheVariants as fault
 use Rattle.spec_run.specs.declared.quantity.Quantity.{Quantity}
 use Rattle.spec_run.specs.declared.quantity.Quantity.TheVariants.{Line, Edits, Syncs, Steps, Mirrors}
 use Rattle.spec_run.specs.Limits.{limit_of, quantity_name}

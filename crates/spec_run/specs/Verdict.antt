@@ -8,16 +8,16 @@ use Rattle.spec_pcap.specs.declared.fault.PcapFault.TheVariants.{TooManyFrames}
 use Rattle.spec_pcap.specs.Pcap.{Capture, capture_of}
 use Rattle.spec_case.specs.declared.run_step.RunStep.{RunStep}
 use Rattle.spec_case.specs.Run.{Run}
-use Rattle.spec_words.specs.Words.{PortWord, Input, Files as Named, Made, Command, command_of, has_trace}
+use Rattle.spec_input.specs.Words.{PortWord, Input, Files as Named, Made, Command, command_of, has_trace}
 use Rattle.spec_tables.specs.Changes.{changes_to}
 use Rattle.spec_flow_text.specs.declared.fault.TextFault.TheVariants as text
-use Rattle.spec_script.specs.declared.fault.FileFault.{FileFault}
-use Rattle.spec_script.specs.declared.fault.FileFault.TheVariants as fault
-use Rattle.spec_script.specs.Script.{Script, script_of}
-use Rattle.spec_script.specs.Steps as steps_file
-use Rattle.spec_script.specs.Mirrors as mirrors_file
-use Rattle.spec_script.specs.Mirrors.{Mirror, most_mirrors_bytes}
-use Rattle.spec_made.specs.Made.{edits_made, trace_made}
+use Rattle.spec_input.specs.declared.fault.FileFault.{FileFault}
+use Rattle.spec_input.specs.declared.fault.FileFault.TheVariants as fault
+use Rattle.spec_input.specs.Script.{Script, script_of}
+use Rattle.spec_input.specs.Steps as steps_file
+use Rattle.spec_input.specs.Mirrors as mirrors_file
+use Rattle.spec_input.specs.Mirrors.{Mirror, most_mirrors_bytes}
+use Rattle.spec_input.specs.Made.{edits_made, trace_made}
 use Rattle.spec_run.specs.declared.quantity.Quantity.{Quantity}
 use Rattle.spec_run.specs.declared.quantity.Quantity.TheVariants.{EditsBytes, StepsBytes, MirrorsBytes, Line, Edits, Syncs, Actions, Steps, Mirrors, Changes, TraceBytes, Frames}
 use Rattle.spec_run.specs.Limits.{most_edits_bytes, most_steps_bytes, most_changes, most_trace_bytes, most_frames}

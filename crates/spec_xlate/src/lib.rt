@@ -8,7 +8,7 @@
 //! This crate says what a translation is, `pipe`, and which bits it consults, `consulted`. The two are apart on
 //! purpose. `pipe` knows no masks: it is a plain run of the actions, each lookup a scan of all rules. `consulted`
 //! walks along the same states and says of each lookup and each action which bits it has looked at, and none of the
-//! rules of what they do. That the bits are enough is a law about the two, which `translation_laws` proves.
+//! rules of what they do. That the bits are enough is a law about the two, which `table_laws` proves.
 //!
 //! In the order of reading:
 //!

@@ -4,7 +4,7 @@ use Rattle.std.specs.List.{count_by}
 use Rattle.indexmap.specs.IndexMap.{get}
 use Rattle.spec_keys.specs.Keys.{masked, same}
 use Rattle.spec_tables.specs.Rules.{Rule}
-use Rattle.translation_laws.proofs.MemberLaws.{Among, Among_in-map}
+use Rattle.table_laws.proofs.MemberLaws.{Among, Among_in-map}
 use Rattle.ovs_fields.specs.Packed.{bits}
 use Rattle.staged_lookup.specs.declared.rank.Rank.{Rank}
 use Rattle.staged_lookup.specs.declared.stage.Stage.{Stage}

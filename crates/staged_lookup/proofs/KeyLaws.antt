@@ -5,7 +5,7 @@ use Rattle.std.proofs.lemmas.Option.{same_Some}
 use Rattle.std.specs.Map.{lookup}
 use Rattle.indexmap.specs.IndexMap.{get}
 use Rattle.spec_tables.specs.Rules.{Rule}
-use Rattle.translation_laws.proofs.MemberLaws.{Among, Among-append, Among-append_left, Among-append_right, Among-filter, Among_in-filter}
+use Rattle.table_laws.proofs.MemberLaws.{Among, Among-append, Among-append_left, Among-append_right, Among-filter, Among_in-filter}
 use Rattle.ovs_fields.specs.declared.key.Key.{Key}
 use Rattle.ovs_fields.specs.Packed.{numbers}
 use Rattle.staged_lookup.specs.Numbered.{AreDistinct, without, HasNumber, HasNoNumber}

@@ -3,7 +3,7 @@ use Rattle.std.proofs.Common.{◌≡◌, ℕ, ◌+◌, ◌<◌, Bool, true, fals
 use Rattle.std.specs.List.{list_any, count_by}
 use Rattle.std.proofs.lemmas.List.Folds.{Any-from_list_any}
 use Rattle.std.proofs.lemmas.List.Sums.{sum_by-cons}
-use Rattle.translation_laws.proofs.MemberLaws.{Among, Among_from-Contains}
+use Rattle.table_laws.proofs.MemberLaws.{Among, Among_from-Contains}
 
 pub any_among : {X : Type 0} (p : X → Bool) (xs : List X) → list_any p xs ≡ true → (x : X) × Among x xs × (p x ≡ true)
 any_among p xs h = let a = Any-from_list_any p xs h in (a.1, Among_from-Contains xs a.1 (a.0, a.2, a.3), a.4)

@@ -7,9 +7,9 @@ use Rattle.spec_keys.specs.Keys.{none, masked, agree}
 use Rattle.spec_keys.specs.Stages.{staged, network_stage}
 use Rattle.spec_tables.specs.Rules.{Rule, is_matched, winner}
 use Rattle.ovs_fields.specs.Equality.{same_from_equal}
-use Rattle.translation_laws.proofs.KeyLaws.{and_zero, agree-masked, agree_from-masked, masked_through-same}
-use Rattle.translation_laws.proofs.MemberLaws.{Among, list_any_from-Among}
-use Rattle.translation_laws.proofs.WinnerLaws.{IsWinner, IsBestOf, winner-IsWinner}
+use Rattle.table_laws.proofs.KeyLaws.{and_zero, agree-masked, agree_from-masked, masked_through-same}
+use Rattle.table_laws.proofs.MemberLaws.{Among, list_any_from-Among}
+use Rattle.table_laws.proofs.WinnerLaws.{IsWinner, IsBestOf, winner-IsWinner}
 use Rattle.staged_lookup.specs.declared.probe.Probe.{Probe}
 use Rattle.staged_lookup.specs.declared.probe.Probe.TheVariants.{Ended, Best}
 use Rattle.staged_lookup.specs.declared.rank.Rank.{Rank}

@@ -10,7 +10,7 @@ use Rattle.spec_keys.specs.Keys.{agree, masked, same}
 use Rattle.spec_tables.specs.Rules.{Rule}
 use Rattle.masked_map.specs.Maps.{mask_of, entries_of}
 use Rattle.ovs_fields.specs.Equality.{same_from_equal}
-use Rattle.translation_laws.proofs.MemberLaws.{Among, list_any_from-Among}
+use Rattle.table_laws.proofs.MemberLaws.{Among, list_any_from-Among}
 use Rattle.staged_lookup.specs.declared.stage.Stage.{Stage}
 use Rattle.staged_lookup.specs.declared.stage.StageKind.TheVariants.{LikeTheOneBefore, WholeMask, Tested}
 use Rattle.staged_lookup.specs.Counts.{count_at}

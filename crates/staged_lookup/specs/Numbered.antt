@@ -1,7 +1,7 @@
 -- Rules by their numbers.
 use Rattle.std.specs.Prelude.{◌≡◌, ℕ, ◌≤◌, ◌==◌, not, List, filter, count_by}
 use Rattle.spec_tables.specs.Rules.{Rule}
-use Rattle.translation_laws.specs.Members.{Among}
+use Rattle.table_laws.specs.Members.{Among}
 
 -- no two of the rules have the same number
 abbrev pub AreDistinct : List Rule → Type 0

@@ -8,7 +8,7 @@ use Rattle.spec_keys.specs.Fields.{field_count}
 use Rattle.spec_keys.specs.Keys.{none, masked, same}
 use Rattle.spec_keys.specs.Stages.{staged, metadata_stage, ethernet_stage, network_stage}
 use Rattle.spec_tables.specs.Rules.{Rule, winner}
-use Rattle.translation_laws.specs.Members.{Among}
+use Rattle.table_laws.specs.Members.{Among}
 use Rattle.ovs_fields.specs.Packed.{numbers, bits}
 use Rattle.rule_tables.specs.declared.matching.Match.{Match}
 use Rattle.rule_tables.specs.Views.{match_view}

@@ -14,7 +14,7 @@ use Rattle.spec_board.specs.Effects.{effect, decided_as}
 use Rattle.spec_board.specs.Journals.{IsLegal}
 use Rattle.run_case.specs.Places.{HasPlace, IsInBlock}
 use Rattle.run_case.proofs.blocks.Blocks.{block_of-from_in}
-use Rattle.translation_laws.proofs.MemberLaws.{All-Among}
+use Rattle.table_laws.proofs.MemberLaws.{All-Among}
 use Rattle.board_laws.specs.Entries.{IsRight}
 use Rattle.board_laws.specs.Versions.{IsRecent}
 use Rattle.board_laws.proofs.Hits.{Hits, exact_hits, mega_hits}

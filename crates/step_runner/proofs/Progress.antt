@@ -14,7 +14,7 @@ use Rattle.spec_board.specs.Results.{key_at, translated, entry_of}
 use Rattle.spec_board.specs.Refusals.{open_fault, look_fault, settle_fault, begin_fault, put_fault, end_fault}
 use Rattle.spec_board.specs.Effects.{effect, decided_as, is_among}
 use Rattle.spec_board.specs.Journals.{IsFinished, IsLegal, after}
-use Rattle.translation_laws.proofs.MemberLaws.{Among}
+use Rattle.table_laws.proofs.MemberLaws.{Among}
 use Rattle.board_laws.specs.Places.{ArePlaces}
 use Rattle.board_laws.proofs.Refusals.{lo_next}
 use Rattle.board_laws.proofs.NumberLaws.{Rising, among_number, Among-is_among}

@@ -4,7 +4,7 @@ use Rattle.std.specs.Prelude.{◌⊎◌, IsTrue, IsOk, IfErr, Result, Ok, Err, s
 use Rattle.std.specs.Option.{ok_or}
 use Rattle.std.proofs.lemmas.List.{append-nil}
 use Rattle.spec_base.specs.Counts.{Rose}
-use Rattle.spec_words.specs.Words.{Command, command_of}
+use Rattle.spec_input.specs.Words.{Command, command_of}
 use Rattle.spec_run.specs.Verdict.{Files as Shelved, Accepted, Refusal as Refused, Usage, command_in, verdict, files_opened}
 use Rattle.spec_run.specs.CutShort.{IsCutSummary}
 use Rattle.spec_run.specs.Statuses.{done_status, usage_status, read_fault_status, out_of_memory_status, read_fault_text, write_fault_text, is_refusal, status_of as refusal_status, Prints}

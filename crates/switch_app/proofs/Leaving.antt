@@ -22,8 +22,8 @@ use Rattle.switch_output.specs.declared.refusal.OutputRefusal.{OutputRefusal}
 use Rattle.switch_output.specs.declared.refusal.OutputRefusal.TheVariants.{Files, Summary}
 use Rattle.switch_output.specs.Refused.{IfWriteFault, HasWriteCause, IsCutIn}
 use Rattle.switch_output.specs.Put.{NamesNoFile, CutsFiles, PutsWhole, CutsOut}
-use Rattle.spec_words.specs.Words.{Input, Files as Named, Made, Command}
-use Rattle.spec_script.specs.Mirrors.{Mirror}
+use Rattle.spec_input.specs.Words.{Input, Files as Named, Made, Command}
+use Rattle.spec_input.specs.Mirrors.{Mirror}
 use Rattle.switch_input.specs.Known.{IsKnownInput, IsKnownCommand, IsKnown, NeedNoFile}
 use Rattle.switch_app.specs.declared.refusal.Refusal.TheVariants.{Output}
 use Rattle.switch_app.specs.Ends.{IsAllDone}

@@ -1,7 +1,7 @@
 ghost use Rattle.std.specs.Prelude.{◌≡◌, ◌≢◌, ◌≤◌, ◌⊎◌, length, None, IsTrue, IsOk, OnOk, IfOk, IfErr};
 ghost use Rattle.std.specs.List.{list_all};
 ghost use Rattle.spec_tables.specs.Edits.{has_sound_actions};
-ghost use Rattle.spec_script.specs.Steps.{most_steps};
+ghost use Rattle.spec_input.specs.Steps.{most_steps};
 ghost use Rattle.spec_dumps.specs.Summary.{summary};
 ghost use Rattle.spec_run.specs.Verdict.{command_in, verdict};
 ghost use Rattle.spec_run.specs.Journals.{AreJournals};

@@ -1,7 +1,7 @@
 -- What follows where the verdict is known, and where the words are taken.
 use Rattle.std.proofs.Common.{◌≡◌, ℕ, Bool, List, ap, ◌∙◌, sym, subst}
 use Rattle.std.specs.Prelude.{Result, Ok, Err, IfOk, IfErr}
-use Rattle.spec_words.specs.Words as words
+use Rattle.spec_input.specs.Words as words
 use Rattle.spec_run.specs.Verdict.{Refusal, Usage, command_in}
 use Rattle.command_words.specs.declared.reading.Command.{Command}
 use Rattle.command_words.specs.CommandViews.{command_view}

@@ -2,7 +2,7 @@
 use Rattle.std.proofs.Common.{◌≡◌, ℕ, List, [], ◌∷◌, map, refl, ap, ◌∙◌}
 use Rattle.std.specs.Fmt.{decimal, digits}
 use Rattle.spec_base.specs.Files.{File}
-use Rattle.spec_made.specs.Made.{edits_made, traces_made}
+use Rattle.spec_input.specs.Made.{edits_made, traces_made}
 use Rattle.spec_run.specs.Verdict.{made_sources, made_list}
 use Rattle.trace_gen.specs.declared.made.MadeTrace.{MadeTrace}
 use Rattle.trace_gen.specs.Made.{trace_view}

@@ -5,7 +5,7 @@ use Rattle.std.proofs.lemmas.Bool.Decides.{nat_tests}
 use Rattle.spec_pcap.specs.Pcap.{Capture, capture_of}
 use Rattle.spec_pcap.specs.declared.fault.PcapFault.{PcapFault}
 use Rattle.spec_run.specs.declared.quantity.Quantity.TheVariants.{EditsBytes, StepsBytes, MirrorsBytes, TraceBytes}
-use Rattle.spec_script.specs.Mirrors.{most_mirrors_bytes}
+use Rattle.spec_input.specs.Mirrors.{most_mirrors_bytes}
 use Rattle.spec_run.specs.Limits.{most_edits_bytes, most_steps_bytes}
 use Rattle.spec_run.specs.Verdict.{Files, Refusal, Limit, refused_trace, script_in, steps_within, steps_in, mirrors_within, mirrors_in, file_in}
 use Rattle.switch_input.specs.declared.refusals.refusal.InputFault.{InputFault}

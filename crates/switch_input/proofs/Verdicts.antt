@@ -4,8 +4,8 @@ use Rattle.std.specs.Prelude.{Result, Ok, Err, IfOk, IfErr}
 use Rattle.std.proofs.lemmas.List.{append-nil}
 use Rattle.spec_pcap.specs.Pcap.{Capture}
 use Rattle.spec_case.specs.declared.run_step.RunStep.{RunStep}
-use Rattle.spec_script.specs.Script.{Script}
-use Rattle.spec_script.specs.Mirrors.{Mirror}
+use Rattle.spec_input.specs.Script.{Script}
+use Rattle.spec_input.specs.Mirrors.{Mirror}
 use Rattle.spec_run.specs.Limits.{most_trace_bytes, most_frames}
 use Rattle.spec_run.specs.Verdict.{Files, Refusal, MirroredRun, Accepted, Sources, ports_said, run_of, command_in, script_in, steps_in, mirrors_in, traces_in, run_in, files_for, verdict, if_passed, given_names, traces_opened, last_opened, later_opened, sources_opened, opened_for, files_opened}
 use Rattle.command_words.specs.declared.reading.Command.{Command}

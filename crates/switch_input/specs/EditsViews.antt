@@ -1,6 +1,6 @@
 -- What the bytes of a file of edits give.
 use Rattle.std.specs.Prelude.{ℕ, List, Result}
-use Rattle.spec_script.specs.Script.{Script}
+use Rattle.spec_input.specs.Script.{Script}
 use Rattle.spec_run.specs.Verdict.{Refusal, ◌>>=◌, script_within, with_few_changes}
 
 -- the script of these bytes, under the name of their file, where it is accepted

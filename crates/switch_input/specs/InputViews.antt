@@ -4,9 +4,9 @@ use Rattle.std.specs.List.{list_all}
 use Rattle.spec_pcap.specs.Pcap.{Capture}
 use Rattle.spec_case.specs.Run.{Run}
 use Rattle.spec_case.specs.Blocks.{AreInOrder}
-use Rattle.spec_script.specs.Script.{most_edits, most_syncs}
-use Rattle.spec_script.specs.Steps.{most_steps}
-use Rattle.spec_script.specs.Mirrors.{most_mirrors}
+use Rattle.spec_input.specs.Script.{most_edits, most_syncs}
+use Rattle.spec_input.specs.Steps.{most_steps}
+use Rattle.spec_input.specs.Mirrors.{most_mirrors}
 use Rattle.spec_run.specs.Limits.{most_frames}
 use Rattle.spec_run.specs.Verdict as verdicts
 use Rattle.spec_tables.specs.Bundles.{AreBundles}

@@ -1,7 +1,7 @@
 -- When the verdict is known: what it is made of is told by the shelf where the words name files, and by the words alone where
 -- they are refused or have a number.
 use Rattle.std.specs.Prelude.{ℕ, Bool, false, List, IsTrue, Result, Ok, Err}
-use Rattle.spec_words.specs.Words.{Input, Files as Named, Made, Command}
+use Rattle.spec_input.specs.Words.{Input, Files as Named, Made, Command}
 use Rattle.spec_run.specs.Verdict.{Refusal, command_in}
 
 -- what is read for an input

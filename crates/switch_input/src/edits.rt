@@ -5,7 +5,7 @@ ghost use Rattle.std.specs.Prelude.{◌≡◌, ◌≤◌, [], ◌∷◌, length,
 ghost use Rattle.std.specs.List.{list_all};
 ghost use Rattle.edge_io.specs.declared.outside.InUse.TheVariants.{Nothing};
 ghost use Rattle.spec_case.specs.Blocks.{AreInOrder};
-ghost use Rattle.spec_script.specs.Script.{most_edits, most_syncs};
+ghost use Rattle.spec_input.specs.Script.{most_edits, most_syncs};
 ghost use Rattle.spec_run.specs.Limits.{most_edits_bytes};
 ghost use Rattle.spec_run.specs.Verdict.{script_within, with_few_changes, script_in};
 ghost use Rattle.spec_tables.specs.Bundles.{AreBundles};

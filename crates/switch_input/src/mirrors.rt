@@ -2,7 +2,7 @@
 ghost use Rattle.std.specs.Prelude.{◌≡◌, ◌≤◌, [], ◌∷◌, length, Ok, IsTrue, IfOk, IfErr, Some};
 ghost use Rattle.edge_io.specs.declared.outside.InUse.TheVariants.{Nothing};
 ghost use Rattle.spec_run.specs.Verdict.{mirrors_within, mirrors_in, given_names};
-ghost use Rattle.spec_script.specs.Mirrors.{most_mirrors_bytes, most_mirrors};
+ghost use Rattle.spec_input.specs.Mirrors.{most_mirrors_bytes, most_mirrors};
 ghost use Rattle.command_words.specs.CommandViews.{text_view};
 ghost use Rattle.switch_input.specs.Reading.{ReadsFiles};
 ghost use Rattle.switch_input.specs.Refused.{IfReadFault, TakesWords, TellsNoFault, Explains, ending_of};

@@ -3,7 +3,7 @@ ghost use Rattle.std.specs.Prelude.{◌≡◌, ◌≤◌, [], ◌∷◌, length,
 ghost use Rattle.edge_io.specs.declared.outside.InUse.TheVariants.{Nothing};
 ghost use Rattle.spec_run.specs.Limits.{most_steps_bytes};
 ghost use Rattle.spec_run.specs.Verdict.{steps_within, steps_in, given_names};
-ghost use Rattle.spec_script.specs.Steps.{most_steps};
+ghost use Rattle.spec_input.specs.Steps.{most_steps};
 ghost use Rattle.command_words.specs.CommandViews.{text_view};
 ghost use Rattle.switch_input.specs.Reading.{ReadsFiles};
 ghost use Rattle.switch_input.specs.Refused.{IfReadFault, TakesWords, TellsNoFault, Explains, ending_of};

@@ -7,7 +7,7 @@ use Rattle.std.proofs.lemmas.List.FromFn.{length-enumerate_from, get_or-enumerat
 use Rattle.std.proofs.lemmas.Option.{slice_get-get_or}
 use Rattle.std.proofs.Math.ListN.{get_or-map}
 use Rattle.spec_base.specs.Files.{File, IsPrefixOf}
-use Rattle.spec_script.specs.Mirrors.{Mirror}
+use Rattle.spec_input.specs.Mirrors.{Mirror}
 use Rattle.spec_run.specs.CutShort.{IsCutShort}
 use Rattle.edge_io.specs.Shelf.{Told}
 use Rattle.switch_output.specs.declared.refusal.WriteRefusal.{WriteRefusal}

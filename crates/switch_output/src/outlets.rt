@@ -1,4 +1,4 @@
-use spec_script::mirrors::Mirror;
+use spec_input::mirrors::Mirror;
 
 /// What is written of a run.
 #[derive(Clone, Copy)]

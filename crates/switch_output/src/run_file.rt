@@ -1,7 +1,7 @@
 ghost use Rattle.std.specs.Prelude.{◌≡◌, IfOk, string_bytes};
 ghost use Rattle.switch_output.specs.RunFiles.{name_of};
 
-use spec_script::mirrors::Mirror;
+use spec_input::mirrors::Mirror;
 use std::alloc::{AllocError, Global};
 
 /// A file of a run.

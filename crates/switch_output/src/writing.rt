@@ -23,7 +23,7 @@ use netflow_v5::write_netflow;
 use rule_tables::VersionedRules;
 use run_boards::Finished;
 use run_case::{Case, RunData};
-use spec_script::mirrors::Mirror;
+use spec_input::mirrors::Mirror;
 use std::alloc::Global;
 
 // What the files of a run are made of.

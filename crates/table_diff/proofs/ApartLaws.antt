@@ -4,8 +4,8 @@ use Rattle.spec_keys.specs.Fields.{register_fields}
 use Rattle.spec_keys.specs.Keys.{masked, same, agree, overlap, IsKey, IsClean}
 use Rattle.spec_tables.specs.Rules.{Match, is_matched}
 use Rattle.spec_xlate.specs.Consulted.{without}
-use Rattle.translation_laws.specs.Members.{Among}
-use Rattle.translation_laws.proofs.KeyLaws.{agree-masked, length_from-masked}
+use Rattle.table_laws.specs.Members.{Among}
+use Rattle.table_laws.proofs.KeyLaws.{agree-masked, length_from-masked}
 use Rattle.rule_changes.specs.Lockstep.{NoneMatches}
 use Rattle.rule_changes.proofs.MaskLaws.{masked-common, masked-fewer, matched-overlaps}
 use Rattle.table_diff.proofs.TellLaws.{registers-same}

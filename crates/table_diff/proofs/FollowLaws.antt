@@ -23,17 +23,17 @@ use Rattle.spec_xlate.specs.Translation.{Switch, State, Mode, switch_of, deepest
 use Rattle.spec_xlate.specs.Translation.Mode.{Going, ListEnded, Stopped}
 use Rattle.spec_xlate.specs.Lookup.{added, union}
 use Rattle.spec_xlate.specs.Consulted.{whole, slice_read}
-use Rattle.translation_laws.proofs.KeyLaws.{SameBits, and_zero, agree-masked, agree_from-masked, length_from-masked, places_from-masked, only_at-same}
-use Rattle.translation_laws.proofs.UnionLaws.{SameBits_from-union, agree-covers}
-use Rattle.translation_laws.proofs.StatesAlike.{whole-same}
-use Rattle.translation_laws.proofs.CommitLaws.{place_of-lt}
+use Rattle.table_laws.proofs.KeyLaws.{SameBits, and_zero, agree-masked, agree_from-masked, length_from-masked, places_from-masked, only_at-same}
+use Rattle.table_laws.proofs.UnionLaws.{SameBits_from-union, agree-covers}
+use Rattle.table_laws.proofs.StatesAlike.{whole-same}
+use Rattle.table_laws.proofs.CommitLaws.{place_of-lt}
 use Rattle.pipe_model.specs.Events.{Event, act_events, in_mode_events, run_events, follow_events, enter_events, look_events, events_of}
 use Rattle.pipe_model.specs.Events.Event.{Looked}
-use Rattle.translation_laws.specs.Members.{Among}
+use Rattle.table_laws.specs.Members.{Among}
 use Rattle.xlate_pipeline.specs.Steps.{step_bits}
 use Rattle.rule_changes.proofs.KeptLaws.{number_at-none}
 use Rattle.rule_changes.proofs.LockstepLaws.{beside, act-beside, act-left, act-kept}
-use Rattle.spec_diff.specs.Classes.{done, done_by, leads, no_lookup}
+use Rattle.spec_tools.specs.Classes.{done, done_by, leads, no_lookup}
 use Rattle.table_diff.specs.Sending.{ports_in, is_frame_field, number_after}
 use Rattle.table_diff.specs.Ways.{IsFollowed, number_sent}
 use Rattle.table_diff.specs.Deciding.{tells_winner}

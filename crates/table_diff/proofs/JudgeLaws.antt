@@ -5,8 +5,8 @@ use Rattle.spec_keys.specs.Fields.{register_fields}
 use Rattle.spec_keys.specs.Keys.{agree, IsKey, IsClean}
 use Rattle.spec_xlate.specs.Translation.{Switch, Translation, pipe}
 use Rattle.spec_xlate.specs.Consulted.{without}
-use Rattle.spec_diff.specs.Classes.{IsFrameKey, done}
-use Rattle.spec_diff.specs.Classes.Deed.{Datapath}
+use Rattle.spec_tools.specs.Classes.{IsFrameKey, done}
+use Rattle.spec_tools.specs.Classes.Deed.{Datapath}
 use Rattle.pipe_model.specs.Events.{Event}
 use Rattle.table_diff.specs.Checking.{checked}
 use Rattle.table_diff.specs.Deciding.{tells, tells_too, tells_all}

@@ -19,14 +19,14 @@ use Rattle.spec_xlate.specs.Tags.{tag_fields, is_tag_field, tagged}
 use Rattle.spec_xlate.specs.Translation.{Switch, State, in_field, with_current, with_value, written, written_bits, write, act}
 use Rattle.spec_xlate.specs.Lookup.{added, union, when}
 use Rattle.spec_xlate.specs.Consulted.{whole, bits_written, act_bits}
-use Rattle.translation_laws.specs.Members.{Among}
-use Rattle.translation_laws.proofs.KeyLaws.{SameBits, and_zero, masked_from-places, places_from-masked, length_from-masked, number_at-only_at, number_at-joined, joined-left, joined-right}
-use Rattle.translation_laws.proofs.KeysAlike.{bit_at-merged, set-beyond, eqb-false}
+use Rattle.table_laws.specs.Members.{Among}
+use Rattle.table_laws.proofs.KeyLaws.{SameBits, and_zero, masked_from-places, places_from-masked, length_from-masked, number_at-only_at, number_at-joined, joined-left, joined-right}
+use Rattle.table_laws.proofs.KeysAlike.{bit_at-merged, set-beyond, eqb-false}
 use Rattle.xlate_pipeline.specs.Steps.{step_bits}
 use Rattle.rule_changes.specs.Lockstep.{written_by, keeps}
 use Rattle.rule_changes.proofs.KeptLaws.{number_at-none}
 use Rattle.rule_changes.proofs.LockstepLaws.{act-kept}
-use Rattle.spec_diff.specs.Classes.{leads}
+use Rattle.spec_tools.specs.Classes.{leads}
 use Rattle.table_diff.specs.Following.{writes, with_left, forgotten}
 use Rattle.table_diff.proofs.BitLaws.{number_at-only_at_other, same-only_at, joined-both}
 

@@ -11,7 +11,7 @@ use Rattle.spec_actions.specs.declared.action.DpAction.{DpAction}
 use Rattle.spec_actions.specs.declared.action.DpAction.TheVariants.{Output, PopVlan, PushVlan, Set}
 use Rattle.spec_xlate.specs.Tags.{VlanTag, tags_of, outer_tags, commit_tags}
 use Rattle.spec_xlate.specs.Commit.{commit, commit_field, commit_fields, fields_before_tags, fields_after_tags}
-use Rattle.translation_laws.proofs.KeysAlike.{bit_at-merged}
+use Rattle.table_laws.proofs.KeysAlike.{bit_at-merged}
 use Rattle.table_diff.specs.Sending.{is_same_field, is_frame_field, number_after}
 
 pub number_after-append : (f : FieldId) (xs ys : List DpAction) (x : ℕ) → number_after f (xs ++ ys) x ≡ number_after f ys (number_after f xs x)

@@ -7,7 +7,7 @@ use Rattle.std.proofs.lemmas.List.Sums.{sum_by-cons}
 use Rattle.std.proofs.lemmas.Map.Views.{All-map-IsPermutation}
 use Rattle.spec_tables.specs.Rules.{is_matched}
 use Rattle.spec_xlate.specs.Translation.{Switch}
-use Rattle.spec_diff.specs.Classes.{one_if, holding, matches_of, IsRight, IsTold, IsDifference}
+use Rattle.spec_tools.specs.Classes.{one_if, holding, matches_of, IsRight, IsTold, IsDifference}
 use Rattle.table_diff.specs.declared.class.Class.{Class}
 use Rattle.table_diff.specs.Cubes.{cube_view, class_view, classes_view}
 

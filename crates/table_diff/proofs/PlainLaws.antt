@@ -6,7 +6,7 @@ use Rattle.spec_actions.specs.declared.action.OfAction.{OfAction}
 use Rattle.spec_actions.specs.declared.action.OfAction.TheVariants.{Resubmit, Goto}
 use Rattle.pipe_model.specs.Events.{Event}
 use Rattle.pipe_model.specs.Events.Event.{Looked, Acted}
-use Rattle.spec_diff.specs.Classes.{leads}
+use Rattle.spec_tools.specs.Classes.{leads}
 use Rattle.table_diff.specs.Ways.{ArePlain}
 use Rattle.table_diff.specs.Deciding.{tells_winner}
 use Rattle.table_diff.specs.Following.{Path, is_decided, is_left_out, has_room, with_action, followed}

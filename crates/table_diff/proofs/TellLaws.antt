@@ -14,17 +14,17 @@ use Rattle.spec_xlate.specs.Translation.{Switch, State, Mode, deepest, kept, act
 use Rattle.spec_xlate.specs.Translation.Mode.{Going, ListEnded, Stopped}
 use Rattle.spec_xlate.specs.Lookup.{union, priority_to_beat, rules_from}
 use Rattle.spec_xlate.specs.Consulted.{whole, act_bits, without}
-use Rattle.translation_laws.proofs.MemberLaws.{Among, Among_in-filter}
-use Rattle.translation_laws.proofs.KeyLaws.{SameBits, agree-masked, agree_from-masked, masked_from-places, places_from-masked, length_from-masked, same-eq, joined-right}
-use Rattle.translation_laws.proofs.UnionLaws.{SameBits_from-union, agree-covers}
-use Rattle.translation_laws.proofs.KeysAlike.{start-alike, and-alike, eqb-false}
-use Rattle.translation_laws.proofs.StatesAlike.{Alike, mode-alike, whole-same}
-use Rattle.translation_laws.proofs.ActLaws.{LookKeeps, act-alike}
-use Rattle.translation_laws.proofs.WinnerLaws.{winner-same}
+use Rattle.table_laws.proofs.MemberLaws.{Among, Among_in-filter}
+use Rattle.table_laws.proofs.KeyLaws.{SameBits, agree-masked, agree_from-masked, masked_from-places, places_from-masked, length_from-masked, same-eq, joined-right}
+use Rattle.table_laws.proofs.UnionLaws.{SameBits_from-union, agree-covers}
+use Rattle.table_laws.proofs.KeysAlike.{start-alike, and-alike, eqb-false}
+use Rattle.table_laws.proofs.StatesAlike.{Alike, mode-alike, whole-same}
+use Rattle.table_laws.proofs.ActLaws.{LookKeeps, act-alike}
+use Rattle.table_laws.proofs.WinnerLaws.{winner-same}
 use Rattle.pipe_model.specs.Events.{Event, act_events, in_mode_events, run_events, follow_events, enter_events, look_events, events_of}
 use Rattle.xlate_pipeline.specs.Steps.{step_bits}
 use Rattle.rule_changes.proofs.MaskLaws.{masked-common, matched-overlaps}
-use Rattle.spec_diff.specs.Classes.{done}
+use Rattle.spec_tools.specs.Classes.{done}
 use Rattle.table_diff.specs.Deciding.{is_told, tells_winner, tells, tells_too, tells_all}
 
 -- ---- one match
@@ -178,7 +178,7 @@ module _ (a b mask : List ℕ) (ka : IsKey a) (kb : IsKey b) (port : value_of a 
       let x = enter-told sw (look sw depths) (look_events sw depths) (look-told sw depths) (deepest - depths) table s.lookups_left s t h w in
       subst (λ (n : ℕ). Alike a b (enter sw (look sw depths) table s.lookups_left s) (enter sw (look sw depths) table n t)) (sym h.lookups_left) x
 
--- ---- a mask without the bits of registers (as in translation_laws)
+-- ---- a mask without the bits of registers (as in table_laws)
 
 abbrev is_register : ℕ → Bool
 is_register q = list_any (λ f. q == place_of f) register_fields

@@ -15,10 +15,10 @@ use Rattle.spec_xlate.specs.Lookup.{added}
 use Rattle.spec_xlate.specs.Consulted.{whole, without}
 use Rattle.spec_flow_text.specs.Within.{AreWithinFields}
 use Rattle.ovs_fields.specs.Packed.{bits}
-use Rattle.spec_diff.specs.Classes as diff
-use Rattle.spec_diff.specs.Classes.{IsFrameKey, done, done_by, done_as, is_plain}
-use Rattle.translation_laws.specs.Members.{Among}
-use Rattle.translation_laws.proofs.KeyLaws.{agree-masked}
+use Rattle.spec_tools.specs.Classes as diff
+use Rattle.spec_tools.specs.Classes.{IsFrameKey, done, done_by, done_as, is_plain}
+use Rattle.table_laws.specs.Members.{Among}
+use Rattle.table_laws.proofs.KeyLaws.{agree-masked}
 use Rattle.pipe_model.specs.Events.{events_of}
 use Rattle.table_diff.specs.declared.way.Way.{Way}
 use Rattle.table_diff.specs.declared.deed.Deed.{Deed}

@@ -7,10 +7,10 @@ use Rattle.spec_keys.specs.Fields.{place_of, fields, field_count, register_field
 use Rattle.spec_keys.specs.Keys.{number_at, agree, IsKey}
 use Rattle.spec_xlate.specs.Consulted.{whole, without}
 use Rattle.spec_xlate.specs.Lookup.{union}
-use Rattle.spec_diff.specs.Classes.{IsFrameKey}
-use Rattle.translation_laws.proofs.KeyLaws.{SameBits, agree-masked}
-use Rattle.translation_laws.proofs.UnionLaws.{SameBits_from-union}
-use Rattle.translation_laws.proofs.StatesAlike.{whole-same}
+use Rattle.spec_tools.specs.Classes.{IsFrameKey}
+use Rattle.table_laws.proofs.KeyLaws.{SameBits, agree-masked}
+use Rattle.table_laws.proofs.UnionLaws.{SameBits_from-union}
+use Rattle.table_laws.proofs.StatesAlike.{whole-same}
 use Rattle.table_diff.proofs.TellLaws.{registers-same}
 
 -- whether a test holds of each number below another

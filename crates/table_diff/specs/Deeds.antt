@@ -3,7 +3,7 @@ use Rattle.std.specs.Prelude.{Bool, IsTrue}
 use Rattle.std.specs.List.{list_all}
 use Rattle.spec_actions.specs.Sound.{is_sound}
 use Rattle.spec_flow_text.specs.Within.{is_within_field}
-use Rattle.spec_diff.specs.Classes as diff
+use Rattle.spec_tools.specs.Classes as diff
 use Rattle.table_diff.specs.declared.deed.Deed.{Deed}
 use Rattle.table_diff.specs.declared.deed.Deed.TheVariants.{Datapath, Flow}
 

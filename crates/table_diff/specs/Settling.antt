@@ -8,7 +8,7 @@ use Rattle.table_diff.specs.declared.class.Class.{Class}
 use Rattle.table_diff.specs.declared.judging.Judged.{Judged}
 use Rattle.table_diff.specs.Cubes.{cubes_view, classes_view}
 use Rattle.table_diff.specs.Judging.{Holds}
-use Rattle.spec_diff.specs.Progress.{IsPartWay}
+use Rattle.spec_tools.specs.Progress.{IsPartWay}
 
 -- Where these cubes and this one are left, and these classes are found, the comparison is as far as before, and a step
 -- further, with the cubes and the classes that there are then.

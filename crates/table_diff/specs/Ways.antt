@@ -9,7 +9,7 @@ use Rattle.spec_actions.specs.declared.action.DpAction.{DpAction}
 use Rattle.spec_actions.specs.Sound.{AreSound}
 use Rattle.spec_xlate.specs.Translation.{Switch}
 use Rattle.spec_flow_text.specs.Within.{AreWithinFields}
-use Rattle.spec_diff.specs.Classes.{IsFrameKey, done, done_by, leads, is_plain}
+use Rattle.spec_tools.specs.Classes.{IsFrameKey, done, done_by, leads, is_plain}
 use Rattle.table_diff.specs.declared.way.Way.{Way}
 use Rattle.table_diff.specs.declared.deed.Deed.{Deed}
 use Rattle.table_diff.specs.Deeds.{deed_view, CanPrint}

@@ -2,8 +2,8 @@
 ghost use Rattle.std.specs.Prelude.{◌≡◌, ℕ, List, true, false, map, IsTrue, IfSome};
 ghost use Rattle.spec_keys.specs.Keys.{agree, overlap, IsClean};
 ghost use Rattle.spec_tables.specs.Rules as tables;
-ghost use Rattle.spec_diff.specs.Classes.{IsFrameKey};
-ghost use Rattle.translation_laws.specs.Members.{Among};
+ghost use Rattle.spec_tools.specs.Classes.{IsFrameKey};
+ghost use Rattle.table_laws.specs.Members.{Among};
 ghost use Rattle.ovs_fields.specs.Packed.{numbers, bits};
 ghost use Rattle.rule_tables.specs.Views.{match_view};
 ghost use Rattle.rule_changes.specs.Changes.{IsApart};

@@ -3,9 +3,9 @@ ghost use Rattle.std.specs.Prelude.{◌≡◌, IfOk, IfErr, map};
 ghost use Rattle.spec_xlate.specs.Translation.{switch_of};
 ghost use Rattle.dump_lines.specs.Live.{IsOfEdits, live_in};
 ghost use Rattle.pipe_model.specs.Runnable.{AreRunnable};
-ghost use Rattle.spec_diff.specs.Classes.{from_port, IsDifference};
+ghost use Rattle.spec_tools.specs.Classes.{from_port, IsDifference};
 ghost use Rattle.table_diff.specs.Cubes.{cube_view, cubes_view, classes_view};
-ghost use Rattle.spec_diff.specs.Progress.{IsUnfinished, cube_limit};
+ghost use Rattle.spec_tools.specs.Progress.{IsUnfinished, cube_limit};
 
 use crate::class::Class;
 use crate::cube::Cube;

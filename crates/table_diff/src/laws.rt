@@ -4,7 +4,7 @@ ghost use Rattle.spec_keys.specs.Fields.{register_fields};
 ghost use Rattle.spec_keys.specs.Keys.{agree, IsKey, IsClean};
 ghost use Rattle.spec_xlate.specs.Translation.{Switch};
 ghost use Rattle.spec_xlate.specs.Consulted.{without};
-ghost use Rattle.spec_diff.specs.Classes.{done};
+ghost use Rattle.spec_tools.specs.Classes.{done};
 ghost use Rattle.table_diff.specs.Deciding.{tells_all};
 
 /// A mask that decides each step of a translation decides it for every frame whose key agrees on the mask, but for

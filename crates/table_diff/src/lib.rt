@@ -8,7 +8,7 @@
 //!
 //! # What is promised
 //!
-//! The classes are the `IsDifference` of `spec_diff`. Every key that a frame may have, of a port that is listed once,
+//! The classes are the `IsDifference` of `spec_tools`. Every key that a frame may have, of a port that is listed once,
 //! is in exactly one class, or in none, and then both versions do the same to its frame; one of another port is in
 //! none. A class has a frame, and to each of its frames both versions do what it says of them, and not the same. Both
 //! lists can be printed.

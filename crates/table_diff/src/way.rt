@@ -11,8 +11,8 @@ ghost use Rattle.table_diff.specs.Ways.{IsWay};
 
 use crate::checking::check;
 use crate::following::follow_path;
+use action_text::translation_is_within_fields;
 use dp_actions::ActionList;
-use dp_text::translation_is_within_fields;
 use ovs_fields::{Key, Mask};
 use rule_tables::{OfAction, VersionedRules};
 use std::alloc::{AllocError, Global};

@@ -3,7 +3,7 @@ ghost use Rattle.std.specs.Prelude.{◌≡◌, ℕ, List, map, IsTrue};
 ghost use Rattle.spec_keys.specs.Keys.{agree, joined, IsClean};
 ghost use Rattle.spec_xlate.specs.Lookup.{added};
 ghost use Rattle.spec_xlate.specs.Consulted.{whole};
-ghost use Rattle.spec_diff.specs.Classes.{IsFrameKey};
+ghost use Rattle.spec_tools.specs.Classes.{IsFrameKey};
 ghost use Rattle.ovs_fields.specs.Packed.{bits};
 
 use named_fields::low_bits;

@@ -2,7 +2,7 @@
 //!
 //! The tables are those after all edits of EDITS, on a switch that has these ports, and the frames of TRACE come in at
 //! PORT. For each frame it prints a line: the bits of its key that were consulted, as a hexadecimal number for each field
-//! in the order of keys, then `actions=` and the datapath actions (`dp_text`), and `visits=` and the numbers of the rules
+//! in the order of keys, then `actions=` and the datapath actions (`action_text`), and `visits=` and the numbers of the rules
 //! that were visited, with `+` between them, or `-`.
 //!
 //! With `--rounds=N` it translates the key of every frame in each of N rounds, and prints only how many rules were visited

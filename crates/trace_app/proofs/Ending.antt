@@ -14,11 +14,11 @@ use Rattle.switch_input.specs.declared.refusals.refusal.InputFault.{InputFault}
 use Rattle.switch_input.specs.declared.refusals.refusal.InputFault.TheVariants as fault
 use Rattle.switch_input.specs.declared.refusals.refusal.InputRefusal.TheVariants as input
 use Rattle.switch_input.specs.Refused.{fault_view}
-use Rattle.spec_trace.specs.Verdict.{Accepted, Refusal as Refused, Usage as UsageOf, Input as InputOf, NoPort as NoPortOf, command_in, verdict, files_opened}
+use Rattle.spec_tools.specs.TraceVerdict.{Accepted, Refusal as Refused, Usage as UsageOf, Input as InputOf, NoPort as NoPortOf, command_in, verdict, files_opened}
 use Rattle.spec_run.specs.Verdict.{Files}
-use Rattle.spec_trace.specs.Words.{Command, command_of}
-use Rattle.spec_trace.specs.Outputs.{IsCut}
-use Rattle.spec_trace.specs.Statuses.{is_refusal, status_of as refusal_status}
+use Rattle.spec_tools.specs.TraceWords.{Command, command_of}
+use Rattle.spec_tools.specs.TraceOutputs.{IsCut}
+use Rattle.spec_tools.specs.TraceStatuses.{is_refusal, status_of as refusal_status}
 use Rattle.trace_app.specs.Known.{IsKnownCommand, IsKnown}
 use Rattle.trace_app.specs.declared.refusal.Refusal.{Refusal}
 use Rattle.trace_app.specs.declared.refusal.Refusal.TheVariants.{Usage, Reading, NoPort, Printing}

@@ -3,7 +3,7 @@ use Rattle.std.proofs.Common.{◌≡◌, ℕ, suc, ◌-◌, List, [], ◌∷◌,
 use Rattle.std.specs.Option.{option_map, option_and_then}
 use Rattle.spec_flow_text.specs.Characters.{comma}
 use Rattle.spec_flow_text.specs.Numbers.{where_found, split_once}
-use Rattle.spec_trace.specs.Words.{new_port, ports_within}
+use Rattle.spec_tools.specs.TraceWords.{new_port, ports_within}
 
 before : (n : ℕ) → (n ≡ 0 → ⊥) → n ≡ suc (n - 1)
 before n some = omega arith

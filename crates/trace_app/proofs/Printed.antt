@@ -6,9 +6,9 @@ use Rattle.spec_xlate.specs.Translation.{switch_of, pipe}
 use Rattle.spec_xlate.specs.Consulted.{consulted}
 use Rattle.edge_io.specs.declared.outside.Shelf as shelf
 use Rattle.edge_io.specs.declared.outside.Sink as sink
-use Rattle.spec_trace.specs.declared.lookup.Lookup.{Lookup}
-use Rattle.spec_trace.specs.Paths.{path_of, last_of}
-use Rattle.spec_trace.specs.Texts.{told_text, traced_text}
+use Rattle.spec_tools.specs.declared.lookup.Lookup.{Lookup}
+use Rattle.spec_tools.specs.Paths.{path_of, last_of}
+use Rattle.spec_tools.specs.TraceTexts.{told_text, traced_text}
 use Rattle.trace_app.specs.declared.refusal.Refusal.{Refusal}
 use Rattle.trace_app.specs.declared.refusal.Refusal.TheVariants.{Usage, Reading, NoPort, Printing}
 use Rattle.trace_app.specs.Refused.{IsUntold}

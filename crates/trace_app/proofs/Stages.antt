@@ -6,7 +6,7 @@ use Rattle.spec_tables.specs.Rules.{Rule, Match}
 use Rattle.spec_tables.specs.Edits.{Edit, has_sound_actions}
 use Rattle.spec_tables.specs.Bundles.{edits_through, version, AreBundles}
 use Rattle.spec_xlate.specs.Translation.{in_port_of}
-use Rattle.spec_script.specs.Script.{Script}
+use Rattle.spec_input.specs.Script.{Script}
 use Rattle.spec_run.specs.Verdict as run
 use Rattle.spec_run.specs.Verdict.{Files, script_in}
 use Rattle.rule_tables.specs.History.{History, history_of}
@@ -21,8 +21,8 @@ use Rattle.switch_input.specs.Refused as reading
 use Rattle.switch_input.specs.Refused.{fault_view}
 use Rattle.switch_input.specs.Reading.{Read, ReadsWhere}
 use Rattle.switch_input.proofs.refusals.Reading.{reads_still as input_still}
-use Rattle.spec_trace.specs.Words.{Command, command_of}
-use Rattle.spec_trace.specs.Verdict.{Input, NoPort as NoPortOf, match_in, key_of, accepted, case_of, verdict_of, verdict, command_in, opened_for, files_opened, Usage as UsageOf}
+use Rattle.spec_tools.specs.TraceWords.{Command, command_of}
+use Rattle.spec_tools.specs.TraceVerdict.{Input, NoPort as NoPortOf, match_in, key_of, accepted, case_of, verdict_of, verdict, command_in, opened_for, files_opened, Usage as UsageOf}
 use Rattle.trace_app.specs.declared.refusal.Refusal.{Refusal}
 use Rattle.trace_app.specs.declared.refusal.Refusal.TheVariants.{Usage, Reading, NoPort, Printing}
 use Rattle.trace_app.specs.Known.{IsKnown}

@@ -1,6 +1,6 @@
 -- The words, as the definitions see them.
 use Rattle.std.specs.Prelude.{ℕ, Bool, true, false, List, Option, Some, None}
-use Rattle.spec_trace.specs.Words as words
+use Rattle.spec_tools.specs.TraceWords as words
 use Rattle.trace_app.specs.declared.words.Command.{Command}
 
 -- ports, where all are in form

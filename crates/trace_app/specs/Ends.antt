@@ -9,9 +9,9 @@ use Rattle.edge_io.specs.declared.outside.Sink as sink
 use Rattle.edge_io.specs.Counts.{ReadFailed, with_fault}
 use Rattle.edge_io.specs.Opened.{HasOpened, HasOpenedPrefix, HasOpenedUpTo}
 use Rattle.edge_io.specs.ReadAll.{OnlyRead}
-use Rattle.spec_trace.specs.Verdict.{Usage, command_in, files_opened}
-use Rattle.spec_trace.specs.Outputs.{IsPrinted, IsCut}
-use Rattle.spec_trace.specs.Statuses.{is_refusal, IsRefused, PrintsRefusal}
+use Rattle.spec_tools.specs.TraceVerdict.{Usage, command_in, files_opened}
+use Rattle.spec_tools.specs.TraceOutputs.{IsPrinted, IsCut}
+use Rattle.spec_tools.specs.TraceStatuses.{is_refusal, IsRefused, PrintsRefusal}
 use Rattle.trace_app.specs.Known.{IsKnown}
 
 -- The call is made with these words, and with a shelf and a sink that are as here before it, and as here after it.

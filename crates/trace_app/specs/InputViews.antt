@@ -2,7 +2,7 @@
 use Rattle.ovs_fields.specs.Packed.{numbers}
 use Rattle.pipe_model.specs.Runnable.{AreRunnable}
 use Rattle.dump_lines.specs.Live.{IsOfEdits, live_in}
-use Rattle.spec_trace.specs.Verdict as verdicts
+use Rattle.spec_tools.specs.TraceVerdict as verdicts
 use Rattle.trace_app.specs.declared.inputs.Inputs.{Inputs}
 
 abbrev pub accepted_view : Inputs → verdicts.Accepted

@@ -1,7 +1,7 @@
 -- When the verdict is known: what it is made of is told by the shelf, or the words are refused, which need no file.
 use Rattle.std.specs.Prelude.{ℕ, Bool, List, IsTrue, Result, Ok, Err}
-use Rattle.spec_trace.specs.Words.{Command}
-use Rattle.spec_trace.specs.Verdict.{Refusal, command_in}
+use Rattle.spec_tools.specs.TraceWords.{Command}
+use Rattle.spec_tools.specs.TraceVerdict.{Refusal, command_in}
 
 abbrev pub IsKnownCommand : Bool → Result Command Refusal → Type 0
 IsKnownCommand tells (Ok c) = IsTrue tells

@@ -6,8 +6,8 @@ use Rattle.edge_io.specs.declared.outside.Shelf as shelf
 use Rattle.edge_io.specs.declared.outside.Sink as sink
 use Rattle.edge_io.specs.Counts.{HasCause, with_fault}
 use Rattle.switch_input.specs.Reading.{Ending, Read, ReadsWhere}
-use Rattle.spec_trace.specs.Verdict.{Usage as UsageOf, command_in, verdict, files_opened}
-use Rattle.spec_trace.specs.Outputs.{IsCut}
+use Rattle.spec_tools.specs.TraceVerdict.{Usage as UsageOf, command_in, verdict, files_opened}
+use Rattle.spec_tools.specs.TraceOutputs.{IsCut}
 use Rattle.trace_app.specs.Known.{IsKnown}
 use Rattle.trace_app.specs.declared.refusal.Refusal.{Refusal}
 use Rattle.trace_app.specs.declared.refusal.Refusal.TheVariants.{Usage, Reading, NoPort, Printing}

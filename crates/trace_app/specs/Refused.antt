@@ -7,8 +7,8 @@ use Rattle.switch_input.specs.Reading.{Ending, Read}
 use Rattle.switch_input.specs.Refused as reading
 use Rattle.switch_input.specs.Refused.{fault_view}
 use Rattle.switch_input.specs.Texts.{input_status, input_text}
-use Rattle.spec_trace.specs.Verdict as verdicts
-use Rattle.spec_trace.specs.Statuses.{usage_text, no_port_status, no_port_text}
+use Rattle.spec_tools.specs.TraceVerdict as verdicts
+use Rattle.spec_tools.specs.TraceStatuses.{usage_text, no_port_status, no_port_text}
 use Rattle.trace_app.specs.declared.refusal.Refusal.{Refusal}
 use Rattle.trace_app.specs.declared.refusal.Refusal.TheVariants.{Usage, Reading, NoPort, Printing}
 

@@ -1,9 +1,9 @@
 -- With which status a call ends, by the verdict alone.
 use Rattle.std.specs.Prelude.{◌≡◌, ℕ, ◌⊎◌}
 use Rattle.spec_base.specs.Counts.{Rose}
-use Rattle.spec_trace.specs.Verdict.{Refusal}
+use Rattle.spec_tools.specs.TraceVerdict.{Refusal}
 use Rattle.spec_run.specs.Statuses.{done_status, read_fault_status, out_of_memory_status}
-use Rattle.spec_trace.specs.Statuses.{status_of}
+use Rattle.spec_tools.specs.TraceStatuses.{status_of}
 use Rattle.edge_io.specs.declared.outside.Shelf as shelf
 use Rattle.edge_io.specs.declared.outside.Sink as sink
 

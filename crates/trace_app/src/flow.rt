@@ -3,19 +3,19 @@ ghost use Rattle.std.specs.Prelude.{◌≡◌, Ok, IfOk, IfErr};
 ghost use Rattle.spec_keys.specs.Fields.{register_fields};
 ghost use Rattle.spec_xlate.specs.Consulted.{without};
 ghost use Rattle.spec_flow_text.specs.declared.fault.TextFault.TheVariants as text;
-ghost use Rattle.spec_script.specs.declared.fault.FileFault.TheVariants as script;
+ghost use Rattle.spec_input.specs.declared.fault.FileFault.TheVariants as script;
 ghost use Rattle.spec_run.specs.Verdict.{refused_text};
 ghost use Rattle.ovs_fields.specs.Packed.{numbers};
 ghost use Rattle.rule_tables.specs.Views.{match_view};
 ghost use Rattle.switch_input.specs.Refused.{fault_view, IfInput, TellsNoFault, TakesWords, Explains};
-ghost use Rattle.spec_trace.specs.Verdict.{flow_name, match_in, key_of};
+ghost use Rattle.spec_tools.specs.TraceVerdict.{flow_name, match_in, key_of};
 
 use match_text::read_match;
 use ovs_fields::{FieldId, Key};
 use rule_tables::{EditWord, Match};
 use spec_flow_text::TextFault;
+use spec_input::FileFault;
 use spec_run::Quantity;
-use spec_script::FileFault;
 use std::alloc::Global;
 use switch_input::refusals::{InputFault, InputRefusal};
 
@@ -64,7 +64,7 @@ fn refused(why: TextFault) -> InputRefusal<'static>
 }
 
 /// Reads the match of a flow.
-#[tactic(auto, unfolding(spec_trace::specs::Verdict::match_in))]
+#[tactic(auto, unfolding(spec_tools::specs::TraceVerdict::match_in))]
 pub fn read_flow(alloc: Global, flow: &str) -> Result<Match, InputRefusal<'static>>
     ensures ok { IfOk result (λ m. match_in flow.now ≡ Ok (match_view m)) }
     ensures err { IfErr result (Explains (match_in flow.now)) }

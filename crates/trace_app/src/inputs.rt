@@ -9,7 +9,7 @@ ghost use Rattle.ovs_fields.specs.Packed.{numbers};
 ghost use Rattle.command_words.specs.CommandViews.{texts};
 ghost use Rattle.rule_tables.specs.History.{history_of};
 ghost use Rattle.edit_script.specs.ScriptViews.{script_view};
-ghost use Rattle.spec_trace.specs.Verdict.{Usage as UsageOf, command_in, case_of, verdict_of, verdict, opened_for, files_opened};
+ghost use Rattle.spec_tools.specs.TraceVerdict.{Usage as UsageOf, command_in, case_of, verdict_of, verdict, opened_for, files_opened};
 ghost use Rattle.trace_app.specs.Known.{IsKnown};
 ghost use Rattle.trace_app.specs.Commands.{command_view};
 ghost use Rattle.trace_app.specs.InputViews.{accepted_view, IsTraceable};

@@ -6,7 +6,7 @@
 //! # What is promised
 //!
 //! The contract of `run_trace` is one definition, `Ends` (specs/Ends.antt): the ways to end, by the status, and what holds
-//! with each, in the words of `spec_trace`. What is said of files holds where the shelf tells its bytes, or no file is read,
+//! with each, in the words of `spec_tools`. What is said of files holds where the shelf tells its bytes, or no file is read,
 //! since the words are refused; and what is said of text where the sink tells it.
 //!
 //! - Where all is done, the verdict accepts the words, the edits and the flow, and exactly the text of the trace is printed:

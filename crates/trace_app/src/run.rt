@@ -3,8 +3,8 @@ ghost use Rattle.spec_run.specs.Statuses.{usage_status, out_of_memory_status};
 ghost use Rattle.edge_io.specs.declared.outside.InUse.TheVariants.{Nothing};
 ghost use Rattle.edge_io.specs.Counts.{HasCause, with_fault};
 ghost use Rattle.command_words.specs.CommandViews.{texts};
-ghost use Rattle.spec_trace.specs.Verdict.{command_in, verdict};
-ghost use Rattle.spec_trace.specs.Outputs.{text_for};
+ghost use Rattle.spec_tools.specs.TraceVerdict.{command_in, verdict};
+ghost use Rattle.spec_tools.specs.TraceOutputs.{text_for};
 ghost use Rattle.trace_app.specs.Known.{IsKnown};
 ghost use Rattle.trace_app.specs.InputViews.{accepted_view, IsTraceable};
 ghost use Rattle.trace_app.specs.Ends.{Ends, IsTraced};
@@ -15,7 +15,7 @@ use crate::inputs::{Inputs, read_inputs};
 use crate::refusal::Refusal;
 use crate::say::say_refusal;
 use crate::status::status_of;
-use dp_text::translation_is_within_fields;
+use action_text::translation_is_within_fields;
 use edge_io::{Failed, Shelf, Sink, say_all};
 use ofp_trace::lines::print_trace;
 use ofp_trace::trace;
@@ -89,7 +89,7 @@ fn end<S: Shelf, K: Sink>(alloc: Global, words: &[String], shelf: &mut S, say: &
 /// A line is printed for the packet's key, one for each lookup with the rule that won or that none did, one for the key
 /// at the end, and two for the megaflow and the datapath actions that come of it. Nothing is written to the shelf.
 ///
-/// The answer is the exit status; `spec_trace` has the statuses, and the text that is printed with each. Of a text a prefix
+/// The answer is the exit status; `spec_tools` has the statuses, and the text that is printed with each. Of a text a prefix
 /// may be missing its end where the sink fails.
 pub fn run_trace<S: Shelf, K: Sink>(
     alloc: Global,

@@ -1,7 +1,7 @@
 //! The text of a refusal, printed.
 ghost use Rattle.std.specs.Prelude.{◌≡◌, IsTrue};
 ghost use Rattle.spec_run.specs.Statuses.{Prints};
-ghost use Rattle.spec_trace.specs.Statuses.{usage_text, no_port_text};
+ghost use Rattle.spec_tools.specs.TraceStatuses.{usage_text, no_port_text};
 ghost use Rattle.trace_app.specs.Refused.{text_of, IsSilent};
 
 use crate::refusal::Refusal;

@@ -1,4 +1,4 @@
-//! The exit status of a refusal, as `spec_trace` has it.
+//! The exit status of a refusal, as `spec_tools` has it.
 ghost use Rattle.std.specs.Prelude.{◌≡◌};
 ghost use Rattle.trace_app.specs.Refused.{status_of};
 

@@ -4,8 +4,8 @@ ghost use Rattle.std.specs.List.{list_any};
 ghost use Rattle.std.specs.Option.{option_map};
 ghost use Rattle.spec_flow_text.specs.Characters.{line_feed};
 ghost use Rattle.command_words.specs.CommandViews.{texts, text_view};
-ghost use Rattle.spec_words.specs.Words.{name_in};
-ghost use Rattle.spec_trace.specs.Words.{line_in, new_port, ports_within, ports_in, command_from, command_of};
+ghost use Rattle.spec_input.specs.Words.{name_in};
+ghost use Rattle.spec_tools.specs.TraceWords.{line_in, new_port, ports_within, ports_in, command_from, command_of};
 ghost use Rattle.trace_app.specs.Commands.{ports_if, command_view};
 
 use command_words::read_port_number;
@@ -33,7 +33,7 @@ pub(crate) fn names_port(ports: &[u16], port: u16) -> bool
 }
 
 // The port of a word, where none before it has its number.
-#[tactic(auto, unfolding(spec_trace::specs::Words::new_port))]
+#[tactic(auto, unfolding(spec_tools::specs::TraceWords::new_port))]
 fn read_new_port(before: &[u16], word: &[u8]) -> Option<u16>
     ensures { result ≡ new_port before.now word.now }
 {
@@ -116,7 +116,7 @@ fn line_in(text: &str) -> Option<&str>
     Some(text)
 }
 
-#[tactic(auto, unfolding(spec_trace::specs::Words::command_from))]
+#[tactic(auto, unfolding(spec_tools::specs::TraceWords::command_from))]
 fn command_from<'a>(
     alloc: Global,
     edits: &'a str,
@@ -139,7 +139,7 @@ fn command_from<'a>(
 }
 
 /// Reads the words after the program's name: `EDITS FLOW PORTS`, with commas between the ports.
-#[tactic(auto, unfolding(spec_trace::specs::Words::command_of))]
+#[tactic(auto, unfolding(spec_tools::specs::TraceWords::command_of))]
 pub fn read_command(alloc: Global, words: &[String]) -> Result<Option<Command<'_>>, AllocError>
     ensures { IfOk result (λ found. option_map command_view found ≡ command_of (texts words.now)) }
 {

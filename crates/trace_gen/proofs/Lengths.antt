@@ -10,7 +10,7 @@ use Rattle.std.proofs.lemmas.List.Sums.{sum_by-le}
 use Rattle.std.proofs.lemmas.List.Folds.{flat_map-map}
 use Rattle.std.proofs.lemmas.List.FromFn.{get_or-range_with_len, length-range_with_len}
 use Rattle.spec_pcap.specs.Pcap.{header, record_header, record_of}
-use Rattle.spec_made.specs.Made.{draw, subnet_draws, subnet_rule, subnet_line, subnet_lines, subnets, register_line, register_lines, register_values, ports, edits_made, frame_of_port, frames_of_port, trace_of, trace_made, traces_made}
+use Rattle.spec_input.specs.Made.{draw, subnet_draws, subnet_rule, subnet_line, subnet_lines, subnets, register_line, register_lines, register_values, ports, edits_made, frame_of_port, frames_of_port, trace_of, trace_made, traces_made}
 use Rattle.trace_gen.specs.declared.made.MadeTrace.{MadeTrace}
 use Rattle.trace_gen.specs.Made.{trace_view, most_edit_bytes, most_trace_bytes, bytes_of_all}
 

@@ -5,7 +5,7 @@ use Rattle.std.specs.List.{flat_map, range_with_len}
 use Rattle.std.specs.Fmt.{decimal}
 use Rattle.std.proofs.lemmas.List.{append-nil, append_assoc, flat_map_more}
 use Rattle.std.proofs.lemmas.List.FromFn.{map-range_with_len_more}
-use Rattle.spec_made.specs.Made.{state, draw, ports, subnet_draws, subnet_rule, subnet_line, subnet_lines, register_line, register_lines}
+use Rattle.spec_input.specs.Made.{state, draw, ports, subnet_draws, subnet_rule, subnet_line, subnet_lines, register_line, register_lines}
 use Rattle.trace_gen.proofs.States.{draw-at}
 
 -- one piece after another

@@ -8,7 +8,7 @@ use Rattle.std.proofs.lemmas.List.FromFn.{map-range_with_len_more}
 use Rattle.spec_base.specs.Bytes.{big_endian}
 use Rattle.spec_exec.specs.Checksum.{checksum}
 use Rattle.spec_pcap.specs.Pcap.{Frame, second, header, record_header, record_of}
-use Rattle.spec_made.specs.Made.{state, millisecond, subnet_draws, subnets, ports, frame_draws, addressed, ethernet_bytes, frame_bytes, made_frame, frame_of_port, frames_made, trace_of}
+use Rattle.spec_input.specs.Made.{state, millisecond, subnet_draws, subnets, ports, frame_draws, addressed, ethernet_bytes, frame_bytes, made_frame, frame_of_port, frames_made, trace_of}
 use Rattle.trace_gen.specs.declared.packets.Packet.{Packet}
 use Rattle.trace_gen.specs.Drawn.{IsPacket, captured_at, bytes_of}
 use Rattle.trace_gen.proofs.States.{draw-at}

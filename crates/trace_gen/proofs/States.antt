@@ -1,7 +1,7 @@
 -- Draws one after the other.
 use Rattle.std.proofs.Common.{◌≡◌, ℕ, zero, suc, ◌+◌, refl, ap, ◌∙◌, arith}
 use Rattle.std.specs.Fn.{iterate}
-use Rattle.spec_made.specs.Made.{after, state, draw, drawn}
+use Rattle.spec_input.specs.Made.{after, state, draw, drawn}
 
 iterate-on : (x m k : ℕ) → iterate after k (iterate after m x) ≡ iterate after (m + k) x
 iterate-on x zero k =

@@ -4,7 +4,7 @@ use Rattle.std.specs.Prelude.{map}
 use Rattle.std.specs.List.{range_with_len}
 use Rattle.std.proofs.lemmas.List.{map-append}
 use Rattle.std.proofs.lemmas.List.FromFn.{map-range_with_len_more}
-use Rattle.spec_made.specs.Made.{trace_made}
+use Rattle.spec_input.specs.Made.{trace_made}
 use Rattle.trace_gen.specs.declared.made.MadeTrace.{MadeTrace}
 use Rattle.trace_gen.specs.Made.{trace_view}
 

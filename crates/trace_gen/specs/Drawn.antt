@@ -1,7 +1,7 @@
 -- Rules and packets as they are drawn.
 use Rattle.std.specs.Prelude.{◌≡◌, ℕ, ◌%◌, ◌<◌, List}
 use Rattle.spec_pcap.specs.Pcap.{Frame}
-use Rattle.spec_made.specs.Made.{draw, frame_bytes}
+use Rattle.spec_input.specs.Made.{draw, frame_bytes}
 use Rattle.trace_gen.specs.declared.edits.Subnet.{Subnet}
 use Rattle.trace_gen.specs.declared.packets.Packet.{Packet}
 

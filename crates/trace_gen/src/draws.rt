@@ -1,6 +1,6 @@
 //! The numbers that are drawn.
 ghost use Rattle.std.specs.Prelude.{◌≡◌, ◌<◌, ◌^◌};
-ghost use Rattle.spec_made.specs.Made.{after, draw, state};
+ghost use Rattle.spec_input.specs.Made.{after, draw, state};
 
 /// How many subnets have a rule.
 pub const SUBNETS: u32 = 64;
@@ -30,7 +30,7 @@ fn after(state: u64) -> u64
 
 impl Draws {
     /// The draws that begin at a number.
-    #[tactic(auto, unfolding(spec_made::specs::Made::state))]
+    #[tactic(auto, unfolding(spec_input::specs::Made::state))]
     pub fn of(number: u32) -> Draws
         ensures { result.state ≡ state number 0 }
     {
@@ -40,7 +40,7 @@ impl Draws {
     }
 
     /// Draws a number of 31 bits.
-    #[tactic(auto, unfolding(spec_made::specs::Made::state))]
+    #[tactic(auto, unfolding(spec_input::specs::Made::state))]
     pub fn next(&mut self) -> u32
         ensures value { result ≡ draw self.old.state 1 }
         ensures state { self.new.state ≡ state self.old.state 1 }

@@ -1,7 +1,7 @@
 //! The file of edits, line by line.
 ghost use Rattle.std.specs.Prelude.{◌≡◌, ◌++◌, ◌%◌, ◌<◌, OnOk, IfOk, string_bytes};
 ghost use Rattle.std.specs.Fmt.{decimal};
-ghost use Rattle.spec_made.specs.Made.{state, subnets, subnet_draws, subnet_lines, subnet_rule, register_values, register_line, register_lines, edits_made};
+ghost use Rattle.spec_input.specs.Made.{state, subnets, subnet_draws, subnet_lines, subnet_rule, register_values, register_line, register_lines, edits_made};
 ghost use Rattle.trace_gen.specs.Drawn.{IsSubnet};
 
 use crate::draws::{Draws, PORTS, SUBNETS};
@@ -21,7 +21,7 @@ pub struct Subnet {
     value: u32,
 }
 
-#[tactic(auto, unfolding(spec_made::specs::Made::state))]
+#[tactic(auto, unfolding(spec_input::specs::Made::state))]
 fn draw_subnet(draws: &mut Draws) -> Subnet
     ensures subnet { IsSubnet draws.old.state result }
     ensures state { draws.new.state ≡ state draws.old.state subnet_draws }

@@ -9,7 +9,7 @@
 //!
 //! # What is promised
 //!
-//! `spec_made` says what a number makes, and this crate makes just that, byte by byte, or is out of memory. So the same
+//! `spec_input` says what a number makes, and this crate makes just that, byte by byte, or is out of memory. So the same
 //! number makes the same bytes on every machine. The edits and the traces are within the limits of what a switch reads.
 //!
 //! # How

@@ -1,6 +1,6 @@
 //! All that a number makes.
 ghost use Rattle.std.specs.Prelude.{◌≡◌, ◌≤◌, [], ◌∷◌, length, map, IfOk};
-ghost use Rattle.spec_made.specs.Made.{ports, edits_made, trace_made, traces_made};
+ghost use Rattle.spec_input.specs.Made.{ports, edits_made, trace_made, traces_made};
 ghost use Rattle.trace_gen.specs.Made.{trace_view, most_edit_bytes, most_trace_bytes, bytes_of_all};
 
 use crate::draws::{Draws, PORTS, SUBNETS};

@@ -3,7 +3,7 @@ ghost use Rattle.std.specs.Prelude.{◌≡◌, ◌++◌, ◌<◌, ◌^◌, ◌/�
 ghost use Rattle.std.specs.List.{flat_map};
 ghost use Rattle.spec_base.specs.Bytes.{big_endian};
 ghost use Rattle.spec_pcap.specs.Pcap.{record_of, second};
-ghost use Rattle.spec_made.specs.Made.{addressed, state, frame_draws};
+ghost use Rattle.spec_input.specs.Made.{addressed, state, frame_draws};
 ghost use Rattle.trace_gen.specs.Drawn.{IsPacket, IsInRange, captured_at};
 
 use crate::draws::Draws;
@@ -31,7 +31,7 @@ pub struct Packet {
 }
 
 /// Draws a packet.
-#[tactic(auto, unfolding(spec_made::specs::Made::state))]
+#[tactic(auto, unfolding(spec_input::specs::Made::state))]
 pub fn draw_packet(draws: &mut Draws) -> Packet
     ensures packet { IsPacket draws.old.state result }
     ensures range { IsInRange result }

@@ -8,7 +8,7 @@ use Rattle.std.proofs.lemmas.List.Sorted.{IsPermutation-sym, sum_by-IsPermutatio
 use Rattle.spec_tables.specs.Rules.{Rule}
 use Rattle.spec_tables.specs.Edits as edits
 use Rattle.spec_tables.specs.Live.{is_live}
-use Rattle.translation_laws.proofs.MemberLaws.{Among, Among-filter, Among-append_left, Among_from-Contains, Contains_from-Among}
+use Rattle.table_laws.proofs.MemberLaws.{Among, Among-filter, Among-append_left, Among_from-Contains, Contains_from-Among}
 use Rattle.rule_tables.specs.Bare.{bare, apart_from, AreRising}
 use Rattle.staged_lookup.specs.Numbered.{AreDistinct}
 use Rattle.staged_lookup.proofs.Members.{any_among, among_map}

@@ -5,7 +5,7 @@ use Rattle.std.proofs.lemmas.Bool.{cond-false}
 use Rattle.std.proofs.lemmas.List.Elements.{filter-append}
 use Rattle.spec_keys.specs.Keys.{same}
 use Rattle.spec_tables.specs.Rules.{Rule, rules_in}
-use Rattle.translation_laws.proofs.MemberLaws.{Among, Among-filter, Among-append_right}
+use Rattle.table_laws.proofs.MemberLaws.{Among, Among-filter, Among-append_right}
 use Rattle.ovs_fields.specs.Packed.{bits}
 use Rattle.rule_tables.specs.Bare.{told}
 use Rattle.staged_lookup.specs.Numbered.{AreDistinct, without}

@@ -7,8 +7,8 @@ use Rattle.spec_keys.specs.Keys.{joined}
 use Rattle.spec_keys.specs.Stages.{through, staged, metadata_stage, ethernet_stage, network_stage}
 use Rattle.spec_tables.specs.Rules.{Rule}
 use Rattle.spec_xlate.specs.Lookup.{added, when, some_agrees, stage_test, prefix_tests, tracked_fields, probe}
-use Rattle.translation_laws.proofs.MemberLaws.{Among}
-use Rattle.translation_laws.proofs.UnionLaws.{Within, joined_assoc}
+use Rattle.table_laws.proofs.MemberLaws.{Among}
+use Rattle.table_laws.proofs.UnionLaws.{Within, joined_assoc}
 use Rattle.masked_map.proofs.UnionLaws.{joined_turned}
 use Rattle.staged_lookup.specs.declared.probe.Probe.{Probe}
 use Rattle.staged_lookup.specs.declared.probe.Probe.TheVariants.{Ended, Best}

@@ -9,7 +9,7 @@ use Rattle.std.proofs.lemmas.List.Edits.{get_or-insert_above, get_or-insert_at, 
 use Rattle.std.proofs.lemmas.List.Sorted.{IsNonDecreasingBy-insert}
 use Rattle.std.proofs.lemmas.List.Folds.{list_any_none, sum_by-replicate}
 use Rattle.std.proofs.lemmas.List.Sums.{sum_by-append, sum_by-cons, sum_by-insert, sum_by-remove, sum_by-set}
-use Rattle.translation_laws.proofs.MemberLaws.{Among, list_any_from-Among}
+use Rattle.table_laws.proofs.MemberLaws.{Among, list_any_from-Among}
 use Rattle.tuple_classifier.specs.declared.sorted.Counted.{Counted}
 use Rattle.tuple_classifier.specs.Numbers.{times, numbers_in, entry_numbers, entry_counts}
 use Rattle.tuple_classifier.proofs.Times.{stands, stood}

@@ -5,7 +5,7 @@ use Rattle.std.specs.List.{count_by}
 use Rattle.std.proofs.lemmas.List.Sums.{sum_by-append}
 use Rattle.spec_tables.specs.Rules.{Rule}
 use Rattle.spec_tables.specs.Live.{is_live}
-use Rattle.translation_laws.proofs.MemberLaws.{Among, Among_in-filter, Among-append_right}
+use Rattle.table_laws.proofs.MemberLaws.{Among, Among_in-filter, Among-append_right}
 use Rattle.rule_tables.specs.Bare.{told}
 use Rattle.staged_lookup.specs.Numbered.{AreDistinct, without}
 use Rattle.staged_lookup.proofs.Members.{any_among, counted_from}

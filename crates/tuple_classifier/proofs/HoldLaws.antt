@@ -1,7 +1,7 @@
 -- A rule that a subtable has.
 use Rattle.std.proofs.Common.{◌≡◌, ◌<◌, ℕ, List, ap, subst}
 use Rattle.spec_tables.specs.Rules.{Rule}
-use Rattle.translation_laws.specs.Members.{Among}
+use Rattle.table_laws.specs.Members.{Among}
 use Rattle.staged_lookup.specs.declared.rank.Rank.{Rank}
 use Rattle.tuple_classifier.specs.declared.subtable.Subtable.{Subtable}
 use Rattle.tuple_classifier.specs.Numbers.{times, numbers_in}

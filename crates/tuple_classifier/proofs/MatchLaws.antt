@@ -2,7 +2,7 @@
 use Rattle.std.proofs.Common.{◌≡◌, ℕ, false, List, [], ◌∷◌, None, inl, inr, refl, ◌∙◌}
 use Rattle.std.proofs.lemmas.Bool.{cond-false}
 use Rattle.spec_tables.specs.Rules.{Rule, is_matched, better, winner}
-use Rattle.translation_laws.specs.Members.{Among}
+use Rattle.table_laws.specs.Members.{Among}
 use Rattle.address_prefixes.specs.RuleLists.{NoneMatches}
 use Rattle.tuple_classifier.specs.Parts.{of_mask}
 use Rattle.tuple_classifier.proofs.PartLaws.{in_part}

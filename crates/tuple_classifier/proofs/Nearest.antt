@@ -4,7 +4,7 @@ use Rattle.std.specs.List.{list_any}
 use Rattle.std.specs.List.Sorted.{IsNonDecreasing}
 use Rattle.std.proofs.lemmas.Bool.{cases_lt, leb-true, le-leb}
 use Rattle.std.proofs.lemmas.Bool.Decides.{same_from_decides}
-use Rattle.translation_laws.proofs.MemberLaws.{list_any_from-Among}
+use Rattle.table_laws.proofs.MemberLaws.{list_any_from-Among}
 use Rattle.staged_lookup.proofs.Members.{any_among, counted_among}
 use Rattle.tuple_classifier.specs.Numbers.{times}
 use Rattle.tuple_classifier.proofs.Members.{among_at, place_of_among}

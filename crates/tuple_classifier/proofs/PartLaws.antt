@@ -5,8 +5,8 @@ use Rattle.std.proofs.lemmas.Option.{slice_get-get_or}
 use Rattle.spec_keys.specs.Keys.{agree, same}
 use Rattle.spec_tables.specs.Rules.{Rule, winner}
 use Rattle.spec_xlate.specs.Lookup.{added, some_agrees, probe, rules_from, priority_to_beat, consults}
-use Rattle.translation_laws.proofs.MemberLaws.{Among, Among-filter, Among_in-filter, Among-flat_map, Among_in-flat_map, list_any_from-Among}
-use Rattle.translation_laws.proofs.UnionLaws.{added-same}
+use Rattle.table_laws.proofs.MemberLaws.{Among, Among-filter, Among_in-filter, Among-flat_map, Among_in-flat_map, list_any_from-Among}
+use Rattle.table_laws.proofs.UnionLaws.{added-same}
 use Rattle.ovs_fields.specs.Packed.{bits}
 use Rattle.ovs_fields.specs.Equality.{equal_from_same}
 use Rattle.tuple_classifier.specs.declared.subtable.Subtable.{Subtable}

@@ -8,9 +8,9 @@ use Rattle.std.proofs.lemmas.Option.{same_Some}
 use Rattle.std.proofs.lemmas.List.{take_more, take-append-drop}
 use Rattle.spec_tables.specs.Rules.{Rule, winner}
 use Rattle.spec_xlate.specs.Lookup.{added, consults, probe}
-use Rattle.translation_laws.proofs.MemberLaws.{Among, list_any_from-Among}
-use Rattle.translation_laws.proofs.UnionLaws.{added-append}
-use Rattle.translation_laws.proofs.WinnerLaws.{IsWinner, winner-IsWinner}
+use Rattle.table_laws.proofs.MemberLaws.{Among, list_any_from-Among}
+use Rattle.table_laws.proofs.UnionLaws.{added-append}
+use Rattle.table_laws.proofs.WinnerLaws.{IsWinner, winner-IsWinner}
 use Rattle.ovs_fields.specs.Packed.{bits}
 use Rattle.staged_lookup.specs.declared.rank.Rank.{Rank}
 use Rattle.tuple_classifier.specs.declared.subtable.Subtable.{Subtable}

@@ -4,7 +4,7 @@ use Rattle.std.specs.List.{list_any, count_by}
 use Rattle.std.specs.Option.{option_eq}
 use Rattle.std.proofs.lemmas.Bool.{leb-true, le-leb, leb-false, false≢true}
 use Rattle.spec_tables.specs.Rules.{Rule}
-use Rattle.translation_laws.proofs.MemberLaws.{Among, list_any_from-Among}
+use Rattle.table_laws.proofs.MemberLaws.{Among, list_any_from-Among}
 use Rattle.tuple_classifier.specs.Numbers.{times}
 use Rattle.tuple_classifier.proofs.Times.{stands, stood}
 use Rattle.staged_lookup.proofs.Members.{any_among, counted_among, counted_from}

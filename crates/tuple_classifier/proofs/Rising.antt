@@ -2,7 +2,7 @@
 use Rattle.std.proofs.Common.{◌≡◌, ℕ, zero, suc, ◌+◌, ◌<◌, ◌≤◌, Bool, true, false, ◌==◌, if◌then◌else◌, List, [], ◌∷◌, ◌++◌, length, get_or, inl, inr, refl, ap, ◌∙◌, arith, eqb-true}
 use Rattle.std.specs.List.{count_by}
 use Rattle.spec_tables.specs.Rules.{Rule}
-use Rattle.translation_laws.proofs.MemberLaws.{Among, Among-append_left, Among-append_right}
+use Rattle.table_laws.proofs.MemberLaws.{Among, Among-append_left, Among-append_right}
 use Rattle.rule_tables.specs.Bare.{AreRising}
 use Rattle.staged_lookup.specs.Numbered.{AreDistinct}
 use Rattle.staged_lookup.proofs.Members.{count-cons, counted_among}

@@ -5,7 +5,7 @@ use Rattle.std.specs.List.{count_by}
 use Rattle.spec_keys.specs.Keys.{same}
 use Rattle.spec_tables.specs.Rules.{Rule, rules_in, winner}
 use Rattle.spec_xlate.specs.Lookup.{consults}
-use Rattle.translation_laws.proofs.MemberLaws.{Among_in-map}
+use Rattle.table_laws.proofs.MemberLaws.{Among_in-map}
 use Rattle.ovs_fields.specs.Packed.{bits}
 use Rattle.rule_tables.specs.Bare.{bare}
 use Rattle.address_prefixes.specs.Addresses.{AreOf}

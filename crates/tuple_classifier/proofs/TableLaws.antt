@@ -6,7 +6,7 @@ use Rattle.std.proofs.lemmas.List.Elements.{filter-append}
 use Rattle.std.proofs.lemmas.Option.{slice_get_within, same_Some}
 use Rattle.spec_keys.specs.Keys.{same}
 use Rattle.spec_tables.specs.Rules.{Rule}
-use Rattle.translation_laws.proofs.MemberLaws.{Among, Among-append, Among-filter, Among_in-filter}
+use Rattle.table_laws.proofs.MemberLaws.{Among, Among-append, Among-filter, Among_in-filter}
 use Rattle.ovs_fields.specs.Equality.{equal_from_same, same_from_equal}
 use Rattle.rule_tables.specs.declared.matching.Match.{Match}
 use Rattle.rule_tables.specs.Views.{match_view}

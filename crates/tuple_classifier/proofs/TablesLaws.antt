@@ -4,7 +4,7 @@ use Rattle.std.proofs.lemmas.Bool.{cases_eq, cond-true, cond-false, false≢true
 use Rattle.std.proofs.lemmas.List.Elements.{filter-append}
 use Rattle.std.proofs.lemmas.Option.{same_Some}
 use Rattle.spec_tables.specs.Rules.{Rule, rules_in}
-use Rattle.translation_laws.proofs.MemberLaws.{Among, Among-filter}
+use Rattle.table_laws.proofs.MemberLaws.{Among, Among-filter}
 use Rattle.staged_lookup.specs.Numbered.{AreDistinct, without}
 use Rattle.staged_lookup.specs.Subtables.{HasNoRule}
 use Rattle.staged_lookup.proofs.Removed.{all_stay}

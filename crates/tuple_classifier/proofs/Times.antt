@@ -1,6 +1,6 @@
 -- Numbers that stand in lists.
 use Rattle.std.proofs.Common.{ℕ, ◌<◌, ◌==◌, List, refl, subst, eqb-true, eq-eqb}
-use Rattle.translation_laws.specs.Members.{Among}
+use Rattle.table_laws.specs.Members.{Among}
 use Rattle.staged_lookup.proofs.Members.{counted_among, counted_from}
 use Rattle.tuple_classifier.specs.Numbers.{times}
 

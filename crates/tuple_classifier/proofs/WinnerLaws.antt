@@ -5,8 +5,8 @@ use Rattle.std.proofs.lemmas.Bool.{cond-true, cond-false, false≢true}
 use Rattle.std.proofs.lemmas.Bool.Decides.{nat_tests}
 use Rattle.spec_tables.specs.Rules.{Rule, is_matched, better, winner}
 use Rattle.spec_xlate.specs.Lookup.{priority_to_beat}
-use Rattle.translation_laws.proofs.MemberLaws.{Among, Among-flat_map, Among_in-flat_map, list_any-Among}
-use Rattle.translation_laws.proofs.WinnerLaws.{IsWinner, IsBestOf, winner-IsWinner}
+use Rattle.table_laws.proofs.MemberLaws.{Among, Among-flat_map, Among_in-flat_map, list_any-Among}
+use Rattle.table_laws.proofs.WinnerLaws.{IsWinner, IsBestOf, winner-IsWinner}
 use Rattle.ovs_fields.specs.Packed.{bits}
 use Rattle.staged_lookup.specs.declared.rank.Rank.{Rank}
 use Rattle.tuple_classifier.specs.declared.subtable.Subtable.{Subtable}

@@ -2,7 +2,7 @@
 use Rattle.std.specs.Prelude.{◌≡◌, ℕ, List, [], slice_get, Option, Some, None}
 use Rattle.spec_tables.specs.Rules as tables
 use Rattle.spec_tables.specs.Rules.{Rule, rules_in}
-use Rattle.translation_laws.specs.Members.{Among}
+use Rattle.table_laws.specs.Members.{Among}
 use Rattle.staged_lookup.specs.declared.rank.Rank.{Rank}
 use Rattle.staged_lookup.specs.Subtables.{HasNoRule}
 use Rattle.tuple_classifier.specs.declared.subtable.Subtable.{Subtable}

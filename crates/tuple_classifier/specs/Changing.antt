@@ -3,7 +3,7 @@ use Rattle.std.specs.Prelude.{ℕ, ◌<◌, ◌^◌, List, ◌++◌, length, tak
 use Rattle.spec_tables.specs.Rules.{Rule}
 use Rattle.spec_tables.specs.Edits as edits
 use Rattle.spec_tables.specs.Live.{is_live}
-use Rattle.translation_laws.specs.Members.{Among}
+use Rattle.table_laws.specs.Members.{Among}
 use Rattle.rule_tables.specs.Bare.{told, AreRising}
 use Rattle.rule_tables.specs.Changes.{Changed}
 use Rattle.staged_lookup.specs.Numbered.{AreDistinct}

@@ -3,7 +3,7 @@ use Rattle.std.specs.Prelude.{◌≡◌, ℕ, true, List, slice_get, Some}
 use Rattle.indexmap.specs.IndexMap.{values}
 use Rattle.spec_keys.specs.Keys.{same}
 use Rattle.spec_tables.specs.Rules.{Rule}
-use Rattle.translation_laws.specs.Members.{Among}
+use Rattle.table_laws.specs.Members.{Among}
 use Rattle.ovs_fields.specs.Packed.{bits}
 use Rattle.staged_lookup.specs.declared.rank.Rank.{Rank}
 use Rattle.staged_lookup.specs.Numbered.{AreDistinct, without}

@@ -4,7 +4,7 @@ use Rattle.std.specs.List.{list_any, flat_map}
 use Rattle.spec_keys.specs.Keys.{same}
 use Rattle.spec_tables.specs.Rules.{Rule}
 use Rattle.spec_xlate.specs.Lookup.{probe}
-use Rattle.translation_laws.specs.Members.{Among}
+use Rattle.table_laws.specs.Members.{Among}
 use Rattle.ovs_fields.specs.Packed.{bits}
 use Rattle.rule_tables.specs.declared.matching.Match.{Match}
 use Rattle.rule_tables.specs.Views.{match_view}

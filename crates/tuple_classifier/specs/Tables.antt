@@ -2,7 +2,7 @@
 use Rattle.std.specs.Prelude.{◌≡◌, List}
 use Rattle.spec_tables.specs.Rules as tables
 use Rattle.spec_tables.specs.Rules.{Rule}
-use Rattle.translation_laws.specs.Members.{Among}
+use Rattle.table_laws.specs.Members.{Among}
 use Rattle.address_prefixes.specs.Addresses.{AreOf}
 use Rattle.staged_lookup.specs.declared.rank.Rank.{Rank}
 use Rattle.tuple_classifier.specs.declared.table.Table.{Table}

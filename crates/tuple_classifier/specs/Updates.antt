@@ -1,7 +1,7 @@
 -- How the rules that something has change, as one comes or goes.
 use Rattle.std.specs.Prelude.{◌≡◌, ℕ, List, [], ◌∷◌, ◌++◌}
 use Rattle.spec_tables.specs.Rules.{Rule}
-use Rattle.translation_laws.specs.Members.{Among}
+use Rattle.table_laws.specs.Members.{Among}
 use Rattle.rule_tables.specs.declared.matching.Match.{Match}
 use Rattle.rule_tables.specs.Views.{match_view}
 use Rattle.staged_lookup.specs.declared.rank.Rank.{Rank}

@@ -3,7 +3,7 @@ ghost use Rattle.std.specs.List.{list_any};
 ghost use Rattle.spec_tables.specs.Rules.{Rule};
 ghost use Rattle.ovs_fields.specs.Packed.{bits};
 ghost use Rattle.staged_lookup.specs.Numbered.{AreDistinct, without};
-ghost use Rattle.translation_laws.specs.Members.{Among};
+ghost use Rattle.table_laws.specs.Members.{Among};
 
 use crate::sorted::SortedNumbers;
 use address_prefixes::MaskPrefixes;

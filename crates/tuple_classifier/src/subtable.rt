@@ -5,7 +5,7 @@ ghost use Rattle.ovs_fields.specs.Packed.{bits};
 ghost use Rattle.staged_lookup.specs.Numbered.{without};
 ghost use Rattle.staged_lookup.specs.Ranks.{rank_of};
 ghost use Rattle.staged_lookup.specs.Subtables.{HasNoRule};
-ghost use Rattle.translation_laws.specs.Members.{Among};
+ghost use Rattle.table_laws.specs.Members.{Among};
 ghost use Rattle.tuple_classifier.specs.Updates.{KeepsRules, AddsRule};
 
 use crate::indexes::Indexes;

@@ -26,7 +26,7 @@
 //!   nothing, each upcall was taken exactly as often as it was put: none was lost and none came twice.
 //!
 //! What a call says of the queue at one moment is an account of the upcalls in it, and a pass can give that only where it
-//! has taken in all the others (`Accounts`). Of other passes such a clause says nothing, and `queue_tests` shows the rest.
+//! has taken in all the others (`Accounts`). Of other passes such a clause says nothing, and `structure_tests` shows the rest.
 //!
 //! # How
 //!

@@ -1,7 +1,7 @@
 //! What the workers of a phase share.
 ghost use Rattle.std.specs.Prelude.{◌≡◌, ◌<◌, ◌≤◌, ◌*◌};
 ghost use Rattle.rx_worker.specs.declared.looking.TheConstants.{BATCH_SIZE};
-ghost use Rattle.spec_words.specs.Words.{most_workers};
+ghost use Rattle.spec_input.specs.Words.{most_workers};
 
 use crate::mailbox::{Mailbox, learn};
 use crate::phase::Phase;

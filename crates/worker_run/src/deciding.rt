@@ -3,7 +3,7 @@ ghost use Rattle.std.specs.Prelude.{◌≡◌, ◌≤◌, IsTrue, IfOk, MatchBoo
 ghost use Rattle.std.specs.List.{list_all};
 ghost use Rattle.spec_case.specs.Blocks.{last_block};
 ghost use Rattle.spec_tables.specs.Edits.{has_sound_actions};
-ghost use Rattle.spec_words.specs.Words.{most_workers};
+ghost use Rattle.spec_input.specs.Words.{most_workers};
 ghost use Rattle.run_boards.specs.Finished.{AreFinished};
 
 use edge_io::Gate;

@@ -2,7 +2,7 @@
 ghost use Rattle.std.specs.Prelude.{◌≡◌, ◌≤◌, IsTrue, IfOk, length};
 ghost use Rattle.std.specs.List.{list_all};
 ghost use Rattle.spec_case.specs.Blocks.{AreInOrder};
-ghost use Rattle.spec_script.specs.Script.{most_edits, most_syncs};
+ghost use Rattle.spec_input.specs.Script.{most_edits, most_syncs};
 ghost use Rattle.spec_tables.specs.Bundles.{AreBundles};
 ghost use Rattle.spec_tables.specs.Edits.{has_sound_actions};
 ghost use Rattle.run_case.specs.Places.{HasPort, IsCounted};
@@ -52,7 +52,7 @@ impl Model for LiteralRun {
     ghost use Rattle.std.specs.List.{list_all};
     ghost use Rattle.spec_case.specs.Blocks.{AreInOrder};
     ghost use Rattle.spec_case.specs.Run.{Run};
-    ghost use Rattle.spec_script.specs.Script.{most_edits, most_syncs};
+    ghost use Rattle.spec_input.specs.Script.{most_edits, most_syncs};
     ghost use Rattle.spec_tables.specs.Bundles.{AreBundles};
     ghost use Rattle.spec_tables.specs.Edits.{has_sound_actions};
     ghost use Rattle.run_case.specs.Places.{HasPort, AreCounted};

@@ -8,7 +8,7 @@ use Rattle.spec_xlate.specs.Translation.{Switch, State, Mode, deepest, act, visi
 use Rattle.spec_xlate.specs.Translation.Mode.{Going, ListEnded, Stopped}
 use Rattle.spec_xlate.specs.Lookup.{added, consults}
 use Rattle.spec_xlate.specs.Consulted.{act_bits, in_mode_bits, while_going_bits, run_bits, follow_bits, enter_bits, look_bits}
-use Rattle.translation_laws.proofs.UnionLaws.{added-append}
+use Rattle.table_laws.proofs.UnionLaws.{added-append}
 use Rattle.pipe_model.specs.Events.{Event, act_events, in_mode_events, while_going_events, run_events, follow_events, enter_events, look_events}
 use Rattle.xlate_pipeline.specs.Steps.{with_event}
 

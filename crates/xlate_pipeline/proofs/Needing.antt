@@ -4,7 +4,7 @@ use Rattle.spec_actions.specs.declared.named_field.Prerequisite.{Prerequisite}
 use Rattle.spec_xlate.specs.Needs.{is_met, fields_needed}
 use Rattle.spec_xlate.specs.Lookup.{added, when}
 use Rattle.spec_xlate.specs.Consulted.{whole, under}
-use Rattle.translation_laws.proofs.UnionLaws.{added-append}
+use Rattle.table_laws.proofs.UnionLaws.{added-append}
 
 -- need is what the definition has, asked what the code asks for
 pub under-met : (need asked : Prerequisite) (key : List ℕ) (masks : List (List ℕ)) (m m' m'' : List ℕ) → asked ≡ need → true ≡ is_met asked key

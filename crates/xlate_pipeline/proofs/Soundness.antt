@@ -3,7 +3,7 @@ use Rattle.std.proofs.Common.{◌≡◌, ℕ, true, List, sym, ap₂, ◌∙◌,
 use Rattle.spec_keys.specs.Keys.{agree, IsKey, IsClean}
 use Rattle.spec_xlate.specs.Translation.{Switch, pipe}
 use Rattle.spec_xlate.specs.Consulted.{consulted}
-use Rattle.translation_laws.proofs.SoundLaws.{TranslationAlike, consulted-sound}
+use Rattle.table_laws.proofs.SoundLaws.{TranslationAlike, consulted-sound}
 use Rattle.pipe_model.specs.Xlates.{Xlate, IsWildcardSound}
 
 pub sound_from : (sw : Switch) (x : Xlate) (key : List ℕ) → IsKey key → x.key ≡ key → x.translation ≡ pipe sw key → x.mask ≡ consulted sw key → IsWildcardSound sw x

@@ -49,7 +49,7 @@
 //! # What is left to others
 //!
 //! How rules are found, and which bits a lookup consults, are the classifier's. That the bits are enough is proved in
-//! `translation_laws`. Of which run a translation is, `run_xlate` has its type say. What becomes of the megaflow is for the
+//! `table_laws`. Of which run a translation is, `run_xlate` has its type say. What becomes of the megaflow is for the
 //! caches.
 #![tactic(auto)]
 

@@ -3,7 +3,7 @@ use Rattle.std.proofs.Common.{◌≡◌, ℕ, ◌<◌, ◌≤◌, Bool, true, �
 use Rattle.std.specs.List.{list_any}
 use Rattle.std.proofs.lemmas.List.Folds.{Any-from_list_any}
 use Rattle.spec_xlate.specs.Lookup.{Prefix, begins_with, deciding, deciding_one, some_begins}
-use Rattle.translation_laws.proofs.MemberLaws.{Among, Among_from-Contains, list_any_from-Among}
+use Rattle.table_laws.proofs.MemberLaws.{Among, Among_from-Contains, list_any_from-Among}
 use Rattle.address_prefixes.specs.Prefixes.{times}
 use Rattle.std.proofs.lemmas.Bool.Decides.{same_from_decides}
 use Rattle.address_prefixes.proofs.tracker.Times.{stands, stood}

@@ -4,7 +4,7 @@ use Rattle.std.specs.List.{list_any}
 use Rattle.std.proofs.lemmas.List.Elements.{All-replicate}
 use Rattle.std.proofs.lemmas.List.Folds.{list_any-append, list_any_none}
 use Rattle.spec_xlate.specs.Lookup.{Prefix, begins_with, deciding, deciding_one, some_begins}
-use Rattle.translation_laws.proofs.MemberLaws.{Among, All_from-Among}
+use Rattle.table_laws.proofs.MemberLaws.{Among, All_from-Among}
 use Rattle.address_prefixes.specs.Looks.{begun, AllApart}
 use Rattle.address_prefixes.specs.Prefixes.{in_common, prefix_at}
 use Rattle.std.proofs.lemmas.Bool.{lt-leb, le-leb, and_right, or_left}

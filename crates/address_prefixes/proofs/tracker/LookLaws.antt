@@ -3,7 +3,7 @@ use Rattle.std.proofs.Common.{Box, ◌≡◌, ℕ, suc, ◌+◌, ◌-◌, ◌*�
 use Rattle.std.specs.Int.{bit_at, w128}
 use Rattle.std.proofs.lemmas.Nat.Bits.{bit_at_set_same, bit_at_set_other, bit_at-lt, bit_at-zero}
 use Rattle.spec_xlate.specs.Lookup.{Prefix, deciding}
-use Rattle.translation_laws.proofs.MemberLaws.{Among, Among-append}
+use Rattle.table_laws.proofs.MemberLaws.{Among, Among-append}
 use Rattle.address_prefixes.specs.declared.tracker.found.Found.{Found}
 use Rattle.address_prefixes.specs.declared.tracker.trie.Node.{Node}
 use Rattle.address_prefixes.specs.declared.tracker.trie.Trie.{Trie}

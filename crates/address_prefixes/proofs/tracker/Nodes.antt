@@ -6,7 +6,7 @@ use Rattle.std.proofs.Common.{Box, Result, Ok, Err, OnOk, OnErr, ap₂}
 use Rattle.std.specs.declared.alloc.Global.{Global}
 use Rattle.spec_base.specs.Bits.{leading_bits}
 use Rattle.spec_xlate.specs.Lookup.{Prefix}
-use Rattle.translation_laws.proofs.MemberLaws.{Among, Among-append}
+use Rattle.table_laws.proofs.MemberLaws.{Among, Among-append}
 use Rattle.address_prefixes.specs.declared.tracker.trie.Trie.{Trie}
 use Rattle.address_prefixes.specs.declared.tracker.trie.Trie.TheVariants.{Empty, Fork}
 use Rattle.address_prefixes.specs.declared.tracker.trie.Node.{Node}

@@ -3,15 +3,15 @@ use Rattle.std.proofs.Common.{◌≡◌, ℕ, ◌+◌, ◌<◌, ◌≤◌, Bool,
 use Rattle.std.specs.List.{list_any, flat_map, count_by}
 use Rattle.std.proofs.lemmas.List.Concat.{flat_map-cons}
 use Rattle.std.proofs.lemmas.List.Sums.{sum_by-cons}
-use Rattle.spec_diff.specs.Classes.{one_if}
-use Rattle.spec_diff.specs.Lines as spec
-use Rattle.spec_diff.specs.Lines.{Said}
-use Rattle.spec_diff.specs.Lines.Said.{Alike, Differ}
+use Rattle.spec_tools.specs.Classes.{one_if}
+use Rattle.spec_tools.specs.Lines as spec
+use Rattle.spec_tools.specs.Lines.{Said}
+use Rattle.spec_tools.specs.Lines.Said.{Alike, Differ}
 use Rattle.class_list.specs.declared.line.Line.{Line}
 use Rattle.class_list.specs.LineViews.{said_view, line_view, lines_view}
 use Rattle.class_list.proofs.SaidLaws.{left_from, none_left}
 use Rattle.text_numbers.specs.Added.{IsPrefix}
-use Rattle.spec_diff.specs.Texts.{Kind, is_same_kind, kind_of, kinds_in, kinds_of, kind_line, line_text}
+use Rattle.spec_tools.specs.DiffTexts.{Kind, is_same_kind, kind_of, kinds_in, kinds_of, kind_line, line_text}
 use Rattle.diff_app.specs.Pieces.{last_kind, last_kind_text}
 
 -- ---- the kinds of a line, and of those that follow

@@ -1,10 +1,10 @@
 //! Lines that are classes of the same pair of actions.
 ghost use Rattle.std.specs.Prelude.{◌≡◌, length};
 ghost use Rattle.std.specs.List.{list_any, count_by};
-ghost use Rattle.spec_diff.specs.Classes.{one_if};
+ghost use Rattle.spec_tools.specs.Classes.{one_if};
 ghost use Rattle.table_diff.specs.Deeds.{deed_view};
 ghost use Rattle.class_list.specs.LineViews.{said_view, line_view, lines_view};
-ghost use Rattle.spec_diff.specs.Texts.{are_same_flow_actions, is_same_deed, is_same_kind, kind_of, kinds_in, kinds_of};
+ghost use Rattle.spec_tools.specs.DiffTexts.{are_same_flow_actions, is_same_deed, is_same_kind, kind_of, kinds_in, kinds_of};
 ghost use Rattle.diff_app.specs.Pieces.{kind_view, last_kind};
 
 use class_list::Line;

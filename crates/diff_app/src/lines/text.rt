@@ -7,13 +7,12 @@ ghost use Rattle.text_numbers.specs.Added.{Adds};
 ghost use Rattle.table_diff.specs.Cubes.{cube_view};
 ghost use Rattle.table_diff.specs.Deeds.{deed_view, CanPrint};
 ghost use Rattle.class_list.specs.LineViews.{said_view, line_view, lines_view};
-ghost use Rattle.spec_diff.specs.Texts.{deed_text, said_text, line_text, old_line, new_line, kind_of, kinds_in, kind_line, kinds_text, count_line, text_of_lines};
+ghost use Rattle.spec_tools.specs.DiffTexts.{deed_text, said_text, line_text, old_line, new_line, kind_of, kinds_in, kind_line, kinds_text, count_line, text_of_lines};
 ghost use Rattle.diff_app.specs.Pieces.{kind_view, body_text, done_text, kind_text, last_kind_text, counts_text};
 
 use crate::lines::kinds::{count_classes, count_kind, count_kinds, has_kind};
-use action_text::print_actions;
+use action_text::{print_actions, print_dp_actions};
 use class_list::Line;
-use dp_text::print_dp_actions;
 use dump_lines::megaflows::print_megaflow_match;
 use std::alloc::AllocError;
 use table_diff::{Class, Cube, Deed};

@@ -10,7 +10,7 @@ ghost use Rattle.dump_lines.specs.Parts.{name_text, counts_text, decided_text, e
 use crate::megaflows::matches::print_megaflow_match;
 use crate::megaflows::times::print_time;
 use crate::megaflows::visits::print_visits;
-use dp_text::print_dp_actions;
+use action_text::print_dp_actions;
 use megaflow_table::Entry;
 use spec_actions::DpAction;
 use std::alloc::AllocError;

@@ -19,7 +19,7 @@ use pcap_files::writer::PcapWriter;
 use run_boards::Finished;
 use run_case::{Case, RunData};
 use spec_case::Arrival;
-use spec_script::mirrors::Mirror;
+use spec_input::mirrors::Mirror;
 use std::alloc::Global;
 
 // Whether a mirror copies what comes in at a port.

@@ -17,7 +17,7 @@ use Rattle.spec_xlate.specs.Needs.{is_ip, is_unfragmented, is_protocol, is_met}
 use Rattle.spec_base.specs.Bits.{merged}
 use Rattle.spec_xlate.specs.Translation.{with_value, written, in_field, written_bits}
 use Rattle.spec_keys.specs.Protocols.{tag_bit, customer_tag, ipv4_type, ipv6_type, arp_type, tcp_protocol, udp_protocol}
-use Rattle.translation_laws.proofs.CommitLaws.{place_of-lt}
+use Rattle.table_laws.proofs.CommitLaws.{place_of-lt}
 use Rattle.exec_laws.specs.Made.{can_change}
 
 -- ---- fields

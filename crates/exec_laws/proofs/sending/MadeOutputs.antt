@@ -23,14 +23,14 @@ use Rattle.spec_xlate.specs.Needs.{is_met}
 use Rattle.spec_xlate.specs.Commit.{commit}
 use Rattle.spec_xlate.specs.Translation.{Switch, State, Mode, deepest, stopped, emit_all, committed, in_port_of, rising, is_other_port, other_ports, output, output_all, slice_of, slice_bits, with_current, in_field, written, written_bits, write, vid_bits, pcp_bits, pcp_unit, write_tag, lower_ttl, act, in_mode, run, visited, follow, with_lookups_left, enter, look, start, last_state}
 use Rattle.spec_xlate.specs.Translation.Mode.{Going, ListEnded, Stopped}
-use Rattle.translation_laws.specs.Applied.{is_proper, HasProperTags}
-use Rattle.translation_laws.proofs.ProperLaws.{LookKeepsTags, act-proper, look-proper}
-use Rattle.translation_laws.proofs.MemberLaws.{Among, Among-filter, Among-sort_by, list_any_from-Among}
+use Rattle.table_laws.specs.Applied.{is_proper, HasProperTags}
+use Rattle.table_laws.proofs.ProperLaws.{LookKeepsTags, act-proper, look-proper}
+use Rattle.table_laws.proofs.MemberLaws.{Among, Among-filter, Among-sort_by, list_any_from-Among}
 use Rattle.exec_laws.specs.Become.{HasTagTypes, KeyedOutput}
 use Rattle.exec_laws.proofs.Tags.{either-tag}
-use Rattle.translation_laws.proofs.ActLaws.{writable}
-use Rattle.translation_laws.proofs.WinnerLaws.{winner-best}
-use Rattle.translation_laws.specs.Best.{IsBest}
+use Rattle.table_laws.proofs.ActLaws.{writable}
+use Rattle.table_laws.proofs.WinnerLaws.{winner-best}
+use Rattle.table_laws.specs.Best.{IsBest}
 use Rattle.exec_laws.proofs.sending.TagTypes.{AreTyped, to-HasTagTypes, of-HasTagTypes, popped-typed, pushed-typed, beside-typed, written-typed}
 use Rattle.exec_laws.specs.Outputs.{outputs_at, output_at, act_outputs, in_mode_outputs, run_outputs, follow_outputs, enter_outputs, look_outputs, kept_outputs, translation_outputs}
 use Rattle.exec_laws.specs.Made.{can_change, IsMadeOf, pushes_tags, PushTags, is_way_out}

@@ -13,7 +13,7 @@ use Rattle.spec_actions.specs.declared.action.DpAction.TheVariants.{Output}
 use Rattle.spec_xlate.specs.Tags.{VlanTag, is_tag, outer_tag, inner_tag, is_full}
 use Rattle.spec_xlate.specs.Commit.{commit}
 use Rattle.spec_xlate.specs.Translation.{Switch, pipe}
-use Rattle.translation_laws.specs.Applied.{is_proper}
+use Rattle.table_laws.specs.Applied.{is_proper}
 use Rattle.frame_laws.proofs.keys.KeyLaws.{key_of-IsKey}
 use Rattle.spec_exec.specs.Sent.{Piece, sent}
 use Rattle.exec_laws.specs.ReadBack.{shows}

@@ -10,9 +10,9 @@ use Rattle.spec_keys.specs.Protocols.{tag_bit, is_tag_type}
 use Rattle.spec_xlate.specs.Tags.{VlanTag, is_tag, is_tag_field, outer_tag, inner_tag, no_tag, is_same_tag, with_tags, popped, pushed, type_of_written, tagged}
 use Rattle.spec_base.specs.Bits.{merged}
 use Rattle.spec_xlate.specs.Translation.{written}
-use Rattle.translation_laws.specs.Applied.{is_tag_or_none, is_proper}
-use Rattle.translation_laws.proofs.KeysAlike.{is_tag_place}
-use Rattle.translation_laws.proofs.ActLaws.{IsWritable}
+use Rattle.table_laws.specs.Applied.{is_tag_or_none, is_proper}
+use Rattle.table_laws.proofs.KeysAlike.{is_tag_place}
+use Rattle.table_laws.proofs.ActLaws.{IsWritable}
 use Rattle.exec_laws.specs.Become.{has_third_tag, HasTagTypes}
 use Rattle.spec_frames.specs.Ethernet.{type_at, type_size, tag_size, inner_at, is_tag_at, tpid_at}
 use Rattle.frame_laws.proofs.keys.Forms.{Tags}

@@ -2,7 +2,7 @@ ghost use Rattle.std.specs.Prelude.{◌≡◌, ℕ, IsTrue, List, All};
 ghost use Rattle.spec_keys.specs.Keys.{IsKey};
 ghost use Rattle.spec_actions.specs.Sound.{AreSound};
 ghost use Rattle.spec_xlate.specs.Translation.{Switch, pipe};
-ghost use Rattle.translation_laws.specs.Applied.{is_proper};
+ghost use Rattle.table_laws.specs.Applied.{is_proper};
 ghost use Rattle.exec_laws.specs.Become.{HasTagTypes, outputs_of};
 ghost use Rattle.exec_laws.specs.Outputs.{translation_outputs};
 ghost use Rattle.exec_laws.specs.Made.{KeepsTheRest, IsMadeOf, PushTags, is_way_out};

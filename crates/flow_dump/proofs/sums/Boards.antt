@@ -12,7 +12,7 @@ use Rattle.spec_board.specs.State as states
 use Rattle.spec_board.specs.State.{State, Total}
 use Rattle.spec_board.specs.Counts as board
 use Rattle.spec_board.specs.Texts.{Journal}
-use Rattle.bundle_laws.proofs.Bundles.{within}
+use Rattle.table_laws.proofs.Bundles.{within}
 use Rattle.board_laws.specs.Counts.{HasBoundedCounts}
 use Rattle.megaflow_table.specs.declared.entry.Entry.{Entry}
 use Rattle.port_caches.specs.declared.lists.HeldList.{HeldList}

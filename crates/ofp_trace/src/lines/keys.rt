@@ -4,7 +4,7 @@ ghost use Rattle.std.specs.List.{flat_map};
 ghost use Rattle.spec_xlate.specs.Lookup.{added};
 ghost use Rattle.text_numbers.specs.Added.{Adds};
 ghost use Rattle.ovs_fields.specs.Packed.{numbers, bits};
-ghost use Rattle.spec_trace.specs.Texts.{carried_bits, carried, key_text};
+ghost use Rattle.spec_tools.specs.TraceTexts.{carried_bits, carried, key_text};
 
 use dump_lines::megaflows::print_megaflow_match;
 use named_fields::low_bits;

@@ -8,14 +8,14 @@ ghost use Rattle.spec_flow_text.specs.Printed.{match_printed, actions_printed};
 ghost use Rattle.rule_tables.specs.Views.{match_view};
 ghost use Rattle.text_numbers.specs.Added.{Adds};
 ghost use Rattle.dump_lines.specs.Live.{IsOfEdits, live_in, live_view};
-ghost use Rattle.spec_trace.specs.Texts.{after_space, winner_text, winner_of, lookup_line};
+ghost use Rattle.spec_tools.specs.TraceTexts.{after_space, winner_text, winner_of, lookup_line};
 ghost use Rattle.ofp_trace.specs.Winners.{HasLiveWinner};
 ghost use Rattle.ofp_trace.specs.Pieces.{done_text, stated_text, looked_text};
 
 use action_text::print_actions;
 use match_text::print_match;
 use rule_tables::{Match, OfAction, Rule, VersionedRules};
-use spec_trace::Lookup;
+use spec_tools::Lookup;
 use std::alloc::AllocError;
 use text_numbers::{print_decimal, print_word};
 

@@ -5,14 +5,14 @@ ghost use Rattle.spec_flow_text.specs.Within.{AreWithinFields};
 ghost use Rattle.ovs_fields.specs.Packed.{numbers, bits};
 ghost use Rattle.text_numbers.specs.Added.{Adds};
 ghost use Rattle.dump_lines.specs.Live.{IsOfEdits, live_in};
-ghost use Rattle.spec_trace.specs.Texts.{key_text, flow_line, last_line, megaflow_line, datapath_line, told_text};
+ghost use Rattle.spec_tools.specs.TraceTexts.{key_text, flow_line, last_line, megaflow_line, datapath_line, told_text};
 ghost use Rattle.ofp_trace.specs.Winners.{HasLiveWinner};
 ghost use Rattle.ofp_trace.specs.Pieces.{ended_text};
 
 use crate::Traced;
 use crate::lines::keys::print_key;
 use crate::lines::lookups::print_lookups;
-use dp_text::print_dp_actions;
+use action_text::print_dp_actions;
 use dump_lines::megaflows::print_megaflow_match;
 use ovs_fields::{Key, Mask};
 use rule_tables::VersionedRules;

@@ -7,7 +7,7 @@ use Rattle.spec_case.specs.Arrivals.{arrivals_at, arrivals_in, comes_before}
 use Rattle.spec_board.specs.Texts.{Journal}
 use Rattle.spec_netflow.specs.Flows.{came_in}
 use Rattle.spec_run.specs.Journals.{AreWhole, actions_for}
-use Rattle.translation_laws.proofs.MemberLaws.{Among, Among-append, Among-sort_by, All-Among, All_from-Among}
+use Rattle.table_laws.proofs.MemberLaws.{Among, Among-append, Among-sort_by, All-Among, All_from-Among}
 use Rattle.board_laws.specs.Entries.{AreOfBytes}
 use Rattle.netflow_laws.specs.Widths.{IsOfWidths, AreOfWidths}
 use Rattle.output_laws.specs.Widths.{HasWidths}

@@ -11,7 +11,7 @@ use Rattle.spec_board.specs.Decisions.{Decision, decisions, decisions_from, deci
 use Rattle.spec_board.specs.Texts.{Journal}
 use Rattle.spec_netflow.specs.Flows.{first_output}
 use Rattle.spec_run.specs.Journals.{IsWhole, AreWhole, steps_in, actions_in, actions_for}
-use Rattle.translation_laws.proofs.MemberLaws.{Among, All-Among, Among_in-map}
+use Rattle.table_laws.proofs.MemberLaws.{Among, All-Among, Among_in-map}
 use Rattle.board_laws.specs.Entries.{AreOfBytes}
 use Rattle.board_laws.proofs.ListLaws.{find-some}
 use Rattle.run_laws.proofs.LastVersions.{decisions_within}

@@ -18,8 +18,8 @@ use Rattle.spec_xlate.specs.Tags.{VlanTag, outer_tag, inner_tag, tags_of, outer_
 use Rattle.spec_xlate.specs.Commit.{commit, commit_field, commit_fields, fields_before_tags, fields_after_tags}
 use Rattle.spec_xlate.specs.Translation.{Switch, in_port_of, pipe}
 use Rattle.spec_netflow.specs.Flows.{first_output}
-use Rattle.translation_laws.specs.Applied.{is_proper}
-use Rattle.translation_laws.proofs.MemberLaws.{All-Among}
+use Rattle.table_laws.specs.Applied.{is_proper}
+use Rattle.table_laws.proofs.MemberLaws.{All-Among}
 use Rattle.frame_laws.proofs.keys.KeyLaws.{key_of-IsKey}
 use Rattle.frame_laws.proofs.keys.Forms.{short-key}
 use Rattle.board_laws.proofs.ListLaws.{list_any-some}

@@ -8,7 +8,7 @@ use Rattle.spec_keys.specs.Keys.{agree}
 use Rattle.spec_board.specs.State.{Entry, State, place_at, is_pending}
 use Rattle.spec_board.specs.Results.{key_at, mask_for, numbers_of, covering, overlaps, settled_beside, settled_anew}
 use Rattle.spec_board.specs.Journals.{Legal}
-use Rattle.translation_laws.proofs.MemberLaws.{Among, Among-filter, All_from-Among}
+use Rattle.table_laws.proofs.MemberLaws.{Among, Among-filter, All_from-Among}
 use Rattle.board_laws.proofs.ListLaws.{find-some}
 use Rattle.board_laws.proofs.NumberLaws.{among_number, is_among-Among}
 use Rattle.board_laws.proofs.PlaceLaws.{pending_upto}

@@ -16,7 +16,7 @@ use Rattle.spec_dumps.specs.Rules.{packets_of, bytes_of, counts_of, in_order, ru
 use Rattle.spec_dumps.specs.Summary.{sent_count, dropped_count, frame_count}
 use Rattle.spec_xlate.specs.Translation.{Translation}
 use Rattle.spec_run.specs.Journals.{HasEditsApart, AreWhole}
-use Rattle.spec_script.specs.Mirrors.{Mirror}
+use Rattle.spec_input.specs.Mirrors.{Mirror}
 use Rattle.spec_run.specs.Mirrored.{copies}
 use Rattle.spec_run.specs.Outputs.{frames_out}
 use Rattle.output_laws.specs.Parts.{before, since, parts, MayBeCutAt}

@@ -11,7 +11,7 @@ use Rattle.spec_case.specs.Run.{Run, frames_of, frame_at}
 use Rattle.spec_case.specs.Arrivals.{arrivals, in_order}
 use Rattle.spec_board.specs.Texts.{Journal}
 use Rattle.spec_exec.specs.Sent.{Piece, sent}
-use Rattle.spec_script.specs.Mirrors.{Mirror}
+use Rattle.spec_input.specs.Mirrors.{Mirror}
 use Rattle.spec_run.specs.Journals.{HasEditsApart, AreWhole}
 use Rattle.spec_run.specs.Mirrored.{copy_of, copied, copies}
 use Rattle.spec_run.specs.Outputs.{sent_to, frames_out}

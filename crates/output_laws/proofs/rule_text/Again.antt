@@ -5,7 +5,7 @@ use Rattle.std.specs.Option.{option_map}
 use Rattle.std.proofs.lemmas.Option.{slice_get-map}
 use Rattle.spec_tables.specs.Rules.{Rule}
 use Rattle.spec_tables.specs.Edits.{Edit, without, after_edit, after_edits, is_named_by}
-use Rattle.translation_laws.proofs.MemberLaws.{Among}
+use Rattle.table_laws.proofs.MemberLaws.{Among}
 use Rattle.output_laws.specs.Lines.{added}
 use Rattle.output_laws.specs.Dumps.{renumbered}
 use Rattle.output_laws.proofs.rule_text.Distinct.{names, AreDistinct}

@@ -9,8 +9,8 @@ use Rattle.spec_tables.specs.Rules.{Rule, is_same_match}
 use Rattle.spec_tables.specs.Edits.{Edit, rule_of, with_actions, without, modified, edited, after_edit, after_edits, is_named_by, is_reached_by}
 use Rattle.spec_base.specs.Sorting.{insert_by, sort_by}
 use Rattle.spec_dumps.specs.Rules.{comes_before, in_order}
-use Rattle.translation_laws.proofs.MemberLaws.{Among, Among-append, Among-filter, Among-insert_by, Among-sort_by}
-use Rattle.translation_laws.proofs.KeyLaws.{same_refl, same-eq}
+use Rattle.table_laws.proofs.MemberLaws.{Among, Among-append, Among-filter, Among-insert_by, Among-sort_by}
+use Rattle.table_laws.proofs.KeyLaws.{same_refl, same-eq}
 use Rattle.board_laws.proofs.ListLaws.{Among-map}
 use Rattle.output_laws.specs.Lines.{added}
 

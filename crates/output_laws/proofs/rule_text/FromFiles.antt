@@ -7,10 +7,10 @@ use Rattle.spec_tables.specs.Edits.{Edit}
 use Rattle.spec_tables.specs.Bundles.{edits_through}
 use Rattle.spec_flow_text.specs.declared.fault.TextFault.{TextFault}
 use Rattle.spec_flow_text.specs.Lines.{edit_in}
-use Rattle.spec_script.specs.declared.fault.FileFault.{FileFault}
-use Rattle.spec_script.specs.declared.fault.FileFault.TheVariants.{SyncOrder, LineTooLong, TooManyEdits, TooManySyncs}
-use Rattle.spec_script.specs.Lines.{◌>>=◌, unless, in_line, most_line_bytes, is_blank, with_lines, lines_of, with_next}
-use Rattle.spec_script.specs.Script.{Script, Reading, Begun, nothing_read, reads, most_edits, most_syncs, sync_time, word_alone, last_time, sync_at, with_bundle, with_edit_in, with_edit, with_sync, with_begin, with_commit, begins_with, with_line, read_whole, script_of}
+use Rattle.spec_input.specs.declared.fault.FileFault.{FileFault}
+use Rattle.spec_input.specs.declared.fault.FileFault.TheVariants.{SyncOrder, LineTooLong, TooManyEdits, TooManySyncs}
+use Rattle.spec_input.specs.Lines.{◌>>=◌, unless, in_line, most_line_bytes, is_blank, with_lines, lines_of, with_next}
+use Rattle.spec_input.specs.Script.{Script, Reading, Begun, nothing_read, reads, most_edits, most_syncs, sync_time, word_alone, last_time, sync_at, with_bundle, with_edit_in, with_edit, with_sync, with_begin, with_commit, begins_with, with_line, read_whole, script_of}
 use Rattle.output_laws.specs.Lines.{WasRead}
 
 chained : {A B : Type 0} (r : Result A FileFault) (f : A → Result B FileFault) (b : B) → r >>= f ≡ Ok b → (a : A) × (r ≡ Ok a) × (f a ≡ Ok b)

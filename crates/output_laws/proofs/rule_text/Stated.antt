@@ -23,7 +23,7 @@ use Rattle.spec_flow_text.specs.Items.{◌>>=◌, Word, Sofar, Stated, nothing_s
 use Rattle.spec_flow_text.specs.Matches.{MatchText, match_text, default_priority, with_list, uncommented, ascii_from, read_match}
 use Rattle.spec_flow_text.specs.Actions.{is_respellable}
 use Rattle.spec_flow_text.specs.Lines.{edit_words, first_word, end_of, edit, actions_from, edit_from, edit_in}
-use Rattle.translation_laws.proofs.MemberLaws.{Among, Among-append, Among-filter}
+use Rattle.table_laws.proofs.MemberLaws.{Among, Among-append, Among-filter}
 use Rattle.board_laws.proofs.ListLaws.{Among-map}
 use Rattle.text_laws.specs.Spelled.{are_spellable}
 use Rattle.text_laws.specs.SpelledMatches.{IsSpellable}

@@ -20,10 +20,10 @@ use Rattle.spec_flow_text.specs.declared.fault.TextFault.{TextFault}
 use Rattle.spec_flow_text.specs.declared.fault.TextFault.TheVariants.{Syntax}
 use Rattle.spec_flow_text.specs.Items.{words}
 use Rattle.spec_flow_text.specs.Lines.{edit_in}
-use Rattle.spec_script.specs.declared.fault.FileFault.{FileFault}
-use Rattle.spec_script.specs.declared.fault.FileFault.TheVariants.{SyncOrder, TooManyEdits, TooManySyncs}
-use Rattle.spec_script.specs.Lines.{◌>>=◌, unless, in_line, most_line_bytes, is_blank, with_lines, lines_of, with_next}
-use Rattle.spec_script.specs.Script.{seconds_of, fraction_of, seconds_with_fraction, time_of, Script, Begun, Reading, sync_time, with_bundle, with_edit_in, with_edit, last_time, sync_at, most_edits, most_syncs, word_alone, with_sync, with_begin, with_commit, begins_with, with_line, nothing_read, read_whole, script_of}
+use Rattle.spec_input.specs.declared.fault.FileFault.{FileFault}
+use Rattle.spec_input.specs.declared.fault.FileFault.TheVariants.{SyncOrder, TooManyEdits, TooManySyncs}
+use Rattle.spec_input.specs.Lines.{◌>>=◌, unless, in_line, most_line_bytes, is_blank, with_lines, lines_of, with_next}
+use Rattle.spec_input.specs.Script.{seconds_of, fraction_of, seconds_with_fraction, time_of, Script, Begun, Reading, sync_time, with_bundle, with_edit_in, with_edit, last_time, sync_at, most_edits, most_syncs, word_alone, with_sync, with_begin, with_commit, begins_with, with_line, nothing_read, read_whole, script_of}
 
 -- ---- what follows where nothing was refused
 

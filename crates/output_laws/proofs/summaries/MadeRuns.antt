@@ -3,10 +3,10 @@ use Rattle.std.proofs.Common.{◌≡◌, ℕ, Bool, true, false, if◌then◌els
 use Rattle.std.specs.Prelude.{nat_lt, Result, Ok, Err, codes}
 use Rattle.std.specs.Option.{ok_or}
 use Rattle.spec_tables.specs.Changes.{changes_to}
-use Rattle.spec_words.specs.Words.{Input, Made}
-use Rattle.spec_script.specs.declared.fault.FileFault.{FileFault}
-use Rattle.spec_script.specs.Script.{Script, script_of}
-use Rattle.spec_made.specs.Made.{subnets, subnet_lines, register_values, register_lines, edits_made}
+use Rattle.spec_input.specs.Words.{Input, Made}
+use Rattle.spec_input.specs.declared.fault.FileFault.{FileFault}
+use Rattle.spec_input.specs.Script.{Script, script_of}
+use Rattle.spec_input.specs.Made.{subnets, subnet_lines, register_values, register_lines, edits_made}
 use Rattle.spec_run.specs.Limits.{most_edits_bytes, most_changes}
 use Rattle.spec_run.specs.declared.quantity.Quantity.TheVariants.{EditsBytes, Changes}
 use Rattle.spec_run.specs.Journals.{HasEditsApart}

@@ -2,7 +2,7 @@ ghost use Rattle.std.specs.Prelude.{◌≡◌, ℕ, List, All, Ok};
 ghost use Rattle.spec_tables.specs.Rules.{Rule};
 ghost use Rattle.spec_tables.specs.Edits.{Edit, rule_of, after_edits};
 ghost use Rattle.spec_flow_text.specs.Lines.{edit_in};
-ghost use Rattle.spec_script.specs.Script.{Script, script_of};
+ghost use Rattle.spec_input.specs.Script.{Script, script_of};
 ghost use Rattle.spec_board.specs.Texts.{line_of};
 ghost use Rattle.spec_dumps.specs.declared.rule_counts.RuleCounts.{RuleCounts};
 ghost use Rattle.spec_dumps.specs.Rules.{rule_line_with};

@@ -1,5 +1,5 @@
 ghost use Rattle.std.specs.Prelude.{◌≡◌, ℕ, ◌++◌, List, Some, Ok};
-ghost use Rattle.spec_words.specs.Words.{Made};
+ghost use Rattle.spec_input.specs.Words.{Made};
 ghost use Rattle.spec_run.specs.Verdict.{Files, Accepted, Sources, files_for, sources_of, verdict};
 ghost use Rattle.spec_run.specs.Journals.{HasEditsApart};
 ghost use Rattle.output_laws.specs.Made.{last_sync, OfRunIn};

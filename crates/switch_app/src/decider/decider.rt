@@ -1,10 +1,10 @@
 ghost use Rattle.std.specs.Prelude.{◌≡◌, ◌≤◌, length, IsTrue, IfOk};
 ghost use Rattle.std.specs.List.{list_all};
 ghost use Rattle.spec_tables.specs.Edits.{has_sound_actions};
-ghost use Rattle.spec_script.specs.Steps.{most_steps};
+ghost use Rattle.spec_input.specs.Steps.{most_steps};
 ghost use Rattle.spec_board.specs.Scheduled as whole_runs;
 ghost use Rattle.spec_run.specs.Journals.{AreJournals};
-ghost use Rattle.spec_words.specs.Words.{most_workers};
+ghost use Rattle.spec_input.specs.Words.{most_workers};
 
 use edge_io::Gate;
 use run_boards::Finished;

@@ -1,9 +1,9 @@
 ghost use Rattle.std.specs.Prelude.{◌≡◌};
 ghost use Rattle.switch_input.specs.declared.refusals.refusal.InputRefusal.TheVariants.{OutOfMemory};
 
+use spec_input::FileFault;
 use spec_pcap::PcapFault;
 use spec_run::Quantity;
-use spec_script::FileFault;
 use std::alloc::{AllocError, AllocFailed};
 
 /// What is wrong with an input. Names are those of the words.

@@ -11,9 +11,9 @@ use crate::refusals::refusal::{InputFault, InputRefusal};
 use edge_io::{Sink, say_all};
 use itoa::Buffer;
 use spec_flow_text::TextFault;
+use spec_input::FileFault;
 use spec_pcap::PcapFault;
 use spec_run::Quantity;
-use spec_script::FileFault;
 
 /// Prints texts, one after the other, up to the first at which the sink fails. It takes no memory.
 pub fn say_pieces<K: Sink>(say: &mut K, pieces: &[&str])

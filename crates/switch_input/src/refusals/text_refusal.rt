@@ -1,12 +1,12 @@
 ghost use Rattle.std.specs.Prelude.{◌≡◌};
 ghost use Rattle.spec_run.specs.Verdict.{refused_text};
-ghost use Rattle.spec_script.specs.declared.fault.FileFault.TheVariants as file;
+ghost use Rattle.spec_input.specs.declared.fault.FileFault.TheVariants as file;
 ghost use Rattle.switch_input.specs.Refused.{fault_view, IfInput, TakesWords, TellsNoFault};
 
 use crate::refusals::refusal::{InputFault, InputRefusal};
 use spec_flow_text::TextFault;
+use spec_input::FileFault;
 use spec_run::Quantity;
-use spec_script::FileFault;
 
 /// What becomes of a run whose file of this name has this fault.
 pub fn refused_text(name: &str, fault: FileFault) -> InputRefusal<'_>

@@ -1,7 +1,7 @@
 //! A run, carried out several times.
 ghost use Rattle.std.specs.Prelude.{◌≡◌, ◌≤◌, IsTrue, length};
 ghost use Rattle.std.specs.List.{list_all};
-ghost use Rattle.spec_script.specs.Steps.{most_steps};
+ghost use Rattle.spec_input.specs.Steps.{most_steps};
 ghost use Rattle.spec_tables.specs.Edits.{has_sound_actions};
 ghost use Rattle.switch_input.specs.InputViews.{run_view, IsWithinLimits};
 

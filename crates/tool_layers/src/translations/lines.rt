@@ -3,7 +3,7 @@ ghost use Rattle.std.specs.Prelude.{IfOk};
 ghost use Rattle.spec_flow_text.specs.Within.{AreWithinFields};
 ghost use Rattle.pipe_model.specs.Runnable.{AreRunnable};
 
-use dp_text::{print_dp_actions, translation_is_within_fields};
+use action_text::{print_dp_actions, translation_is_within_fields};
 use ovs_fields::{Key, Mask, all_fields};
 use pipe_model::{SpareLists, Translated};
 use std::alloc::{AllocError, Global};

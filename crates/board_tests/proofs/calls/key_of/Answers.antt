@@ -1,7 +1,7 @@
 use Rattle.std.proofs.Common.{◌≡◌, ℕ, None, Some, sym, ap, ◌∙◌}
 use Rattle.std.specs.Prelude.{IsSome, is_some}
 use Rattle.std.specs.Option.{option_map}
-use Rattle.translation_laws.proofs.MemberLaws.{All-Among}
+use Rattle.table_laws.proofs.MemberLaws.{All-Among}
 use Rattle.board_laws.proofs.NumberLaws.{is_among-Among}
 use Rattle.spec_board.specs.Results.{entry_of}
 use Rattle.spec_board.specs.Effects.{key_of_entry}

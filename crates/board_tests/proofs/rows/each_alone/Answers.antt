@@ -3,7 +3,7 @@ use Rattle.std.proofs.lemmas.List.{length-take-le, take_more}
 use Rattle.spec_tables.specs.Edits.{Edit}
 use Rattle.rule_tables.specs.History.{History, applied, bundled_by, history_of}
 use Rattle.rule_tables.proofs.Histories.{applied-edit_history, history-none, history-bundled}
-use Rattle.bundle_laws.proofs.Bundles.{bundles-none, bundles-push}
+use Rattle.table_laws.proofs.Bundles.{bundles-none, bundles-push}
 use Rattle.board_tests.proofs.rows.each_alone.Goals as goal
 
 pub edits-init : goal.edits-init

@@ -1,5 +1,5 @@
 use Rattle.std.proofs.Common.{◌≡◌, ◌++◌, drop}
-use Rattle.spec_diff.specs.Lines.{differing}
+use Rattle.spec_tools.specs.Lines.{differing}
 use Rattle.table_diff.specs.Cubes.{cubes_view}
 use Rattle.class_list.specs.LineViews.{lines_view}
 use Rattle.class_list.proofs.agreeing.add_cubes.Given as goal

@@ -1,7 +1,7 @@
 use Rattle.std.proofs.Common.{◌≡◌, ◌++◌, List, ap, ◌∙◌}
 use Rattle.std.proofs.lemmas.Result.{IfOk-weaker}
 use Rattle.spec_tables.specs.Rules.{Match}
-use Rattle.spec_diff.specs.Lines.{differing}
+use Rattle.spec_tools.specs.Lines.{differing}
 use Rattle.table_diff.specs.declared.cube.Cube.{Cube}
 use Rattle.table_diff.specs.Cubes.{cubes_view}
 use Rattle.class_list.specs.LineViews.{lines_view}

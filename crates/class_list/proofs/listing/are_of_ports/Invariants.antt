@@ -1,5 +1,5 @@
 use Rattle.std.proofs.Common.{drop}
-use Rattle.spec_diff.specs.Lines.{differing}
+use Rattle.spec_tools.specs.Lines.{differing}
 use Rattle.class_list.specs.LineViews.{lines_view}
 use Rattle.class_list.specs.Listing.{AreOfPorts}
 use Rattle.class_list.proofs.listing.are_of_ports.Given as goal

@@ -1,6 +1,6 @@
 use Rattle.std.proofs.Common.{if◌then◌else◌, [], ◌∷◌, Option, sym, subst}
 use Rattle.std.specs.Borrow.{Bor}
-use Rattle.spec_diff.specs.Lines.{differs}
+use Rattle.spec_tools.specs.Lines.{differs}
 use Rattle.table_diff.specs.declared.class.Class.{Class}
 use Rattle.table_diff.specs.Cubes.{cube_view}
 use Rattle.class_list.specs.LineViews.{said_view}

@@ -1,6 +1,6 @@
 use Rattle.std.proofs.Common.{◌≡◌, drop}
-use Rattle.spec_diff.specs.Classes.{holding}
-use Rattle.spec_diff.specs.Lines.{matches_in}
+use Rattle.spec_tools.specs.Classes.{holding}
+use Rattle.spec_tools.specs.Lines.{matches_in}
 use Rattle.ovs_fields.specs.Packed.{numbers}
 use Rattle.class_list.specs.LineViews.{lines_view}
 use Rattle.class_list.proofs.listing.none_has.Given as goal

@@ -1,5 +1,5 @@
 use Rattle.std.proofs.Common.{◌≡◌, drop}
-use Rattle.spec_diff.specs.Lines.{said_of}
+use Rattle.spec_tools.specs.Lines.{said_of}
 use Rattle.ovs_fields.specs.Packed.{numbers}
 use Rattle.class_list.specs.LineViews.{lines_view}
 use Rattle.class_list.proofs.saying.said.Given as goal

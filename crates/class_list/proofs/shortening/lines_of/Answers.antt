@@ -1,8 +1,8 @@
 use Rattle.std.proofs.Common.{List, sym, subst}
 use Rattle.std.proofs.lemmas.Result.{IfOk-weaker}
 use Rattle.spec_xlate.specs.Translation.{switch_of}
-use Rattle.spec_diff.specs.Lines as spec
-use Rattle.spec_diff.specs.Lines.{IsListed}
+use Rattle.spec_tools.specs.Lines as spec
+use Rattle.spec_tools.specs.Lines.{IsListed}
 use Rattle.dump_lines.specs.Live.{live_in}
 use Rattle.table_diff.specs.Cubes.{classes_view}
 use Rattle.class_list.proofs.ClassLaws.{listed_classes}

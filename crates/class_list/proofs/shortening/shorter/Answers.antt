@@ -1,5 +1,5 @@
 use Rattle.std.proofs.Common.{List, sym, subst}
-use Rattle.spec_diff.specs.Lines.{IsListed}
+use Rattle.spec_tools.specs.Lines.{IsListed}
 use Rattle.class_list.specs.declared.line.Line.{Line}
 use Rattle.class_list.specs.LineViews.{lines_view}
 use Rattle.class_list.proofs.shortening.shorter.Goals as goal

@@ -1,6 +1,6 @@
 use Rattle.std.proofs.Common.{refl, subst}
 use Rattle.clap.specs.Words.{App, HasMatchesOf}
-use Rattle.spec_words.specs.Words.{app}
+use Rattle.spec_input.specs.Words.{app}
 use Rattle.command_words.specs.CommandViews.{texts}
 use Rattle.command_words.proofs.parsing.matches.Goals as goal
 

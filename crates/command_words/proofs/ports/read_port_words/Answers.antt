@@ -1,6 +1,6 @@
 use Rattle.std.proofs.Common.{◌+◌, ◌∷◌, [], ◌++◌, length, drop, sym, ap, ◌∙◌, arith}
 use Rattle.std.proofs.lemmas.List.{map_push, length_push}
-use Rattle.spec_words.specs.Words.{port_words}
+use Rattle.spec_input.specs.Words.{port_words}
 use Rattle.command_words.specs.PortViews.{lent, port_view, ports_view}
 use Rattle.command_words.proofs.PortWords.{none_more, some_more, at_end, distinct_all}
 use Rattle.command_words.proofs.ports.read_port_words.Goals as goal

@@ -1,5 +1,5 @@
 use Rattle.std.proofs.Common.{◌≡◌, [], length, drop}
-use Rattle.spec_words.specs.Words.{port_words}
+use Rattle.spec_input.specs.Words.{port_words}
 use Rattle.command_words.specs.PortViews.{lent, ports_view}
 use Rattle.command_words.proofs.ports.read_port_words.Given as goal
 

@@ -1,6 +1,6 @@
 use Rattle.std.proofs.Common.{◌≡◌, ◌≢◌, [], ◌∷◌, Option, None, refl}
 use Rattle.clap.specs.Words.{Kinds, fault_of, matches_of}
-use Rattle.spec_words.specs.Words.{Command, app, command_in, where_whole, command_of}
+use Rattle.spec_input.specs.Words.{Command, app, command_in, where_whole, command_of}
 use Rattle.command_words.specs.CommandViews.{texts}
 use Rattle.command_words.proofs.reading.read_command.Goals as goal
 

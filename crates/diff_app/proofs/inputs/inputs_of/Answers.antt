@@ -1,6 +1,6 @@
 use Rattle.std.proofs.Common.{List, ap₂}
 use Rattle.spec_tables.specs.Rules.{Rule}
-use Rattle.spec_diff.specs.Verdict.{Accepted}
+use Rattle.spec_tools.specs.DiffVerdict.{Accepted}
 use Rattle.diff_app.proofs.Stages.{of_edits, live-rules, runnable}
 use Rattle.diff_app.proofs.inputs.inputs_of.Goals as goal
 

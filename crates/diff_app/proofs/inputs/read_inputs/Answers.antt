@@ -3,8 +3,8 @@ use Rattle.std.specs.Prelude.{IsTrue, IfOk, IfErr, Result, Ok}
 use Rattle.std.specs.Option.{option_map}
 use Rattle.std.proofs.lemmas.Result.{err_from_is_err_and}
 use Rattle.command_words.specs.CommandViews.{texts}
-use Rattle.spec_diff.specs.Words.{command_of}
-use Rattle.spec_diff.specs.Verdict.{Refusal, Accepted}
+use Rattle.spec_tools.specs.DiffWords.{command_of}
+use Rattle.spec_tools.specs.DiffVerdict.{Refusal, Accepted}
 use Rattle.diff_app.specs.Commands.{command_view}
 use Rattle.diff_app.specs.InputViews.{accepted_view}
 use Rattle.switch_input.specs.Reading.{Read, ReadsFiles}

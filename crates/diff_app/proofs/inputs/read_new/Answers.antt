@@ -2,7 +2,7 @@ use Rattle.std.proofs.Common.{sym, ap, ◌∙◌}
 use Rattle.std.specs.Prelude.{Result, Ok}
 use Rattle.std.proofs.lemmas.Result.{err_from_is_err_and}
 use Rattle.edit_script.specs.ScriptViews.{script_view}
-use Rattle.spec_diff.specs.Verdict.{Refusal, Accepted}
+use Rattle.spec_tools.specs.DiffVerdict.{Refusal, Accepted}
 use Rattle.diff_app.specs.Commands.{command_view}
 use Rattle.diff_app.proofs.Stages.{case_explains, case-accepted}
 use Rattle.diff_app.proofs.inputs.read_new.Goals as goal

@@ -5,7 +5,7 @@ use Rattle.spec_run.specs.Verdict.{Files}
 use Rattle.edit_script.specs.ScriptViews.{script_view}
 use Rattle.switch_input.proofs.refusals.Reading.{reads_after}
 use Rattle.switch_input.proofs.Walk.{holds_kept}
-use Rattle.spec_diff.specs.Verdict.{Refusal, Accepted, case_of}
+use Rattle.spec_tools.specs.DiffVerdict.{Refusal, Accepted, case_of}
 use Rattle.diff_app.specs.Commands.{command_view}
 use Rattle.diff_app.specs.InputViews.{accepted_view}
 use Rattle.diff_app.specs.Refused.{Explains}

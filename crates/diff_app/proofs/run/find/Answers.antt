@@ -1,14 +1,14 @@
 use Rattle.std.proofs.Common.{ℕ, List, sym, ap, ◌∙◌, subst}
-use Rattle.spec_diff.specs.Classes.{IsDifference}
-use Rattle.spec_diff.specs.Lines.{IsListed}
+use Rattle.spec_tools.specs.Classes.{IsDifference}
+use Rattle.spec_tools.specs.Lines.{IsListed}
 use Rattle.spec_xlate.specs.Translation.{switch_of}
 use Rattle.dump_lines.specs.Live.{live_in}
 use Rattle.table_diff.specs.declared.class.Class.{Class}
 use Rattle.table_diff.specs.Cubes.{classes_view}
 use Rattle.class_list.specs.declared.line.Line.{Line}
 use Rattle.class_list.specs.LineViews.{lines_view}
-use Rattle.spec_diff.specs.Texts.{text_of_lines}
-use Rattle.spec_diff.specs.Statuses.{found_status}
+use Rattle.spec_tools.specs.DiffTexts.{text_of_lines}
+use Rattle.spec_tools.specs.DiffStatuses.{found_status}
 use Rattle.diff_app.proofs.run.find.Goals as goal
 
 pub lines_of-requires-clause-difference : goal.lines_of-requires-clause-difference

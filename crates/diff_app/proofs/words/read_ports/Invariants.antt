@@ -1,6 +1,6 @@
 use Rattle.std.proofs.Common.{◌≡◌, [], drop}
 use Rattle.command_words.specs.CommandViews.{texts}
-use Rattle.spec_diff.specs.Words.{ports_with}
+use Rattle.spec_tools.specs.DiffWords.{ports_with}
 use Rattle.diff_app.proofs.words.read_ports.Given as goal
 
 -- what is left of the words leads where all of them lead

@@ -1,5 +1,5 @@
 use Rattle.std.proofs.Common.{◌≡◌, None, subst}
-use Rattle.spec_script.specs.Script.{Script, with_bundle}
+use Rattle.spec_input.specs.Script.{Script, with_bundle}
 use Rattle.edit_script.specs.Begun.{begun_view}
 use Rattle.edit_script.specs.ScriptViews.{kept_view}
 use Rattle.edit_script.specs.WellFormed.{IsWellFormed}

@@ -1,6 +1,6 @@
 use Rattle.std.proofs.Common.{◌≡◌, ◌<◌, length, subst, arith}
 use Rattle.edit_script.proofs.Told.{length_told}
-use Rattle.spec_script.specs.Script.{Script, most_edits, with_edit_in}
+use Rattle.spec_input.specs.Script.{Script, most_edits, with_edit_in}
 use Rattle.edit_script.specs.Begun.{begun_view}
 use Rattle.edit_script.specs.ScriptViews.{kept_view, reading_view}
 use Rattle.edit_script.specs.WellFormed.{IsWellFormed}

@@ -1,6 +1,6 @@
 use Rattle.std.proofs.Common.{◌≡◌, ◌≤◌, ◌<◌, length, arith}
 use Rattle.std.proofs.lemmas.Bool.Decides.{nat_tests}
-use Rattle.spec_script.specs.Script.{most_edits, most_syncs}
+use Rattle.spec_input.specs.Script.{most_edits, most_syncs}
 use Rattle.edit_script.specs.ScriptViews.{reading_view}
 use Rattle.edit_script.proofs.WellFormed.{bundles_within, formed_with_sync}
 use Rattle.edit_script.proofs.script.with_sync.Goals as goal

@@ -5,7 +5,7 @@ use Rattle.spec_case.specs.declared.run_step.RunStep.TheVariants as given
 use Rattle.spec_board.specs.State.{State}
 use Rattle.spec_board.specs.Results.{entry_of}
 use Rattle.spec_board.specs.GivenSteps.{kept_version}
-use Rattle.translation_laws.proofs.MemberLaws.{All-Among}
+use Rattle.table_laws.proofs.MemberLaws.{All-Among}
 use Rattle.board_laws.proofs.NumberLaws.{is_among-Among}
 use Rattle.run_xlate.specs.Views.{XlateView}
 use Rattle.pmd_board.specs.BoardView.{BoardView, state_of}

@@ -1,5 +1,5 @@
 use Rattle.std.proofs.Common.{◌≡◌, ◌+◌, ◌≤◌, length}
-use Rattle.spec_script.specs.Lines.{with_lines, lines_of, said_by}
+use Rattle.spec_input.specs.Lines.{with_lines, lines_of, said_by}
 use Rattle.line_files.proofs.lines.read_lines.Given as goal
 
 -- what the lines so far and those to come say is what all of them say

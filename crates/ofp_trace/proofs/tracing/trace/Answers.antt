@@ -3,8 +3,8 @@ use Rattle.std.specs.Prelude.{All}
 use Rattle.spec_xlate.specs.Translation.{switch_of}
 use Rattle.ovs_fields.specs.Packed.{numbers}
 use Rattle.pipe_model.specs.Events.{events_of}
-use Rattle.spec_trace.specs.declared.lookup.Lookup.{Lookup}
-use Rattle.spec_trace.specs.Paths.{last_of}
+use Rattle.spec_tools.specs.declared.lookup.Lookup.{Lookup}
+use Rattle.spec_tools.specs.Paths.{last_of}
 use Rattle.ofp_trace.specs.Notes.{with_event}
 use Rattle.ofp_trace.specs.Winners.{HasLiveWinner}
 use Rattle.ofp_trace.proofs.LiveWinners.{path_live}

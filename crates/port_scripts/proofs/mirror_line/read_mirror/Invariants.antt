@@ -1,6 +1,6 @@
 use Rattle.std.proofs.Common.{◌≡◌, true, length}
 use Rattle.spec_flow_text.specs.Items.{is_separator, words}
-use Rattle.spec_script.specs.Mirrors.{with_items, mirror_in}
+use Rattle.spec_input.specs.Mirrors.{with_items, mirror_in}
 use Rattle.port_scripts.proofs.mirror_line.read_mirror.Given as goal
 
 -- what the items so far and those to come say is what the line says

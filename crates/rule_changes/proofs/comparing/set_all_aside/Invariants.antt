@@ -1,6 +1,6 @@
 use Rattle.std.proofs.Common.{map}
 use Rattle.spec_tables.specs.Rules as tables
-use Rattle.translation_laws.specs.Members.{Among}
+use Rattle.table_laws.specs.Members.{Among}
 use Rattle.rule_tables.specs.Views.{match_view}
 use Rattle.dump_lines.specs.Live.{live_in}
 use Rattle.rule_changes.specs.Pairs.{IsCovered}

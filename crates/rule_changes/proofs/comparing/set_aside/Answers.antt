@@ -1,8 +1,8 @@
 use Rattle.std.proofs.Common.{rules, ◌≡◌, ◌==◌, ◌++◌, true, ℕ, [], ◌∷◌, map, inl, inr, sym, ap, ◌∙◌, subst}
 use Rattle.std.specs.List.{list_any}
 use Rattle.spec_tables.specs.Rules as tables
-use Rattle.translation_laws.specs.Members.{Among}
-use Rattle.translation_laws.proofs.MemberLaws.{Among-append_left, Among-append_right}
+use Rattle.table_laws.specs.Members.{Among}
+use Rattle.table_laws.proofs.MemberLaws.{Among-append_left, Among-append_right}
 use Rattle.rule_tables.specs.Views.{match_view}
 use Rattle.rule_changes.specs.declared.pair.Pair.{Pair}
 use Rattle.rule_changes.specs.Pairs.{number_in}

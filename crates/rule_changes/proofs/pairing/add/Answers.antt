@@ -1,5 +1,5 @@
 use Rattle.std.proofs.Common.{rules, ◌≡◌, ◌++◌, [], ◌∷◌, sym, subst}
-use Rattle.translation_laws.specs.Members.{Among}
+use Rattle.table_laws.specs.Members.{Among}
 use Rattle.dump_lines.specs.Live.{live_in}
 use Rattle.rule_changes.specs.Pairs.{ArePairs}
 use Rattle.rule_changes.proofs.OrderLaws.{one_pair_more}

@@ -5,7 +5,7 @@ use Rattle.spec_board.specs.Steps as steps
 use Rattle.spec_board.specs.State.{State}
 use Rattle.spec_board.specs.Schedules as schedules
 use Rattle.spec_board.specs.Effects.{effect}
-use Rattle.translation_laws.proofs.MemberLaws.{Among}
+use Rattle.table_laws.proofs.MemberLaws.{Among}
 use Rattle.board_laws.proofs.NumberLaws.{Rising}
 use Rattle.pmd_board.specs.BoardView.{BoardView, state_of}
 use Rattle.run_boards.specs.Progress.{OnlyPuts}

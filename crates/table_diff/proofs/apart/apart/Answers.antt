@@ -1,7 +1,7 @@
 use Rattle.std.proofs.Common.{◌≡◌, List, ℕ, map, true, false, subst, sym}
 use Rattle.spec_keys.specs.Keys.{masked, agree, overlap}
 use Rattle.spec_tables.specs.Rules.{Match}
-use Rattle.translation_laws.specs.Members.{Among}
+use Rattle.table_laws.specs.Members.{Among}
 use Rattle.ovs_fields.specs.Packed.{numbers, bits}
 use Rattle.rule_tables.specs.declared.matching.Match as declared
 use Rattle.rule_tables.specs.Views.{match_view}

@@ -3,8 +3,8 @@ use Rattle.std.proofs.lemmas.Bool.{eqb-false}
 use Rattle.spec_tables.specs.Rules.{Match}
 use Rattle.spec_xlate.specs.Translation.{switch_of}
 use Rattle.dump_lines.specs.Live.{live_in}
-use Rattle.spec_diff.specs.Classes.{from_port}
-use Rattle.spec_diff.specs.Progress.{IsPartWay, cube_limit}
+use Rattle.spec_tools.specs.Classes.{from_port}
+use Rattle.spec_tools.specs.Progress.{IsPartWay, cube_limit}
 use Rattle.table_diff.specs.declared.cube.Cube.{Cube}
 use Rattle.table_diff.specs.declared.class.Class.{Class}
 use Rattle.table_diff.specs.Cubes.{cubes_view, classes_view}

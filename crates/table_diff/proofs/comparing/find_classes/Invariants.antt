@@ -1,8 +1,8 @@
 use Rattle.std.proofs.Common.{map}
 use Rattle.spec_xlate.specs.Translation.{switch_of}
 use Rattle.dump_lines.specs.Live.{live_in}
-use Rattle.spec_diff.specs.Classes.{from_port}
-use Rattle.spec_diff.specs.Progress.{IsPartWay}
+use Rattle.spec_tools.specs.Classes.{from_port}
+use Rattle.spec_tools.specs.Progress.{IsPartWay}
 use Rattle.table_diff.specs.Cubes.{cubes_view, classes_view}
 use Rattle.table_diff.proofs.comparing.find_classes.Given as goal
 

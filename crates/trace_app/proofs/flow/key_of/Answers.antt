@@ -1,4 +1,4 @@
-use Rattle.spec_trace.specs.Verdict.{key_of}
+use Rattle.spec_tools.specs.TraceVerdict.{key_of}
 use Rattle.trace_app.proofs.flow.key_of.Goals as goal
 
 pub returns : goal.returns

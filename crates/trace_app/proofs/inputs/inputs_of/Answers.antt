@@ -8,7 +8,7 @@ use Rattle.spec_xlate.specs.Translation.{in_port_of}
 use Rattle.rule_tables.specs.Views.{match_view}
 use Rattle.edit_script.specs.ScriptViews.{script_view}
 use Rattle.dump_lines.specs.Live.{live_in}
-use Rattle.spec_trace.specs.Verdict.{Refusal, NoPort, Accepted, key_of}
+use Rattle.spec_tools.specs.TraceVerdict.{Refusal, NoPort, Accepted, key_of}
 use Rattle.trace_app.proofs.Stages.{case_explains, case-no_port, case-accepted, of_edits, live-version, runnable_by}
 use Rattle.trace_app.proofs.inputs.inputs_of.Goals as goal
 

@@ -3,8 +3,8 @@ use Rattle.std.specs.Prelude.{IsTrue, IfOk, IfErr, Result, Ok}
 use Rattle.std.specs.Option.{option_map}
 use Rattle.std.proofs.lemmas.Result.{err_from_is_err_and}
 use Rattle.command_words.specs.CommandViews.{texts}
-use Rattle.spec_trace.specs.Words.{command_of}
-use Rattle.spec_trace.specs.Verdict.{Refusal, Accepted}
+use Rattle.spec_tools.specs.TraceWords.{command_of}
+use Rattle.spec_tools.specs.TraceVerdict.{Refusal, Accepted}
 use Rattle.trace_app.specs.Commands.{command_view}
 use Rattle.trace_app.specs.InputViews.{accepted_view}
 use Rattle.switch_input.specs.Reading.{Read, ReadsWhere}

@@ -2,7 +2,7 @@ use Rattle.std.proofs.Common.{◌≡◌, sym, subst}
 use Rattle.std.specs.Prelude.{IsTrue, IfOk, IfErr, Result, Ok}
 use Rattle.std.proofs.lemmas.Result.{err_from_is_err_and}
 use Rattle.edit_script.specs.ScriptViews.{script_view}
-use Rattle.spec_trace.specs.Verdict.{Refusal, Accepted, opened_for}
+use Rattle.spec_tools.specs.TraceVerdict.{Refusal, Accepted, opened_for}
 use Rattle.trace_app.specs.Commands.{command_view}
 use Rattle.trace_app.specs.InputViews.{accepted_view}
 use Rattle.trace_app.specs.Refused.{Explains}

@@ -8,8 +8,8 @@ use Rattle.ovs_fields.specs.Packed.{numbers}
 use Rattle.dump_lines.specs.Live.{live_in}
 use Rattle.tuple_classifier.specs.Versions.{Version}
 use Rattle.pipe_model.specs.Runnable.{AreRunnable}
-use Rattle.spec_trace.specs.Paths.{path_of, last_of}
-use Rattle.spec_trace.specs.Texts.{told_text, traced_text}
+use Rattle.spec_tools.specs.Paths.{path_of, last_of}
+use Rattle.spec_tools.specs.TraceTexts.{told_text, traced_text}
 use Rattle.ofp_trace.specs.Winners.{HasLiveWinner}
 use Rattle.trace_app.proofs.Printed.{told-traced}
 use Rattle.trace_app.proofs.run.text_of.Goals as goal

@@ -3,7 +3,7 @@ use Rattle.std.specs.Prelude.{IfOk}
 use Rattle.std.specs.Option.{option_map}
 use Rattle.spec_flow_text.specs.Characters.{comma}
 use Rattle.spec_flow_text.specs.Numbers.{split_once}
-use Rattle.spec_trace.specs.Words.{new_port}
+use Rattle.spec_tools.specs.TraceWords.{new_port}
 use Rattle.trace_app.specs.Commands.{ports_if}
 use Rattle.trace_app.proofs.PortsWithin.{within-full, within-last, within-none, within-more}
 use Rattle.trace_app.proofs.words.+add_ports.Goals as goal

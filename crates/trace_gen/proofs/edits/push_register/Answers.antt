@@ -1,5 +1,5 @@
 use Rattle.std.proofs.Common.{string_bytes, ◌%◌, ◌+◌, refl}
-use Rattle.spec_made.specs.Made.{ports}
+use Rattle.spec_input.specs.Made.{ports}
 use Rattle.trace_gen.proofs.Pieces.{register-joined}
 use Rattle.trace_gen.proofs.edits.push_register.Goals as goal
 

@@ -1,5 +1,5 @@
 use Rattle.std.proofs.Common.{◌≡◌, ◌++◌, string_bytes}
-use Rattle.spec_made.specs.Made.{register_lines}
+use Rattle.spec_input.specs.Made.{register_lines}
 use Rattle.trace_gen.proofs.edits.push_registers.Given as goal
 
 abbrev pub invariant-values : goal.invariant-values

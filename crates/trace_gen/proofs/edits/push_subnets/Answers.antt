@@ -1,5 +1,5 @@
 use Rattle.std.proofs.Common.{◌≡◌, ◌+◌, ◌*◌, ap, ◌∙◌, arith}
-use Rattle.spec_made.specs.Made.{state, subnet_draws}
+use Rattle.spec_input.specs.Made.{state, subnet_draws}
 use Rattle.trace_gen.proofs.States.{state-at}
 use Rattle.trace_gen.proofs.Pieces.{subnet-none, subnet-more}
 use Rattle.trace_gen.proofs.edits.push_subnets.Goals as goal

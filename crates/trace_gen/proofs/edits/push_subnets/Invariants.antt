@@ -1,5 +1,5 @@
 use Rattle.std.proofs.Common.{◌≡◌, ◌*◌, ◌++◌, string_bytes}
-use Rattle.spec_made.specs.Made.{state, subnet_draws, subnet_lines}
+use Rattle.spec_input.specs.Made.{state, subnet_draws, subnet_lines}
 use Rattle.trace_gen.proofs.edits.push_subnets.Given as goal
 
 abbrev pub invariant-subnets : goal.invariant-subnets

@@ -1,6 +1,6 @@
 use Rattle.std.proofs.Common.{◌≡◌, ◌+◌, ◌-◌, ◌*◌, ap, ◌∙◌, arith}
 use Rattle.spec_pcap.specs.Pcap.{second}
-use Rattle.spec_made.specs.Made.{state, subnet_draws, subnets, ports, frame_draws, millisecond}
+use Rattle.spec_input.specs.Made.{state, subnet_draws, subnets, ports, frame_draws, millisecond}
 use Rattle.trace_gen.specs.Drawn.{captured_at}
 use Rattle.trace_gen.proofs.States.{state-at}
 use Rattle.trace_gen.proofs.Records.{trace-begun, trace-more, frame-is}

@@ -1,5 +1,5 @@
 use Rattle.std.proofs.Common.{◌≡◌, ◌+◌, ◌-◌, ◌*◌}
-use Rattle.spec_made.specs.Made.{state, subnet_draws, subnets, ports, frame_draws, trace_of}
+use Rattle.spec_input.specs.Made.{state, subnet_draws, subnets, ports, frame_draws, trace_of}
 use Rattle.trace_gen.proofs.made.trace_made.Given as goal
 
 abbrev pub invariant-frames : goal.invariant-frames

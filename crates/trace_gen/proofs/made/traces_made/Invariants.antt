@@ -1,7 +1,7 @@
 use Rattle.std.proofs.Common.{◌≡◌}
 use Rattle.std.specs.Prelude.{map}
 use Rattle.std.specs.List.{range_with_len}
-use Rattle.spec_made.specs.Made.{trace_made}
+use Rattle.spec_input.specs.Made.{trace_made}
 use Rattle.trace_gen.specs.Made.{trace_view}
 use Rattle.trace_gen.proofs.made.traces_made.Given as goal
 

@@ -1,7 +1,7 @@
 use Rattle.std.proofs.Common.{◌==◌, ◌<◌, length, subst, arith, eq-eqb}
 use Rattle.std.proofs.lemmas.Option.{slice_get_past}
 use Rattle.spec_tables.specs.Rules.{rules_in}
-use Rattle.translation_laws.proofs.MemberLaws.{Among, Among_in-filter}
+use Rattle.table_laws.proofs.MemberLaws.{Among, Among_in-filter}
 use Rattle.tuple_classifier.proofs.PartLaws.{here}
 use Rattle.tuple_classifier.proofs.TableLaws.{distinct_filter}
 use Rattle.tuple_classifier.proofs.TablesLaws.{rules_of, rules_of_none, taken}

@@ -7,7 +7,7 @@ use Rattle.spec_xlate.specs.Translation.{slice_bits, written_bits}
 use Rattle.spec_xlate.specs.Lookup.{added}
 use Rattle.spec_xlate.specs.Consulted.{bits_written, slice_read}
 use Rattle.ovs_fields.specs.Packed.{numbers, bits}
-use Rattle.translation_laws.proofs.UnionLaws.{added-append}
+use Rattle.table_laws.proofs.UnionLaws.{added-append}
 use Rattle.xlate_pipeline.proofs.Needing.{under-met, under-unmet}
 use Rattle.xlate_pipeline.proofs.consulting.consult_move.Goals as goal
 

@@ -5,7 +5,7 @@ use Rattle.spec_xlate.specs.Translation.{switch_of, start}
 use Rattle.spec_xlate.specs.Lookup.{added}
 use Rattle.spec_xlate.specs.Consulted.{look_bits, start_bits, without, consulted}
 use Rattle.ovs_fields.specs.Packed.{numbers}
-use Rattle.translation_laws.proofs.UnionLaws.{added-append}
+use Rattle.table_laws.proofs.UnionLaws.{added-append}
 use Rattle.pipe_model.specs.Events.{events_of}
 use Rattle.pipe_model.specs.Xlates.{Xlate}
 use Rattle.xlate_pipeline.specs.Steps.{with_event}

@@ -1,5 +1,5 @@
 use Rattle.std.proofs.Common.{length, ap, arith}
-use Rattle.spec_diff.specs.Texts.{kinds_in}
+use Rattle.spec_tools.specs.DiffTexts.{kinds_in}
 use Rattle.class_list.specs.LineViews.{said_view, lines_view}
 use Rattle.diff_app.proofs.lines.KindLaws.{classes_step, no_later, one_class}
 use Rattle.diff_app.proofs.lines.kinds.count_classes.Goals as goal

@@ -1,5 +1,5 @@
 use Rattle.std.proofs.Common.{◌≡◌, ◌+◌, ◌≤◌, length}
-use Rattle.spec_diff.specs.Texts.{kinds_in}
+use Rattle.spec_tools.specs.DiffTexts.{kinds_in}
 use Rattle.class_list.specs.LineViews.{lines_view}
 use Rattle.diff_app.proofs.lines.KindLaws.{later_kinds}
 use Rattle.diff_app.proofs.lines.kinds.count_classes.Given as goal

@@ -1,7 +1,7 @@
 use Rattle.std.proofs.Common.{◌≡◌, ℕ, ◌≤◌, Bool, true, false, ap, ◌∙◌, arith}
 use Rattle.std.specs.List.{count_by}
-use Rattle.spec_diff.specs.Classes.{one_if}
-use Rattle.spec_diff.specs.Texts.{is_same_kind}
+use Rattle.spec_tools.specs.Classes.{one_if}
+use Rattle.spec_tools.specs.DiffTexts.{is_same_kind}
 use Rattle.diff_app.specs.Pieces.{kind_view}
 use Rattle.diff_app.proofs.lines.KindLaws.{counted_in, no_later}
 use Rattle.diff_app.proofs.lines.kinds.count_kind.Goals as goal

@@ -1,6 +1,6 @@
 use Rattle.std.proofs.Common.{◌≡◌, ◌+◌, ◌≤◌}
 use Rattle.std.specs.List.{count_by}
-use Rattle.spec_diff.specs.Texts.{is_same_kind, kinds_in}
+use Rattle.spec_tools.specs.DiffTexts.{is_same_kind, kinds_in}
 use Rattle.class_list.specs.LineViews.{lines_view}
 use Rattle.diff_app.specs.Pieces.{kind_view}
 use Rattle.diff_app.proofs.lines.KindLaws.{later_kinds}

@@ -1,6 +1,6 @@
 use Rattle.std.proofs.Common.{◌≡◌, ◌+◌, List, length, ap, ◌∙◌, arith}
 use Rattle.std.proofs.lemmas.List.{take_rest}
-use Rattle.spec_diff.specs.Texts.{kinds_in, kinds_of}
+use Rattle.spec_tools.specs.DiffTexts.{kinds_in, kinds_of}
 use Rattle.class_list.specs.declared.line.Line.{Line}
 use Rattle.class_list.specs.LineViews.{said_view, lines_view}
 use Rattle.diff_app.specs.Pieces.{last_kind}

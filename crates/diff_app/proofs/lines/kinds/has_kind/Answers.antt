@@ -1,5 +1,5 @@
 use Rattle.std.proofs.Common.{sym, ◌∙◌}
-use Rattle.spec_diff.specs.Texts.{is_same_kind}
+use Rattle.spec_tools.specs.DiffTexts.{is_same_kind}
 use Rattle.diff_app.specs.Pieces.{kind_view}
 use Rattle.diff_app.proofs.lines.KindLaws.{any_in}
 use Rattle.diff_app.proofs.lines.kinds.has_kind.Goals as goal

@@ -1,7 +1,7 @@
 use Rattle.std.proofs.Common.{◌≡◌, ◌+◌, ◌++◌, List, string_bytes, ap, sym, ◌∙◌}
 use Rattle.std.proofs.lemmas.List.{append-nil, take_rest}
 use Rattle.std.specs.List.{flat_map}
-use Rattle.spec_diff.specs.Texts.{Kind, kinds_in, kinds_of, kind_line, kinds_text}
+use Rattle.spec_tools.specs.DiffTexts.{Kind, kinds_in, kinds_of, kind_line, kinds_text}
 use Rattle.class_list.specs.declared.line.Line.{Line}
 use Rattle.class_list.specs.LineViews.{lines_view}
 use Rattle.diff_app.specs.Pieces.{last_kind_text}

@@ -1,6 +1,6 @@
 use Rattle.std.proofs.Common.{◌≡◌, ◌++◌, string_bytes}
 use Rattle.std.specs.List.{flat_map}
-use Rattle.spec_diff.specs.Texts.{kinds_in, kinds_of, kind_line, kinds_text}
+use Rattle.spec_tools.specs.DiffTexts.{kinds_in, kinds_of, kind_line, kinds_text}
 use Rattle.class_list.specs.LineViews.{lines_view}
 use Rattle.text_numbers.specs.Added.{IsPrefix}
 use Rattle.diff_app.proofs.lines.KindLaws.{later_kinds}

@@ -1,6 +1,6 @@
 use Rattle.std.proofs.Common.{◌≡◌, ◌++◌, drop, string_bytes}
 use Rattle.std.specs.List.{flat_map}
-use Rattle.spec_diff.specs.Texts.{line_text}
+use Rattle.spec_tools.specs.DiffTexts.{line_text}
 use Rattle.class_list.specs.LineViews.{lines_view}
 use Rattle.text_numbers.specs.Added.{IsPrefix}
 use Rattle.diff_app.proofs.lines.text.print_lines.Given as goal

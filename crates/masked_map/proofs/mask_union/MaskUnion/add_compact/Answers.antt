@@ -1,6 +1,6 @@
 use Rattle.std.proofs.Common.{sym, ap, ◌∙◌}
 use Rattle.spec_keys.specs.Keys.{joined}
-use Rattle.translation_laws.proofs.UnionLaws.{joined_assoc}
+use Rattle.table_laws.proofs.UnionLaws.{joined_assoc}
 use Rattle.ovs_fields.specs.Packed.{bits}
 use Rattle.masked_map.specs.Compact.{list_of}
 use Rattle.masked_map.proofs.mask_union.MaskUnion.add_compact.Goals as goal

@@ -3,9 +3,9 @@ use Rattle.std.specs.List.{flat_map}
 use Rattle.std.proofs.lemmas.List.{drop_more}
 use Rattle.spec_keys.specs.declared.field_id.FieldId.{FieldId}
 use Rattle.spec_xlate.specs.Lookup.{added}
-use Rattle.translation_laws.proofs.UnionLaws.{added-append}
+use Rattle.table_laws.proofs.UnionLaws.{added-append}
 use Rattle.ovs_fields.specs.Packed.{numbers, bits}
-use Rattle.spec_trace.specs.Texts.{carried_bits}
+use Rattle.spec_tools.specs.TraceTexts.{carried_bits}
 use Rattle.ofp_trace.proofs.lines.keys.add_all_carried.Goals as goal
 
 -- one field more

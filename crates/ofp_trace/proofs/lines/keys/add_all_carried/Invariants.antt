@@ -2,7 +2,7 @@ use Rattle.std.proofs.Common.{◌≡◌, drop}
 use Rattle.std.specs.List.{flat_map}
 use Rattle.spec_xlate.specs.Lookup.{added}
 use Rattle.ovs_fields.specs.Packed.{numbers, bits}
-use Rattle.spec_trace.specs.Texts.{carried_bits}
+use Rattle.spec_tools.specs.TraceTexts.{carried_bits}
 use Rattle.ofp_trace.proofs.lines.keys.add_all_carried.Given as goal
 
 -- what is left of the fields leads where all of them lead

@@ -3,7 +3,7 @@ use Rattle.std.specs.List.{flat_map}
 use Rattle.spec_keys.specs.declared.field_id.FieldId.{FieldId}
 use Rattle.spec_xlate.specs.Lookup.{added}
 use Rattle.ovs_fields.specs.Packed.{numbers}
-use Rattle.spec_trace.specs.Texts.{carried_bits, carried}
+use Rattle.spec_tools.specs.TraceTexts.{carried_bits, carried}
 use Rattle.ofp_trace.proofs.lines.keys.carried.Goals as goal
 
 pub returns : goal.returns

@@ -1,5 +1,5 @@
 use Rattle.std.proofs.Common.{◌≡◌, ◌∙◌, ℕ, List, refl, sym, ap, subst}
-use Rattle.spec_trace.specs.Texts.{winner_text}
+use Rattle.spec_tools.specs.TraceTexts.{winner_text}
 use Rattle.text_numbers.specs.Added.{Adds}
 use Rattle.dump_lines.proofs.rules.Added.{live_as, live_is, live_is_sound}
 use Rattle.ofp_trace.proofs.lines.lookups.print_live.Goals as goal

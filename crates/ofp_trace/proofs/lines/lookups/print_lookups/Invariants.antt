@@ -1,6 +1,6 @@
 use Rattle.std.proofs.Common.{◌≡◌, ◌++◌, take, string_bytes}
 use Rattle.std.specs.List.{flat_map}
-use Rattle.spec_trace.specs.Texts.{lookup_line}
+use Rattle.spec_tools.specs.TraceTexts.{lookup_line}
 use Rattle.dump_lines.specs.Live.{live_in}
 use Rattle.ofp_trace.proofs.lines.lookups.print_lookups.Given as goal
 

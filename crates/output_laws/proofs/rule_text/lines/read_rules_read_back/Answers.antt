@@ -1,4 +1,4 @@
-use Rattle.translation_laws.proofs.MemberLaws.{All_from-Among}
+use Rattle.table_laws.proofs.MemberLaws.{All_from-Among}
 use Rattle.text_laws.proofs.round_trips.EditTexts.{edit_matching, edit_actions}
 use Rattle.output_laws.specs.Lines.{ReadsBack}
 use Rattle.output_laws.proofs.rule_text.Stated.{rules_made}

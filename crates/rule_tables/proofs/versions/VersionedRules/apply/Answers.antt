@@ -1,7 +1,7 @@
 use Rattle.std.proofs.Common.{◌≡◌, ℕ, ◌+◌, List, [], ◌∷◌, ◌++◌, length, sym, ap, ap₂, ◌∙◌, subst, arith}
 use Rattle.spec_tables.specs.Bundles.{AreBundles}
 use Rattle.rule_tables.specs.History.{History, applied}
-use Rattle.bundle_laws.proofs.Bundles.{bundles-push}
+use Rattle.table_laws.proofs.Bundles.{bundles-push}
 use Rattle.rule_tables.proofs.versions.VersionedRules.apply.Goals as goal
 
 pub invariant_of-self-2 : goal.invariant_of-self-2

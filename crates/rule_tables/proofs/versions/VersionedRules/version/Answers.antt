@@ -1,6 +1,6 @@
 use Rattle.std.proofs.Common.{◌<◌, ◌≤◌, ◌^◌, length, arith}
 use Rattle.rule_tables.specs.History.{applied}
-use Rattle.bundle_laws.proofs.Bundles.{few_bundles}
+use Rattle.table_laws.proofs.Bundles.{few_bundles}
 use Rattle.rule_tables.proofs.versions.VersionedRules.version.Goals as goal
 
 pub overflow_cast-result : goal.overflow_cast-result

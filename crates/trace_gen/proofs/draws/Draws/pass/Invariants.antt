@@ -1,5 +1,5 @@
 use Rattle.std.proofs.Common.{◌≡◌}
-use Rattle.spec_made.specs.Made.{state}
+use Rattle.spec_input.specs.Made.{state}
 use Rattle.trace_gen.proofs.draws.Draws.pass.Given as goal
 
 abbrev pub invariant-draws : goal.invariant-draws

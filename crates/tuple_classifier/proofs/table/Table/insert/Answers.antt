@@ -1,5 +1,5 @@
 use Rattle.std.proofs.Common.{◌∷◌, ◌++◌, [], inl, refl}
-use Rattle.translation_laws.proofs.MemberLaws.{Among-append_right}
+use Rattle.table_laws.proofs.MemberLaws.{Among-append_right}
 use Rattle.staged_lookup.proofs.Removed.{count-one_more}
 use Rattle.staged_lookup.proofs.Results.{on_err_always}
 use Rattle.tuple_classifier.proofs.TableLaws.{rule_with}

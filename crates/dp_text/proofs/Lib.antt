@@ -1,4 +1,0 @@
-pub mod Lists
-pub mod Numbers
-pub mod Commits
-pub mod Translations

@@ -1,5 +1,0 @@
-use Rattle.dp_text.proofs.Commits.{commit_within}
-use Rattle.dp_text.proofs.laws.commit_is_within_fields.Goals as goal
-
-pub returns : goal.returns
-returns c base current is_base is_current = record { within = commit_within base current is_base is_current }

@@ -1,0 +1,3 @@
+mod WordsRows
+mod ScriptRows
+mod MadeRows

@@ -1,5 +1,0 @@
-pub mod Lines
-pub mod Script
-pub mod Given
-pub mod Steps
-pub mod Mirrors

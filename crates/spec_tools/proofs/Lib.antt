@@ -1,0 +1,2 @@
+mod TraceRows
+mod DiffRows

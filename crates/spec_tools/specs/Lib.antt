@@ -1,0 +1,14 @@
+pub mod Paths
+pub mod TraceTexts
+pub mod TraceWords
+pub mod TraceVerdict
+pub mod TraceStatuses
+pub mod TraceOutputs
+pub mod Classes
+pub mod Lines
+pub mod Progress
+pub mod DiffOutputs
+pub mod DiffStatuses
+pub mod DiffTexts
+pub mod DiffVerdict
+pub mod DiffWords

@@ -1,6 +1,0 @@
-pub mod Paths
-pub mod Texts
-pub mod Words
-pub mod Verdict
-pub mod Statuses
-pub mod Outputs

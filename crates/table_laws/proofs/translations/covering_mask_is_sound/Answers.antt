@@ -1,0 +1,9 @@
+use Rattle.table_laws.proofs.UnionLaws.{agree-covers}
+use Rattle.table_laws.proofs.SoundLaws.{consulted-sound}
+use Rattle.table_laws.proofs.translations.covering_mask_is_sound.Goals as goal
+
+pub returns-clause-same_translation : goal.returns-clause-same_translation
+returns-clause-same_translation c sw a b ka kb ca cb mask cover h = (consulted-sound sw a b ka kb ca cb (agree-covers a b mask _ cover h)).same_translation
+
+pub returns-clause-same_bits : goal.returns-clause-same_bits
+returns-clause-same_bits c sw a b ka kb ca cb mask cover h = (consulted-sound sw a b ka kb ca cb (agree-covers a b mask _ cover h)).same_bits

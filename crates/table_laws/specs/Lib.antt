@@ -1,0 +1,5 @@
+pub mod Following
+pub mod Best
+pub mod Applied
+pub mod Members
+pub mod Switches

@@ -1,0 +1,4 @@
+pub mod Visits
+pub mod Keys
+pub mod Decided
+pub mod Outputs

@@ -1,5 +1,0 @@
-use Rattle.translation_laws.proofs.LookupLaws.{consults-masks}
-use Rattle.translation_laws.proofs.lookups.lookup_goes_by_masks.Goals as goal
-
-pub returns : goal.returns
-returns c = consults-masks

@@ -1,4 +1,0 @@
-pub mod Best
-pub mod Applied
-pub mod Members
-pub mod Switches
