@@ -26,7 +26,8 @@
 //! A filter also tells whether one output is all that the actions are. Frames that came in one after the other at a port,
 //! and of which this is all that is done, are a *batch* of up to 256, also where frames came in between that the port doesn't
 //! get. They are written as their records stand in the trace, in one piece where they stand there as they are written; no
-//! board is asked for them. Each arrival and each record is looked at once, however a batch is cut.
+//! board is asked for them. However a batch is cut, each record is looked at once, and each arrival too, but for the one
+//! that ends a batch, which is looked at again as the next one begins.
 //!
 //! What only sends is written from the trace. A frame that is rewritten on the way is copied into a buffer first
 //! (`action_exec`), one for each file, and only where it goes out at the port after it was rewritten.

@@ -1,12 +1,11 @@
 -- Lists of boards that are those of a run, and what is left of them.
 use Rattle.std.proofs.Common.{◌≡◌, ℕ, zero, suc, ◌≤◌, ◌<◌, List, [], ◌∷◌, length, map, slice_index_or, All, refl, sym, ap, ◌∙◌, arith}
 use Rattle.std.proofs.lemmas.List.{length-map}
-use Rattle.spec_case.specs.Run.{Run, last_version}
-use Rattle.spec_case.specs.Blocks.{AreInOrder, hi, last_block}
+use Rattle.spec_case.specs.Run.{Run}
+use Rattle.spec_case.specs.Blocks.{last_block}
 use Rattle.pmd_board.specs.BoardView.{BoardView}
 use Rattle.run_boards.specs.Scheduled.{block_to_finish, HasDone, IsNew, TookTurns}
 use Rattle.run_boards.specs.Boards.{AreBoards, AreOfPhase}
-use Rattle.run_boards.proofs.Places.{hi-le}
 use Rattle.run_boards.proofs.Scheduled.{least_le, least_above}
 
 -- ---- their ports
@@ -60,9 +59,6 @@ turns_are run limit block v old new took are = record {
 module _ (run : Run) (limit block : ℕ) (boards : List BoardView) (fit : AreOfPhase run limit block boards) (there : block ≤ last_block run) where
   fit_above : block ≤ block_to_finish run boards
   fit_above = least_above run (last_block run) block boards there (λ k d within. (let e = fit.1 k d within in omega (arith, e)))
-
-  pub fit_version : AreInOrder run.syncs (last_version run) → (v : ℕ) → v ≡ hi run block → v ≤ hi run (block_to_finish run boards)
-  fit_version in_order v is = let l = hi-le run block (block_to_finish run boards) in_order fit_above in omega (arith, is, l)
 
   pub fit_block : 1 ≤ length run.ports → (d : BoardView) → block_to_finish run boards ≡ block
   fit_block some d =
