@@ -1,4 +1,4 @@
-use Rattle.std.proofs.Common.{refl, lit<}
+use Rattle.std.proofs.Common.{refl, lit<, arith}
 use Rattle.edge_io.specs.declared.outside.Failed.TheVariants as failed
 use Rattle.edge_io.proofs.Refusals as refusals
 use Rattle.edge_io.proofs.Whole as whole
@@ -91,6 +91,23 @@ returns-clause-only_read g c = λ t.
     (g.S.Shelf.told c.read_opened.new.shelf) c.args.name.now c.read_opened.result
     (c.in_ok-open_file.ensures.told t).ok (c.read_opened.ensures.told t)
 
--- named, since the search writes the whole piece out
+-- named, since a search writes the whole piece out
 pub read_opened-requires-clause-room : goal.read_opened-requires-clause-room
 read_opened-requires-clause-room g c = rw c.deref_mut.ensures.len (rw c.in_ok-piece.ensures.len (lit< tt))
+
+pub open_file-requires : goal.open_file-requires
+open_file-requires g c = c.requires
+
+pub read_opened-requires-clause-in_use : goal.read_opened-requires-clause-in_use
+read_opened-requires-clause-in_use g c = c.in_ok-open_file.ensures.opened
+
+pub returns-clause-in_use : goal.returns-clause-in_use
+returns-clause-in_use g c = c.read_opened.ensures.in_use
+
+pub returns-clause-bound : goal.returns-clause-bound
+returns-clause-bound g c = c.read_opened.ensures.bound
+
+pub returns-clause-within : goal.returns-clause-within
+returns-clause-within g c = λ t short over.
+    let few = rw (c.in_ok-open_file.ensures.told t).found at short in
+    absurd (omega (arith, few, c.read_opened.ensures.over t over))
