@@ -2,7 +2,6 @@ use edge_io::memory::MemoryShelf;
 use pcap_files::reader::{PcapFault, Trace, read_trace};
 use pcap_files::writer::PcapWriter;
 use std::alloc::{AllocError, Global};
-use std::test::Fail;
 
 const HEADER: [u8; 24] = [
     0xd4, 0xc3, 0xb2, 0xa1, 2, 0, 4, 0, 0, 0, 0, 0, 0, 0, 0, 0, 0, 0, 4, 0, 1, 0, 0, 0,
@@ -27,27 +26,31 @@ fn file(alloc: Global) -> Result<Vec<u8>, AllocError> {
 }
 
 #[test]
-fn one_frame_is_read(rt: HostRuntime) -> Result<(), Fail> {
+fn one_frame_is_read(rt: HostRuntime) {
     let alloc = rt.alloc();
-    let trace = read_trace(alloc, file(alloc)?, 1)?;
-    assert_eq!(rt; trace.len(), 1);
+    let trace = read_trace(alloc, file(alloc).expect(&rt, "ample memory"), 1).expect(
+        &rt,
+        "ample memory",
+    );
+    assert!(rt; trace.len() == 1);
     assert!(rt; !trace.is_empty());
     assert!(rt; !trace.nanos());
-    assert_eq!(rt; trace.time(1), 1_000_000_000);
-    assert_eq!(rt; trace.frame(1), frame().as_slice());
-    Ok(())
+    assert!(rt; trace.time(1) == 1_000_000_000);
+    assert!(rt; trace.frame(1) == frame().as_slice());
 }
 
 #[test]
-fn empty_trace_has_no_frames(rt: HostRuntime) -> Result<(), Fail> {
+fn empty_trace_has_no_frames(rt: HostRuntime) {
     let alloc = rt.alloc();
     let trace = Trace::empty(alloc);
-    assert_eq!(rt; trace.len(), 0);
+    assert!(rt; trace.len() == 0);
     assert!(rt; trace.is_empty());
     assert!(rt; !trace.nanos());
-    let trace = read_trace(alloc, HEADER.to_vec(alloc)?, 0)?;
+    let trace = read_trace(alloc, HEADER.to_vec(alloc).expect(&rt, "ample memory"), 0).expect(
+        &rt,
+        "ample memory",
+    );
     assert!(rt; trace.is_empty());
-    Ok(())
 }
 
 // What is answered to the file in which these bytes stand at an offset.
@@ -73,7 +76,7 @@ fn fault_of_prefix(alloc: Global, len: usize) -> Result<Option<PcapFault>, Alloc
 }
 
 #[test]
-fn each_fault_of_a_file_is_told(rt: HostRuntime) -> Result<(), Fail> {
+fn each_fault_of_a_file_is_told(rt: HostRuntime) {
     let alloc = rt.alloc();
     let version = |major, minor| Some(PcapFault::Version { major, minor });
     let fraction = Some(PcapFault::Fraction { at: 24 });
@@ -93,13 +96,12 @@ fn each_fault_of_a_file_is_told(rt: HostRuntime) -> Result<(), Fail> {
         (28, [0x3f, 0x42, 0x0f, 0], None),
         (32, [1, 0, 4, 0], long),
     ] {
-        assert_eq!(rt; fault_with(alloc, offset, bytes)?, fault);
+        assert!(rt; fault_with(alloc, offset, bytes).expect(&rt, "ample memory") == fault);
     }
-    Ok(())
 }
 
 #[test]
-fn cut_file_and_one_without_room_are_refused(rt: HostRuntime) -> Result<(), Fail> {
+fn cut_file_and_one_without_room_are_refused(rt: HostRuntime) {
     let alloc = rt.alloc();
     let short = Some(PcapFault::ShortRecord { at: 24 });
     for (len, fault) in [
@@ -110,44 +112,51 @@ fn cut_file_and_one_without_room_are_refused(rt: HostRuntime) -> Result<(), Fail
         (40, short),
         (99, short),
     ] {
-        assert_eq!(rt; fault_of_prefix(alloc, len)?, fault);
+        assert!(rt; fault_of_prefix(alloc, len).expect(&rt, "ample memory") == fault);
     }
-    let refused = read_trace(alloc, file(alloc)?, 0).err();
-    assert_eq!(rt; refused, Some(PcapFault::TooManyFrames));
-    Ok(())
+    let refused = read_trace(alloc, file(alloc).expect(&rt, "ample memory"), 0).err();
+    assert!(rt; refused == Some(PcapFault::TooManyFrames));
 }
 
 // The same frame at one second and five nanoseconds, as `editcap -F nsecpcap` writes it on a big-endian machine.
 #[test]
-fn big_endian_nanoseconds_are_read(rt: HostRuntime) -> Result<(), Fail> {
+fn big_endian_nanoseconds_are_read(rt: HostRuntime) {
     let alloc = rt.alloc();
     let mut bytes = vec![in alloc;
         0xa1, 0xb2, 0x3c, 0x4d, 0, 2, 0, 4, 0, 0, 0, 0, 0, 0, 0, 0, 0, 4, 0, 0, 0, 0, 0, 1,
-    ]?;
-    bytes.extend_from_slice(&[0, 0, 0, 1, 0, 0, 0, 5, 0, 0, 0, 60, 0, 0, 0, 60])?;
-    bytes.extend_from_slice(&frame())?;
-    let trace = read_trace(alloc, bytes, 1)?;
-    assert_eq!(rt; trace.len(), 1);
+    ]
+    .expect(&rt, "ample memory");
+    bytes
+        .extend_from_slice(&[0, 0, 0, 1, 0, 0, 0, 5, 0, 0, 0, 60, 0, 0, 0, 60])
+        .expect(&rt, "ample memory");
+    bytes
+        .extend_from_slice(&frame())
+        .expect(&rt, "ample memory");
+    let trace = read_trace(alloc, bytes, 1).expect(&rt, "ample memory");
+    assert!(rt; trace.len() == 1);
     assert!(rt; trace.nanos());
-    assert_eq!(rt; trace.time(1), 1_000_000_005);
-    assert_eq!(rt; trace.frame(1), frame().as_slice());
-    Ok(())
+    assert!(rt; trace.time(1) == 1_000_000_005);
+    assert!(rt; trace.frame(1) == frame().as_slice());
 }
 
 #[test]
-fn one_frame_is_read_and_written_back(rt: HostRuntime) -> Result<(), Fail> {
+fn one_frame_is_read_and_written_back(rt: HostRuntime) {
     let alloc = rt.alloc();
-    let trace = read_trace(alloc, file(alloc)?, 1)?;
-    assert_eq!(rt; trace.len(), 1);
+    let trace = read_trace(alloc, file(alloc).expect(&rt, "ample memory"), 1).expect(
+        &rt,
+        "ample memory",
+    );
+    assert!(rt; trace.len() == 1);
     let mut shelf = MemoryShelf::new(alloc, Vec::new(alloc), Vec::new(alloc));
-    let mut writer = PcapWriter::start(&mut shelf, "out", false)?;
-    writer.frame(&mut shelf, trace.time(1), trace.frame(1))?;
-    writer.end(&mut shelf)?;
+    let mut writer = PcapWriter::start(&mut shelf, "out", false).expect(&rt, "ample memory");
+    writer
+        .frame(&mut shelf, trace.time(1), trace.frame(1))
+        .expect(&rt, "ample memory");
+    writer.end(&mut shelf).expect(&rt, "ample memory");
     let made = shelf.made();
-    assert_eq!(rt; made.len(), 1);
-    assert_eq!(rt; made[0].0.as_str(), "out");
-    assert_eq!(rt; made[0].1.as_slice(), file(alloc)?.as_slice());
-    Ok(())
+    assert!(rt; made.len() == 1);
+    assert!(rt; made[0].0.as_str() == "out");
+    assert!(rt; made[0].1.as_slice() == file(alloc).expect(&rt, "ample memory").as_slice());
 }
 
 // Two records of the frame.
@@ -161,35 +170,43 @@ fn two_records(alloc: Global) -> Result<Vec<u8>, AllocError> {
 
 // A frame that had a byte more on the wire is written with another header, and so is each in another unit.
 #[test]
-fn consecutive_records_are_lent_as_they_are_written(rt: HostRuntime) -> Result<(), Fail> {
+fn consecutive_records_are_lent_as_they_are_written(rt: HostRuntime) {
     let alloc = rt.alloc();
-    let mut bytes = HEADER.to_vec(alloc)?;
-    bytes.extend_from_slice(two_records(alloc)?.as_slice())?;
-    bytes.extend_from_slice(&[1, 0, 0, 0, 0, 0, 0, 0, 60, 0, 0, 0, 61, 0, 0, 0])?;
-    bytes.extend_from_slice(&frame())?;
-    let trace = read_trace(alloc, bytes, 3)?;
-    assert_eq!(rt; trace.len(), 3);
+    let mut bytes = HEADER.to_vec(alloc).expect(&rt, "ample memory");
+    bytes
+        .extend_from_slice(two_records(alloc).expect(&rt, "ample memory").as_slice())
+        .expect(&rt, "ample memory");
+    bytes
+        .extend_from_slice(&[1, 0, 0, 0, 0, 0, 0, 0, 60, 0, 0, 0, 61, 0, 0, 0])
+        .expect(&rt, "ample memory");
+    bytes
+        .extend_from_slice(&frame())
+        .expect(&rt, "ample memory");
+    let trace = read_trace(alloc, bytes, 3).expect(&rt, "ample memory");
+    assert!(rt; trace.len() == 3);
     let (count, records) = trace.records(1, 3, false);
-    assert_eq!(rt; count, 2);
-    assert_eq!(rt; records, two_records(alloc)?.as_slice());
-    assert_eq!(rt; trace.records(2, 2, false).0, 1);
-    assert_eq!(rt; trace.records(3, 1, false).0, 0);
-    assert_eq!(rt; trace.records(1, 3, true).0, 0);
-    Ok(())
+    assert!(rt; count == 2);
+    assert!(rt; records == two_records(alloc).expect(&rt, "ample memory").as_slice());
+    assert!(rt; trace.records(2, 2, false).0 == 1);
+    assert!(rt; trace.records(3, 1, false).0 == 0);
+    assert!(rt; trace.records(1, 3, true).0 == 0);
 }
 
 #[test]
-fn file_in_nanoseconds_has_its_magic_and_unit(rt: HostRuntime) -> Result<(), Fail> {
+fn file_in_nanoseconds_has_its_magic_and_unit(rt: HostRuntime) {
     let alloc = rt.alloc();
     let mut shelf = MemoryShelf::new(alloc, Vec::new(alloc), Vec::new(alloc));
-    let mut writer = PcapWriter::start(&mut shelf, "out", true)?;
-    writer.frame(&mut shelf, 1_000_000_005, &[7, 8])?;
-    writer.end(&mut shelf)?;
-    let mut bytes = HEADER.to_vec(alloc)?;
+    let mut writer = PcapWriter::start(&mut shelf, "out", true).expect(&rt, "ample memory");
+    writer
+        .frame(&mut shelf, 1_000_000_005, &[7, 8])
+        .expect(&rt, "ample memory");
+    writer.end(&mut shelf).expect(&rt, "ample memory");
+    let mut bytes = HEADER.to_vec(alloc).expect(&rt, "ample memory");
     bytes[..4].copy_from_slice(&[0x4d, 0x3c, 0xb2, 0xa1]);
-    bytes.extend_from_slice(&[1, 0, 0, 0, 5, 0, 0, 0, 2, 0, 0, 0, 2, 0, 0, 0, 7, 8])?;
+    bytes
+        .extend_from_slice(&[1, 0, 0, 0, 5, 0, 0, 0, 2, 0, 0, 0, 2, 0, 0, 0, 7, 8])
+        .expect(&rt, "ample memory");
     let made = shelf.made();
-    assert_eq!(rt; made.len(), 1);
-    assert_eq!(rt; made[0].1.as_slice(), bytes.as_slice());
-    Ok(())
+    assert!(rt; made.len() == 1);
+    assert!(rt; made[0].1.as_slice() == bytes.as_slice());
 }

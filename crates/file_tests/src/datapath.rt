@@ -1,12 +1,11 @@
 use action_text::{DpAction, print_dp_actions};
 use ovs_fields::FieldId;
-use std::test::Fail;
 
 #[test]
-fn datapath_actions_have_their_texts(rt: HostRuntime) -> Result<(), Fail> {
+fn datapath_actions_have_their_texts(rt: HostRuntime) {
     let mut text = String::new(rt.alloc());
-    print_dp_actions(&[], &mut text)?;
-    text.push('\n')?;
+    print_dp_actions(&[], &mut text).expect(&rt, "ample memory");
+    text.push('\n').expect(&rt, "ample memory");
     let tagged = [
         DpAction::PushVlan {
             tpid: 0x8100,
@@ -18,8 +17,8 @@ fn datapath_actions_have_their_texts(rt: HostRuntime) -> Result<(), Fail> {
         },
         DpAction::Output(2),
     ];
-    print_dp_actions(&tagged, &mut text)?;
-    text.push('\n')?;
+    print_dp_actions(&tagged, &mut text).expect(&rt, "ample memory");
+    text.push('\n').expect(&rt, "ample memory");
     let written = [
         DpAction::Set {
             field: FieldId::DlDst,
@@ -50,11 +49,10 @@ fn datapath_actions_have_their_texts(rt: HostRuntime) -> Result<(), Fail> {
             mask: 3,
         },
     ];
-    print_dp_actions(&written, &mut text)?;
+    print_dp_actions(&written, &mut text).expect(&rt, "ample memory");
     let expected = "drop\npush_vlan(vid=5,pcp=0),push_vlan(tpid=0x88a8,vid=100,pcp=0),2\n\
         set(dl_dst=00:00:00:00:00:00/00:00:00:00:00:05),pop_vlan,set(nw_src=0.0.0.8/0.0.0.8),\
         set(nw_ttl=0x3f/0x7f),2,set(nw_ttl=255),3,\
         set(reg0=0x1/0x3)";
-    assert_eq!(rt; text.as_str(), expected);
-    Ok(())
+    assert!(rt; text.as_str() == expected);
 }

@@ -1,6 +1,5 @@
 use frame_keys::layout::{L3, L4, Layout, layout_of};
 use std::alloc::{AllocError, Global};
-use std::test::Fail;
 
 // From 00:00:00:00:00:01 to 00:00:00:00:00:02.
 const ADDRESSES: [u8; 12] = [0, 0, 0, 0, 0, 2, 0, 0, 0, 0, 0, 1];
@@ -21,23 +20,25 @@ fn frame(alloc: Global, parts: &[&[u8]]) -> Result<Vec<u8>, AllocError> {
 }
 
 #[test]
-fn tag_is_found(rt: HostRuntime) -> Result<(), Fail> {
+fn tag_is_found(rt: HostRuntime) {
     // VLAN 5 of priority 5, and the type 0x88b5 for local experiments.
-    let mut bytes = frame(rt.alloc(), &[&[0x81, 0, 0xa0, 5, 0x88, 0xb5]])?;
+    let mut bytes = frame(rt.alloc(), &[&[0x81, 0, 0xa0, 5, 0x88, 0xb5]]).expect(
+        &rt,
+        "ample memory",
+    );
     let layout = Layout { tags: 1, ..NOWHERE };
     assert!(rt; layout_of(&bytes) == layout);
 
     // Without its last byte the frame has no whole tag.
     bytes.truncate(17);
     assert!(rt; layout_of(&bytes) == NOWHERE);
-    Ok(())
 }
 
 #[test]
-fn two_tags_are_found_and_no_third(rt: HostRuntime) -> Result<(), Fail> {
+fn two_tags_are_found_and_no_third(rt: HostRuntime) {
     // A provider's tag of VLAN 7, and customers' of VLAN 5 and 6.
     let tags = [0x88, 0xa8, 0, 7, 0x81, 0, 0, 5, 0x81, 0, 0, 6, 0x88, 0xb5];
-    let mut bytes = frame(rt.alloc(), &[&tags])?;
+    let mut bytes = frame(rt.alloc(), &[&tags]).expect(&rt, "ample memory");
     let layout = Layout { tags: 2, ..NOWHERE };
     assert!(rt; layout_of(&bytes) == layout);
 
@@ -45,22 +46,20 @@ fn two_tags_are_found_and_no_third(rt: HostRuntime) -> Result<(), Fail> {
     bytes.truncate(21);
     let layout = Layout { tags: 1, ..NOWHERE };
     assert!(rt; layout_of(&bytes) == layout);
-    Ok(())
 }
 
 #[test]
-fn arp_request_after_snap_is_found(rt: HostRuntime) -> Result<(), Fail> {
+fn arp_request_after_snap_is_found(rt: HostRuntime) {
     let snap = [0, 36, 0xaa, 0xaa, 3, 0, 0, 0, 0x08, 0x06];
     let request = [0, 1, 0x08, 0x00, 6, 4, 0, 1];
     let sender = [0, 0, 0, 0, 0, 1, 10, 0, 0, 1];
     let target = [0, 0, 0, 0, 0, 0, 10, 0, 0, 2];
-    let bytes = frame(rt.alloc(), &[&snap, &request, &sender, &target])?;
+    let bytes = frame(rt.alloc(), &[&snap, &request, &sender, &target]).expect(&rt, "ample memory");
     let layout = Layout {
         l3: L3::Arp(22),
         ..NOWHERE
     };
     assert!(rt; layout_of(&bytes) == layout);
-    Ok(())
 }
 
 // A SYN from port 1234 to 80, after three bytes of options that do nothing and the end of options.
@@ -70,8 +69,8 @@ const TCP_HEADERS: [u8; 46] = [
 ];
 
 #[test]
-fn tcp_after_options_is_found(rt: HostRuntime) -> Result<(), Fail> {
-    let mut bytes = frame(rt.alloc(), &[&TCP_HEADERS])?;
+fn tcp_after_options_is_found(rt: HostRuntime) {
+    let mut bytes = frame(rt.alloc(), &[&TCP_HEADERS]).expect(&rt, "ample memory");
     let mut layout = NOWHERE;
     layout.l3 = L3::Ipv4(14);
     assert!(rt;
@@ -87,7 +86,6 @@ fn tcp_after_options_is_found(rt: HostRuntime) -> Result<(), Fail> {
     assert!(rt; layout_of(&bytes) == layout);
     bytes.truncate(37);
     assert!(rt; layout_of(&bytes) == NOWHERE);
-    Ok(())
 }
 
 // The header of UDP after that of IPv4, with this high byte of flags and fragment offset.
@@ -98,8 +96,8 @@ fn fragment(alloc: Global, flags: u8) -> Result<Vec<u8>, AllocError> {
 }
 
 #[test]
-fn first_fragment_alone_has_a_transport_header(rt: HostRuntime) -> Result<(), Fail> {
-    let bytes = fragment(rt.alloc(), 0x20)?;
+fn first_fragment_alone_has_a_transport_header(rt: HostRuntime) {
+    let bytes = fragment(rt.alloc(), 0x20).expect(&rt, "ample memory");
     let mut layout = NOWHERE;
     layout.l3 = L3::Ipv4(14);
     assert!(rt;
@@ -110,9 +108,8 @@ fn first_fragment_alone_has_a_transport_header(rt: HostRuntime) -> Result<(), Fa
             }
     );
 
-    let bytes = fragment(rt.alloc(), 0x21)?;
+    let bytes = fragment(rt.alloc(), 0x21).expect(&rt, "ample memory");
     assert!(rt; layout_of(&bytes) == layout);
-    Ok(())
 }
 
 // A header of IPv6 with this size of payload, whose next header is the options of each hop. The traffic class is 0xb8.
@@ -141,7 +138,7 @@ const UDP: u8 = 17;
 const UDP_HEADER: [u8; 8] = [0, 53, 0x13, 0x88, 0, 8, 0, 0];
 
 #[test]
-fn extension_headers_are_passed(rt: HostRuntime) -> Result<(), Fail> {
+fn extension_headers_are_passed(rt: HostRuntime) {
     let headers = [extension(ROUTING), extension(DESTINATION_OPTIONS)];
     let bytes = frame(
         rt.alloc(),
@@ -152,7 +149,8 @@ fn extension_headers_are_passed(rt: HostRuntime) -> Result<(), Fail> {
             &extension(UDP),
             &UDP_HEADER,
         ],
-    )?;
+    )
+    .expect(&rt, "ample memory");
     let layout = Layout {
         tags: 0,
         l3: L3::Ipv6(14),
@@ -160,5 +158,4 @@ fn extension_headers_are_passed(rt: HostRuntime) -> Result<(), Fail> {
         routed: true,
     };
     assert!(rt; layout_of(&bytes) == layout);
-    Ok(())
 }

@@ -4,7 +4,6 @@ ghost use Rattle.spec_input.specs.Mirrors.{most_mirrors_bytes};
 use field_text::TextFault;
 use port_scripts::{FileFault, MOST_MIRRORS, MOST_MIRRORS_BYTES, read_mirrors};
 use std::alloc::Global;
-use std::test::Fail;
 
 const PORTS: [u16; 3] = [1, 2, 70];
 
@@ -12,19 +11,18 @@ const PORTS: [u16; 3] = [1, 2, 70];
 const EMPTY_MIRROR: &[u8] = b",\n";
 
 #[test]
-fn mirrors_have_their_ports(rt: HostRuntime) -> Result<(), Fail> {
+fn mirrors_have_their_ports(rt: HostRuntime) {
     let bytes = b"# sources\nselect_src_port=70,select_src_port=1\n\nselect_dst_port=2 select_all";
-    let mirrors = read_mirrors(rt.alloc(), bytes, &PORTS).map_err(|_| Fail::new(
-        "the mirrors are read",
-    ))?;
-    assert_eq!(rt; mirrors.len(), 2);
+    let mirrors = read_mirrors(rt.alloc(), bytes, &PORTS)
+        .ok()
+        .expect(&rt, "the mirrors are read");
+    assert!(rt; mirrors.len() == 2);
     assert!(rt; mirrors[0].src.as_slice() == [70, 1].as_slice());
     assert!(rt; mirrors[0].dst.is_empty());
     assert!(rt; !mirrors[0].all);
     assert!(rt; mirrors[1].src.is_empty());
     assert!(rt; mirrors[1].dst.as_slice() == [2].as_slice());
     assert!(rt; mirrors[1].all);
-    Ok(())
 }
 
 fn fault_of(alloc: Global, bytes: &[u8]) -> Option<FileFault>
@@ -67,15 +65,18 @@ fn a_line_has_at_most_4096_bytes(rt: HostRuntime) {
 }
 
 #[test]
-fn a_file_has_at_most_16_mirrors(rt: HostRuntime) -> Result<(), Fail> {
+fn a_file_has_at_most_16_mirrors(rt: HostRuntime) {
     let mut bytes = Vec::new(rt.alloc());
     for _ in 0..MOST_MIRRORS {
-        bytes.extend_from_slice(EMPTY_MIRROR)?;
+        bytes
+            .extend_from_slice(EMPTY_MIRROR)
+            .expect(&rt, "ample memory");
     }
     assert!(rt; bytes.len() <= MOST_MIRRORS_BYTES);
     assert!(rt; fault_of(rt.alloc(), &bytes) == None);
-    bytes.extend_from_slice(EMPTY_MIRROR)?;
+    bytes
+        .extend_from_slice(EMPTY_MIRROR)
+        .expect(&rt, "ample memory");
     assert!(rt; bytes.len() <= MOST_MIRRORS_BYTES);
     assert!(rt; fault_of(rt.alloc(), &bytes) == Some(FileFault::TooManyMirrors));
-    Ok(())
 }

@@ -3,29 +3,23 @@ use field_text::TextFault;
 use ovs_fields::FieldId;
 use rule_tables::{EditWord, OfAction, Rule, SyncPoint, VersionedRules};
 use std::alloc::Global;
-use std::test::Fail;
 
-/// The script of these bytes and the rules that its edits make.
-fn read(alloc: Global, bytes: &'static [u8]) -> Result<(Script, VersionedRules), Fail> {
+/// The script of these few bytes and the rules that its edits make, if they are read and change few rules.
+fn read(alloc: Global, bytes: &'static [u8]) -> Option<(Script, VersionedRules)> {
     if bytes.len() > MOST_BYTES {
-        return Err(Fail::new("there are few bytes"));
+        return None;
     }
-    let Ok(ReadEdits { script, rules }) = read_script(alloc, bytes) else {
-        return Err(Fail::new("the edits are read"));
-    };
-    match rules {
-        Some(rules) => Ok((script, rules)),
-        None => Err(Fail::new("the edits change few rules")),
-    }
+    let ReadEdits { script, rules } = read_script(alloc, bytes).ok()?;
+    Some((script, rules?))
 }
 
 #[test]
-fn a_script_has_edits_and_sync_points(rt: HostRuntime) -> Result<(), Fail> {
+fn a_script_has_edits_and_sync_points(rt: HostRuntime) {
     let bytes =
         b"sync 0\n# all of it\nadd priority=5,tcp,actions=2,output:3 # 4\n \t\r\n\tsync\t2.5 \ndelete_strict table=3\nactions=drop";
-    let (script, rules) = read(rt.alloc(), bytes)?;
-    assert_eq!(rt; script.edits.len(), 3);
-    assert_eq!(rt; script.bundles.as_slice(), [1, 2, 3].as_slice());
+    let (script, rules) = read(rt.alloc(), bytes).expect(&rt, "the edits are read");
+    assert!(rt; script.edits.len() == 3);
+    assert!(rt; script.bundles.as_slice() == [1, 2, 3].as_slice());
     let syncs = [
         SyncPoint { time: 0, after: 0 },
         SyncPoint {
@@ -35,44 +29,41 @@ fn a_script_has_edits_and_sync_points(rt: HostRuntime) -> Result<(), Fail> {
     ];
     assert!(rt; script.syncs.as_slice() == syncs.as_slice());
     let protocol = |rule: &Rule| rule.matching.key.get(FieldId::NwProto);
-    assert_eq!(rt; rules.rule(1).map(|rule| rule.priority), Some(5));
-    assert_eq!(rt; rules.rule(1).map(protocol), Some(6));
+    assert!(rt; rules.rule(1).map(|rule| rule.priority) == Some(5));
+    assert!(rt; rules.rule(1).map(protocol) == Some(6));
     assert!(rt; rules.rule(2).is_none());
-    assert_eq!(rt; rules.rule(3).map(|rule| rule.priority), Some(32768));
-    Ok(())
+    assert!(rt; rules.rule(3).map(|rule| rule.priority) == Some(32768));
 }
 
 #[test]
-fn the_edit_of_a_line_is_read(rt: HostRuntime) -> Result<(), Fail> {
-    let edit = read_edit(rt.alloc(), b"tcp,actions=2,output:3").map_err(|_| Fail::new(
-        "it is read",
-    ))?;
+fn the_edit_of_a_line_is_read(rt: HostRuntime) {
+    let edit = read_edit(rt.alloc(), b"tcp,actions=2,output:3")
+        .ok()
+        .expect(&rt, "it is read");
     assert!(rt; edit.word == EditWord::Add);
     let outputs = [OfAction::Output(2), OfAction::Output(3)];
     assert!(rt; edit.actions.as_slice() == outputs.as_slice());
-    let edit = read_edit(rt.alloc(), b"delete_strict table=3").map_err(|_| Fail::new(
-        "it is read",
-    ))?;
+    let edit = read_edit(rt.alloc(), b"delete_strict table=3")
+        .ok()
+        .expect(&rt, "it is read");
     assert!(rt; edit.word == EditWord::DeleteStrict);
-    assert_eq!(rt; edit.table, Some(3));
-    Ok(())
+    assert!(rt; edit.table == Some(3));
 }
 
 #[test]
-fn edits_between_begin_and_commit_are_one_bundle(rt: HostRuntime) -> Result<(), Fail> {
+fn edits_between_begin_and_commit_are_one_bundle(rt: HostRuntime) {
     let bytes =
         b"actions=1\n begin # two edits\ndelete\nactions=2\ncommit\nsync 1\nbegin\ncommit\nactions=3\n";
-    let (script, rules) = read(rt.alloc(), bytes)?;
-    assert_eq!(rt; script.edits.len(), 4);
-    assert_eq!(rt; script.bundles.as_slice(), [1, 3, 4].as_slice());
+    let (script, rules) = read(rt.alloc(), bytes).expect(&rt, "the edits are read");
+    assert!(rt; script.edits.len() == 4);
+    assert!(rt; script.bundles.as_slice() == [1, 3, 4].as_slice());
     let sync = SyncPoint {
         time: 1_000_000_000,
         after: 2,
     };
     assert!(rt; script.syncs.as_slice() == [sync].as_slice());
-    assert_eq!(rt; rules.version(), 3);
-    assert_eq!(rt; rules.changes(), 5);
-    Ok(())
+    assert!(rt; rules.version() == 3);
+    assert!(rt; rules.changes() == 5);
 }
 
 fn fault_of(read: Result<ReadEdits, FileFault>) -> Option<FileFault> {

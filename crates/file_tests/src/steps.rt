@@ -1,6 +1,5 @@
 use board_steps::{EntryNumbers, Settled, Step, push_step};
 use spec_board::{Looked, PutDone};
-use std::test::Fail;
 
 const EVERY_KIND: &str = "open 0
 look 1 miss
@@ -19,10 +18,13 @@ end
 ";
 
 #[test]
-fn each_kind_of_step_has_its_line(rt: HostRuntime) -> Result<(), Fail> {
+fn each_kind_of_step_has_its_line(rt: HostRuntime) {
     let alloc = rt.alloc();
-    let none = EntryNumbers::new(alloc, Vec::new(alloc))?;
-    let three = EntryNumbers::new(alloc, vec![in alloc; 1, 2, 12]?)?;
+    let none = EntryNumbers::new(alloc, Vec::new(alloc)).expect(&rt, "ample memory");
+    let three = EntryNumbers::new(
+        alloc,
+        vec![in alloc; 1, 2, 12].expect(&rt, "ample memory"),
+    ).expect(&rt, "ample memory");
     let look = |place, looked| Step::Look {
         place,
         result: looked,
@@ -69,9 +71,8 @@ fn each_kind_of_step_has_its_line(rt: HostRuntime) -> Result<(), Fail> {
     ];
     let mut text = String::new(alloc);
     for step in &steps {
-        push_step(&mut text, step)?;
-        text.push('\n')?;
+        push_step(&mut text, step).expect(&rt, "ample memory");
+        text.push('\n').expect(&rt, "ample memory");
     }
-    assert_eq!(rt; text.as_str(), EVERY_KIND);
-    Ok(())
+    assert!(rt; text.as_str() == EVERY_KIND);
 }

@@ -8,7 +8,6 @@ use std::cell::Cell;
 use std::fmt::Display;
 use std::fs;
 use std::io::{self, ErrorKind, Read, Write};
-use std::test::Fail;
 
 // Writes one file and closes it.
 fn store<S: Shelf>(shelf: &mut S, name: &str, bytes: &[u8]) -> Result<(), Failed>
@@ -21,27 +20,25 @@ fn store<S: Shelf>(shelf: &mut S, name: &str, bytes: &[u8]) -> Result<(), Failed
 }
 
 #[test]
-fn real_shelf_reads_what_it_wrote(rt: HostRuntime) -> Result<(), Fail> {
+fn real_shelf_reads_what_it_wrote(rt: HostRuntime) {
     let alloc = rt.alloc();
     let mut shelf = RealShelf::new(&rt);
-    let long = vec![in alloc; 7; 600_000]?;
-    store(&mut shelf, "real_shelf.tmp", b"hello ")?;
-    store(&mut shelf, "real_shelf.tmp", &long)?;
-    let bytes = read_all(alloc, &mut shelf, "real_shelf.tmp", 600_000)?;
+    let long = vec![in alloc; 7; 600_000].expect(&rt, "no fault");
+    store(&mut shelf, "real_shelf.tmp", b"hello ").expect(&rt, "no fault");
+    store(&mut shelf, "real_shelf.tmp", &long).expect(&rt, "no fault");
+    let bytes = read_all(alloc, &mut shelf, "real_shelf.tmp", 600_000).expect(&rt, "no fault");
     assert!(rt; bytes.as_slice() == long.as_slice());
-    fs::remove_file(&rt, "real_shelf.tmp")?;
-    assert_eq!(rt; shelf.open_file("real_shelf.tmp"), Err(Failed::Fault));
-    Ok(())
+    fs::remove_file(&rt, "real_shelf.tmp").expect(&rt, "no fault");
+    assert!(rt; shelf.open_file("real_shelf.tmp") == Err(Failed::Fault));
 }
 
 // Every write to this device of Linux fails, as one to a full disk does.
 #[test]
-fn full_disk_is_a_fault_when_the_bytes_go_out(rt: HostRuntime) -> Result<(), Fail> {
+fn full_disk_is_a_fault_when_the_bytes_go_out(rt: HostRuntime) {
     let mut shelf = RealShelf::new(&rt);
-    shelf.create_file("/dev/full")?;
-    assert_eq!(rt; shelf.write(b"hello"), Ok(5));
-    assert_eq!(rt; shelf.close_file(), Err(Failed::Fault));
-    Ok(())
+    shelf.create_file("/dev/full").expect(&rt, "no fault");
+    assert!(rt; shelf.write(b"hello") == Ok(5));
+    assert!(rt; shelf.close_file() == Err(Failed::Fault));
 }
 
 // A printer that takes a byte at a time, and keeps the last eight as a number. Its first call is interrupted.
@@ -79,16 +76,15 @@ impl Print for ByteByByte {
 }
 
 #[test]
-fn standard_output_gets_each_byte_of_a_text_once(rt: HostRuntime) -> Result<(), Fail> {
+fn standard_output_gets_each_byte_of_a_text_once(rt: HostRuntime) {
     let printer = ByteByByte {
         calls: Cell::new(0),
         text: Cell::new(0),
     };
-    say_all(&mut StdoutSink::new(&printer), b"said\n")?;
+    say_all(&mut StdoutSink::new(&printer), b"said\n").expect(&rt, "no fault");
     let said = u64::from_be_bytes([0, 0, 0, b's', b'a', b'i', b'd', b'\n']);
-    assert_eq!(rt; printer.text.get(), said);
-    assert_eq!(rt; printer.calls.get(), 6);
-    Ok(())
+    assert!(rt; printer.text.get() == said);
+    assert!(rt; printer.calls.get() == 6);
 }
 
 // A file whose first calls are interrupted. It is read as ended, and takes one byte at a time.
@@ -124,10 +120,9 @@ impl Write for Interrupted {
 }
 
 #[test]
-fn interrupted_call_is_made_again(rt: HostRuntime) -> Result<(), Fail> {
-    assert_eq!(rt; read_patiently(&mut Interrupted(TRIES - 1), &mut [0])?, 0);
-    assert_eq!(rt; write_patiently(&mut Interrupted(TRIES - 1), b"text")?, 1);
+fn interrupted_call_is_made_again(rt: HostRuntime) {
+    assert!(rt; read_patiently(&mut Interrupted(TRIES - 1), &mut [0]).expect(&rt, "no fault") == 0);
+    assert!(rt; write_patiently(&mut Interrupted(TRIES - 1), b"text").expect(&rt, "no fault") == 1);
     assert!(rt; read_patiently(&mut Interrupted(TRIES), &mut [0]).is_err());
     assert!(rt; write_patiently(&mut Interrupted(TRIES), b"text").is_err());
-    Ok(())
 }

@@ -7,7 +7,6 @@ use ovs_fields::{FieldId, Key, Mask};
 use rule_tables::{EditWord, VersionedRules};
 use std::alloc::{AllocError, Global};
 use std::process::Abort;
-use std::test::Fail;
 use tuple_classifier::Tables;
 
 /// The rule that wins in table 0 of the last version, for a packet that comes in at port 1 and goes to 00:00:00:00:00:02.
@@ -23,56 +22,54 @@ fn winner(alloc: Global, rules: &VersionedRules) -> Result<Option<u32>, AllocErr
 }
 
 /// A rule, and a bundle that puts another in its place.
-fn a_rule_is_replaced(
-    rt: &impl Abort,
-    alloc: Global,
-    rules: &mut VersionedRules,
-) -> Result<(), AllocError>
+fn a_rule_is_replaced(rt: &impl Abort, alloc: Global, rules: &mut VersionedRules)
     requires { rules.old ≡ no_bundles }
 {
-    apply_one(alloc, rules, edit(alloc, EditWord::Add, None, port_1(), 2)?)?;
-    assert_eq!(rt; winner(alloc, rules)?, Some(1));
+    apply_one(
+        alloc,
+        rules,
+        edit(alloc, EditWord::Add, None, port_1(), 2).expect(rt, "ample memory"),
+    )
+    .expect(rt, "ample memory");
+    assert!(rt; winner(alloc, rules).expect(rt, "ample memory") == Some(1));
     let bundle = vec![in alloc;
-        edit(alloc, EditWord::Delete, None, port_1(), 0)?,
-        edit(alloc, EditWord::Add, None, port_1(), 3)?,
-    ]?;
-    assert_eq!(rt; rules.apply(bundle)?, 2);
-    assert_eq!(rt; winner(alloc, rules)?, Some(3));
-    Ok(())
+        edit(alloc, EditWord::Delete, None, port_1(), 0).expect(rt, "ample memory"),
+        edit(alloc, EditWord::Add, None, port_1(), 3).expect(rt, "ample memory"),
+    ]
+    .expect(rt, "ample memory");
+    assert!(rt; rules.apply(bundle).expect(rt, "ample memory") == 2);
+    assert!(rt; winner(alloc, rules).expect(rt, "ample memory") == Some(3));
 }
 
 #[test]
-fn a_bundle_replaces_a_rule_in_one_version(rt: HostRuntime) -> Result<(), Fail> {
+fn a_bundle_replaces_a_rule_in_one_version(rt: HostRuntime) {
     let mut rules = VersionedRules::new(rt.alloc());
-    let done = a_rule_is_replaced(&rt, rt.alloc(), &mut rules);
+    a_rule_is_replaced(&rt, rt.alloc(), &mut rules);
     drop(rules);
-    Ok(done?)
 }
 
 /// A rule, and a bundle that adds a more specific one and deletes it.
-fn another_rule_comes_and_goes(
-    rt: &impl Abort,
-    alloc: Global,
-    rules: &mut VersionedRules,
-) -> Result<(), AllocError>
+fn another_rule_comes_and_goes(rt: &impl Abort, alloc: Global, rules: &mut VersionedRules)
     requires { rules.old ≡ no_bundles }
 {
-    apply_one(alloc, rules, edit(alloc, EditWord::Add, None, port_1(), 2)?)?;
+    apply_one(
+        alloc,
+        rules,
+        edit(alloc, EditWord::Add, None, port_1(), 2).expect(rt, "ample memory"),
+    )
+    .expect(rt, "ample memory");
     let bundle = vec![in alloc;
-        edit(alloc, EditWord::Add, None, port_1_to_2(), 3)?,
-        edit(alloc, EditWord::DeleteStrict, None, port_1_to_2(), 0)?,
-    ]?;
-    assert_eq!(rt; rules.apply(bundle)?, 2);
-    assert_eq!(rt; winner(alloc, rules)?, Some(1));
-    Ok(())
+        edit(alloc, EditWord::Add, None, port_1_to_2(), 3).expect(rt, "ample memory"),
+        edit(alloc, EditWord::DeleteStrict, None, port_1_to_2(), 0).expect(rt, "ample memory"),
+    ]
+    .expect(rt, "ample memory");
+    assert!(rt; rules.apply(bundle).expect(rt, "ample memory") == 2);
+    assert!(rt; winner(alloc, rules).expect(rt, "ample memory") == Some(1));
 }
 
 #[test]
-fn a_rule_that_comes_and_goes_in_a_bundle_leaves_what_was_there(
-    rt: HostRuntime,
-) -> Result<(), Fail> {
+fn a_rule_that_comes_and_goes_in_a_bundle_leaves_what_was_there(rt: HostRuntime) {
     let mut rules = VersionedRules::new(rt.alloc());
-    let done = another_rule_comes_and_goes(&rt, rt.alloc(), &mut rules);
+    another_rule_comes_and_goes(&rt, rt.alloc(), &mut rules);
     drop(rules);
-    Ok(done?)
 }

@@ -1,7 +1,6 @@
 use exact_cache::{ExactCache, HashedKey};
 use ovs_fields::{FieldId, Key};
 use std::process::Abort;
-use std::test::Fail;
 
 /// More keys than a cache has slots.
 const MANY: u32 = 20_000;
@@ -19,8 +18,8 @@ fn expect_entry(rt: &impl Abort, cache: &ExactCache, key: &Key, entry: Option<u3
 }
 
 #[test]
-fn a_key_is_named_the_entry_that_was_put_last(rt: HostRuntime) -> Result<(), Fail> {
-    let mut cache = ExactCache::new(rt.alloc())?;
+fn a_key_is_named_the_entry_that_was_put_last(rt: HostRuntime) {
+    let mut cache = ExactCache::new(rt.alloc()).expect(&rt, "ample memory");
     let key = from_address(0x0a00_0001);
     let other = from_address(0x0a00_0002);
     expect_entry(&rt, &cache, &key, None);
@@ -32,12 +31,11 @@ fn a_key_is_named_the_entry_that_was_put_last(rt: HostRuntime) -> Result<(), Fai
     expect_entry(&rt, &cache, &key, Some(2));
     expect_entry(&rt, &cache, &other, None);
     drop(cache);
-    Ok(())
 }
 
 #[test]
-fn keys_that_share_a_hint_keep_their_own_entries(rt: HostRuntime) -> Result<(), Fail> {
-    let mut cache = ExactCache::new(rt.alloc())?;
+fn keys_that_share_a_hint_keep_their_own_entries(rt: HostRuntime) {
+    let mut cache = ExactCache::new(rt.alloc()).expect(&rt, "ample memory");
     let key = from_address(0x0a00_0001);
     let other = from_address(0x0a00_0ed0);
     cache.put(HashedKey::of(&key), 1, 0);
@@ -45,17 +43,15 @@ fn keys_that_share_a_hint_keep_their_own_entries(rt: HostRuntime) -> Result<(), 
     expect_entry(&rt, &cache, &key, Some(1));
     expect_entry(&rt, &cache, &other, Some(2));
     drop(cache);
-    Ok(())
 }
 
 #[test]
-fn a_full_cache_takes_more_keys(rt: HostRuntime) -> Result<(), Fail> {
-    let mut cache = ExactCache::new(rt.alloc())?;
+fn a_full_cache_takes_more_keys(rt: HostRuntime) {
+    let mut cache = ExactCache::new(rt.alloc()).expect(&rt, "ample memory");
     for address in 0..MANY {
         let key = from_address(address);
         cache.put(HashedKey::of(&key), address, 0);
         expect_entry(&rt, &cache, &key, Some(address));
     }
     drop(cache);
-    Ok(())
 }

@@ -7,7 +7,6 @@ use megaflow_table::{Entry, Megaflows};
 use ovs_fields::{FieldId, Key, Mask};
 use std::alloc::{AllocError, Global};
 use std::process::Abort;
-use std::test::Fail;
 
 /// The flow limit, which is more than the entries of any test.
 const LIMIT: u32 = 10;
@@ -136,111 +135,87 @@ fn expect_found(rt: &impl Abort, table: &Megaflows, key: &Key, number: Option<u3
 }
 
 /// Asserts which entries an entry of this key and mask would overlap.
-fn expect_overlapping(
-    rt: &impl Abort,
-    table: &Megaflows,
-    key: &Key,
-    mask: &Mask,
-    numbers: &[u32],
-) -> Result<(), AllocError> {
-    let overlapping = table.overlaps(key, mask)?;
-    assert_eq!(rt; overlapping.as_slice(), numbers);
-    Ok(())
+fn expect_overlapping(rt: &impl Abort, table: &Megaflows, key: &Key, mask: &Mask, numbers: &[u32]) {
+    let overlapping = table.overlaps(key, mask).expect(rt, "ample memory");
+    assert!(rt; overlapping.as_slice() == numbers);
 }
 
 /// Two entries, of which the second one goes.
-fn keys_find_their_entries(
-    rt: &impl Abort,
-    alloc: Global,
-    table: &mut Megaflows,
-) -> Result<(), AllocError> {
-    install_two(alloc, table)?;
-    assert_eq!(rt; table.len(), 2);
+fn keys_find_their_entries(rt: &impl Abort, alloc: Global, table: &mut Megaflows) {
+    install_two(alloc, table).expect(rt, "ample memory");
+    assert!(rt; table.len() == 2);
     expect_found(rt, table, &key_of(7, 2), Some(1));
     expect_found(rt, table, &key_of(8, 2), Some(4));
     expect_found(rt, table, &key_of(8, 3), None);
-    assert_eq!(rt; table.after(1), Some(4));
-    expect_overlapping(rt, table, &key_of(8, 0), &port_mask(), &[4])?;
+    assert!(rt; table.after(1) == Some(4));
+    expect_overlapping(rt, table, &key_of(8, 0), &port_mask(), &[4]);
     remove(table, 4);
-    assert_eq!(rt; table.numbers(), &[1][..]);
+    assert!(rt; table.numbers() == &[1][..]);
     expect_found(rt, table, &key_of(8, 2), None);
-    Ok(())
 }
 
 #[test]
-fn a_key_has_the_one_entry_that_covers_it(rt: HostRuntime) -> Result<(), Fail> {
+fn a_key_has_the_one_entry_that_covers_it(rt: HostRuntime) {
     let mut table = Megaflows::new(rt.alloc(), LIMIT);
-    let done = keys_find_their_entries(&rt, rt.alloc(), &mut table);
+    keys_find_their_entries(&rt, rt.alloc(), &mut table);
     drop(table);
-    Ok(done?)
 }
 
 /// Three entries, and what overlaps one of them, none and all.
-fn covered_masks_overlap(
-    rt: &impl Abort,
-    alloc: Global,
-    table: &mut Megaflows,
-) -> Result<(), AllocError> {
-    install_two(alloc, table)?;
-    install(table, entry(alloc, 6, key_of(9, 0), port_mask()))?;
-    expect_overlapping(rt, table, &key_of(9, 2), &whole_mask(), &[6])?;
-    expect_overlapping(rt, table, &key_of(8, 3), &whole_mask(), &[])?;
-    expect_overlapping(rt, table, &key_of(5, 2), &address_mask(), &[1, 4, 6])
+fn covered_masks_overlap(rt: &impl Abort, alloc: Global, table: &mut Megaflows) {
+    install_two(alloc, table).expect(rt, "ample memory");
+    install(table, entry(alloc, 6, key_of(9, 0), port_mask())).expect(rt, "ample memory");
+    expect_overlapping(rt, table, &key_of(9, 2), &whole_mask(), &[6]);
+    expect_overlapping(rt, table, &key_of(8, 3), &whole_mask(), &[]);
+    expect_overlapping(rt, table, &key_of(5, 2), &address_mask(), &[1, 4, 6]);
 }
 
 #[test]
-fn entries_overlap_where_one_mask_covers_the_other(rt: HostRuntime) -> Result<(), Fail> {
+fn entries_overlap_where_one_mask_covers_the_other(rt: HostRuntime) {
     let mut table = Megaflows::new(rt.alloc(), LIMIT);
-    let done = covered_masks_overlap(&rt, rt.alloc(), &mut table);
+    covered_masks_overlap(&rt, rt.alloc(), &mut table);
     drop(table);
-    Ok(done?)
 }
 
 /// Two entries, and what overlaps each of them alone and none.
-fn crossing_masks_overlap(
-    rt: &impl Abort,
-    alloc: Global,
-    table: &mut Megaflows,
-) -> Result<(), AllocError> {
-    install(table, entry(alloc, 2, key_of(7, 3), whole_mask()))?;
-    install(table, entry(alloc, 5, key_of(8, 0), type_mask()))?;
-    expect_overlapping(rt, table, &key_of(8, 3), &whole_mask(), &[5])?;
-    expect_overlapping(rt, table, &key_of(7, 4), &type_mask(), &[2])?;
-    expect_overlapping(rt, table, &key_of(9, 3), &whole_mask(), &[])
+fn crossing_masks_overlap(rt: &impl Abort, alloc: Global, table: &mut Megaflows) {
+    install(table, entry(alloc, 2, key_of(7, 3), whole_mask())).expect(rt, "ample memory");
+    install(table, entry(alloc, 5, key_of(8, 0), type_mask())).expect(rt, "ample memory");
+    expect_overlapping(rt, table, &key_of(8, 3), &whole_mask(), &[5]);
+    expect_overlapping(rt, table, &key_of(7, 4), &type_mask(), &[2]);
+    expect_overlapping(rt, table, &key_of(9, 3), &whole_mask(), &[]);
 }
 
 #[test]
-fn entries_overlap_where_neither_mask_covers_the_other(rt: HostRuntime) -> Result<(), Fail> {
+fn entries_overlap_where_neither_mask_covers_the_other(rt: HostRuntime) {
     let mut table = Megaflows::new(rt.alloc(), LIMIT);
-    let done = crossing_masks_overlap(&rt, rt.alloc(), &mut table);
+    crossing_masks_overlap(&rt, rt.alloc(), &mut table);
     drop(table);
-    Ok(done?)
 }
 
 /// An entry that decides two packets, is paid for the first one, and changes.
-fn packets_are_counted(
-    rt: &impl Abort,
-    alloc: Global,
-    table: &mut Megaflows,
-) -> Result<(), AllocError> {
-    install_two(alloc, table)?;
+fn packets_are_counted(rt: &impl Abort, alloc: Global, table: &mut Megaflows) {
+    install_two(alloc, table).expect(rt, "ample memory");
     hit(table, 4, 60, 5);
     pay(table, 4);
     hit(table, 4, 64, 9);
-    change(table, 4, 2, Visits::new(vec![in alloc; 3]?));
+    change(
+        table,
+        4,
+        2,
+        Visits::new(vec![in alloc; 3].expect(rt, "ample memory")),
+    );
     let counts = table
         .get(4)
         .map(|e| (e.bytes, e.owed_bytes, e.used, e.version));
-    assert_eq!(rt; counts, Some((124, 64, 9, 2)));
-    Ok(())
+    assert!(rt; counts == Some((124, 64, 9, 2)));
 }
 
 #[test]
-fn an_entry_counts_its_packets(rt: HostRuntime) -> Result<(), Fail> {
+fn an_entry_counts_its_packets(rt: HostRuntime) {
     let mut table = Megaflows::new(rt.alloc(), LIMIT);
-    let done = packets_are_counted(&rt, rt.alloc(), &mut table);
+    packets_are_counted(&rt, rt.alloc(), &mut table);
     drop(table);
-    Ok(done?)
 }
 
 /// An entry decides packets of one byte, so many.
@@ -261,33 +236,27 @@ fn expect_masks(rt: &impl Abort, table: &Megaflows, count: u32) {
 }
 
 /// Two entries, of which the second one is hit more often, and then goes.
-fn masks_are_ranked(
-    rt: &impl Abort,
-    alloc: Global,
-    table: &mut Megaflows,
-) -> Result<(), AllocError> {
-    install_two(alloc, table)?;
+fn masks_are_ranked(rt: &impl Abort, alloc: Global, table: &mut Megaflows) {
+    install_two(alloc, table).expect(rt, "ample memory");
     expect_rank(rt, table, 0, port_mask(), 0);
     hit_often(table, 4, 100);
     hit(table, 1, 60, 5);
     expect_rank(rt, table, 0, whole_mask(), 100);
     expect_rank(rt, table, 1, port_mask(), 1);
     expect_masks(rt, table, 2);
-    assert_eq!(rt; table.after(0), Some(1));
+    assert!(rt; table.after(0) == Some(1));
     expect_found(rt, table, &key_of(7, 2), Some(1));
     expect_found(rt, table, &key_of(8, 2), Some(4));
     let counts = table.get(1).map(|e| (e.packets, e.bytes, e.used));
-    assert_eq!(rt; counts, Some((1, 60, 5)));
+    assert!(rt; counts == Some((1, 60, 5)));
     remove(table, 4);
     expect_rank(rt, table, 0, port_mask(), 1);
     expect_masks(rt, table, 1);
-    Ok(())
 }
 
 #[test]
-fn masks_stand_by_their_hits(rt: HostRuntime) -> Result<(), Fail> {
+fn masks_stand_by_their_hits(rt: HostRuntime) {
     let mut table = Megaflows::new(rt.alloc(), LIMIT);
-    let done = masks_are_ranked(&rt, rt.alloc(), &mut table);
+    masks_are_ranked(&rt, rt.alloc(), &mut table);
     drop(table);
-    Ok(done?)
 }

@@ -5,7 +5,6 @@ use ovs_fields::{FieldId, Key, Mask};
 use rule_tables::{Actions, Edit, EditWord, Match, OfAction, VersionedRules};
 use std::alloc::{AllocError, Global};
 use std::process::Abort;
-use std::test::Fail;
 
 /// The priority of a rule that states none (ovs-ofctl(8)).
 const DEFAULT_PRIORITY: u16 = 32768;
@@ -122,54 +121,40 @@ fn expect_cookie(rt: &impl Abort, rules: &VersionedRules, version: u32, number: 
 }
 
 /// The versions in which both rules were added and modified.
-fn both_rules_are_modified(
-    rt: &impl Abort,
-    alloc: Global,
-    rules: &mut VersionedRules,
-) -> Result<(), AllocError>
+fn both_rules_are_modified(rt: &impl Abort, alloc: Global, rules: &mut VersionedRules)
     requires { rules.old ≡ no_bundles }
 {
-    make_five_versions(alloc, rules)?;
+    make_five_versions(alloc, rules).expect(rt, "ample memory");
     expect_output(rt, rules, 2, 1, 2);
     expect_output(rt, rules, 3, 1, 4);
     expect_cookie(rt, rules, 3, 1, 7);
     expect_output(rt, rules, 3, 2, 4);
-    Ok(())
 }
 
 #[test]
-fn a_modify_gives_its_actions_to_both_rules_from_its_version_on(
-    rt: HostRuntime,
-) -> Result<(), Fail> {
+fn a_modify_gives_its_actions_to_both_rules_from_its_version_on(rt: HostRuntime) {
     let mut rules = VersionedRules::new(rt.alloc());
-    let done = both_rules_are_modified(&rt, rt.alloc(), &mut rules);
+    both_rules_are_modified(&rt, rt.alloc(), &mut rules);
     drop(rules);
-    Ok(done?)
 }
 
 /// The versions in which one rule was deleted and the other one replaced.
-fn one_rule_is_left(
-    rt: &impl Abort,
-    alloc: Global,
-    rules: &mut VersionedRules,
-) -> Result<(), AllocError>
+fn one_rule_is_left(rt: &impl Abort, alloc: Global, rules: &mut VersionedRules)
     requires { rules.old ≡ no_bundles }
 {
-    make_five_versions(alloc, rules)?;
+    make_five_versions(alloc, rules).expect(rt, "ample memory");
     assert!(rt; !rules.live(4, 1));
     assert!(rt; rules.live(4, 2));
     assert!(rt; !rules.live(5, 2));
     expect_output(rt, rules, 5, 5, 5);
-    assert_eq!(rt; rules.changes(), 7);
-    Ok(())
+    assert!(rt; rules.changes() == 7);
 }
 
 #[test]
-fn the_last_version_has_the_last_rule_alone(rt: HostRuntime) -> Result<(), Fail> {
+fn the_last_version_has_the_last_rule_alone(rt: HostRuntime) {
     let mut rules = VersionedRules::new(rt.alloc());
-    let done = one_rule_is_left(&rt, rt.alloc(), &mut rules);
+    one_rule_is_left(&rt, rt.alloc(), &mut rules);
     drop(rules);
-    Ok(done?)
 }
 
 /// Asserts which rule wins for a key in table 0 of a version.
@@ -186,45 +171,36 @@ fn expect_winner(
 }
 
 /// The rules as they were added, and where a packet that comes in by port 1 finds one.
-fn rules_are_told_and_found(
-    rt: &impl Abort,
-    alloc: Global,
-    rules: &mut VersionedRules,
-) -> Result<(), AllocError>
+fn rules_are_told_and_found(rt: &impl Abort, alloc: Global, rules: &mut VersionedRules)
     requires { rules.old ≡ no_bundles }
 {
-    make_five_versions(alloc, rules)?;
-    assert_eq!(rt; rules.rule(1).map(|rule| rule.cookie), Some(7));
+    make_five_versions(alloc, rules).expect(rt, "ample memory");
+    assert!(rt; rules.rule(1).map(|rule| rule.cookie) == Some(7));
     assert!(rt; rules.rule(3).is_none());
     let mut key = Key::zero();
     key.set(FieldId::InPort, 1);
     expect_winner(rt, rules, 0, &key, None);
     expect_winner(rt, rules, 3, &key, Some(1));
     expect_winner(rt, rules, 4, &key, None);
-    Ok(())
 }
 
 #[test]
-fn a_rule_is_told_as_it_was_added_and_found_where_it_matches(rt: HostRuntime) -> Result<(), Fail> {
+fn a_rule_is_told_as_it_was_added_and_found_where_it_matches(rt: HostRuntime) {
     let mut rules = VersionedRules::new(rt.alloc());
-    let done = rules_are_told_and_found(&rt, rt.alloc(), &mut rules);
+    rules_are_told_and_found(&rt, rt.alloc(), &mut rules);
     drop(rules);
-    Ok(done?)
 }
 
 /// A rule for the packets whose outer tag is of VLAN 10, and what it matches of packets with two tags.
-fn outer_tags_are_matched(
-    rt: &impl Abort,
-    alloc: Global,
-    rules: &mut VersionedRules,
-) -> Result<(), AllocError>
+fn outer_tags_are_matched(rt: &impl Abort, alloc: Global, rules: &mut VersionedRules)
     requires { rules.old ≡ no_bundles }
 {
     apply_one(
         alloc,
         rules,
-        edit(alloc, EditWord::Add, None, vlan_10(), 2)?,
-    )?;
+        edit(alloc, EditWord::Add, None, vlan_10(), 2).expect(rt, "ample memory"),
+    )
+    .expect(rt, "ample memory");
     let mut key = Key::zero();
     key.set(FieldId::VlanTpid, 0x88a8);
     key.set(FieldId::VlanTci, 0x1014);
@@ -234,59 +210,53 @@ fn outer_tags_are_matched(
     key.set(FieldId::VlanTci, 0x100a);
     key.set(FieldId::VlanTci2, 0x1014);
     expect_winner(rt, rules, 1, &key, Some(1));
-    Ok(())
 }
 
 #[test]
-fn of_two_tags_the_outer_one_is_matched(rt: HostRuntime) -> Result<(), Fail> {
+fn of_two_tags_the_outer_one_is_matched(rt: HostRuntime) {
     let mut rules = VersionedRules::new(rt.alloc());
-    let done = outer_tags_are_matched(&rt, rt.alloc(), &mut rules);
+    outer_tags_are_matched(&rt, rt.alloc(), &mut rules);
     drop(rules);
-    Ok(done?)
 }
 
 /// A rule that is modified strictly, an edit that fits nothing, and a delete of all rules.
-fn strict_words_are_applied(
-    rt: &impl Abort,
-    alloc: Global,
-    rules: &mut VersionedRules,
-) -> Result<(), AllocError>
+fn strict_words_are_applied(rt: &impl Abort, alloc: Global, rules: &mut VersionedRules)
     requires { rules.old ≡ no_bundles }
 {
     apply_one(
         alloc,
         rules,
-        edit(alloc, EditWord::Add, Some(7), port_1(), 2)?,
-    )?;
+        edit(alloc, EditWord::Add, Some(7), port_1(), 2).expect(rt, "ample memory"),
+    )
+    .expect(rt, "ample memory");
     apply_one(
         alloc,
         rules,
-        edit(alloc, EditWord::ModifyStrict, Some(9), port_1(), 3)?,
-    )?;
+        edit(alloc, EditWord::ModifyStrict, Some(9), port_1(), 3).expect(rt, "ample memory"),
+    )
+    .expect(rt, "ample memory");
     apply_one(
         alloc,
         rules,
-        edit(alloc, EditWord::ModifyStrict, None, port_1_to_2(), 4)?,
-    )?;
+        edit(alloc, EditWord::ModifyStrict, None, port_1_to_2(), 4).expect(rt, "ample memory"),
+    )
+    .expect(rt, "ample memory");
     apply_one(
         alloc,
         rules,
-        edit(alloc, EditWord::Delete, None, Match::any(), 0)?,
-    )?;
+        edit(alloc, EditWord::Delete, None, Match::any(), 0).expect(rt, "ample memory"),
+    )
+    .expect(rt, "ample memory");
     expect_cookie(rt, rules, 1, 1, 7);
     expect_cookie(rt, rules, 3, 1, 9);
     expect_output(rt, rules, 3, 1, 3);
     assert!(rt; !rules.live(4, 1));
-    assert_eq!(rt; rules.changes(), 3);
-    Ok(())
+    assert!(rt; rules.changes() == 3);
 }
 
 #[test]
-fn a_strict_modify_gives_its_cookie_to_its_rule_and_none_where_it_fits_no_rule(
-    rt: HostRuntime,
-) -> Result<(), Fail> {
+fn a_strict_modify_gives_its_cookie_to_its_rule_and_none_where_it_fits_no_rule(rt: HostRuntime) {
     let mut rules = VersionedRules::new(rt.alloc());
-    let done = strict_words_are_applied(&rt, rt.alloc(), &mut rules);
+    strict_words_are_applied(&rt, rt.alloc(), &mut rules);
     drop(rules);
-    Ok(done?)
 }

@@ -11,7 +11,6 @@ use pipe_model::{Plain, SpareLists, Translating};
 use rule_tables::{Actions, Edit, EditWord, Match, OfAction, VersionedRules};
 use std::alloc::{AllocError, Global};
 use std::process::Abort;
-use std::test::Fail;
 use xlate_pipeline::plain;
 
 /// The ports; packets come in by the first one.
@@ -103,21 +102,20 @@ fn ipv4_key(ttl: u8) -> Key {
 
 // Table 1 leads to itself as long as the TTL can be lowered, so a packet with a TTL of n makes a lookup n deep.
 #[test]
-fn lookups_are_made_64_deep(rt: HostRuntime) -> Result<(), Fail> {
+fn lookups_are_made_64_deep(rt: HostRuntime) {
     let first = [OfAction::Resubmit(1), OfAction::Output(2)];
     let second = [OfAction::DecTtl, OfAction::Resubmit(1)];
-    let deep = made_of(rt.alloc(), &first, &second, &ipv4_key(64))?;
+    let deep = made_of(rt.alloc(), &first, &second, &ipv4_key(64)).expect(&rt, "ample memory");
     // A set of the TTL and an output.
     expect_lengths(&rt, &deep, 2, 65);
     drop(deep);
-    let deeper = made_of(rt.alloc(), &first, &second, &ipv4_key(65))?;
+    let deeper = made_of(rt.alloc(), &first, &second, &ipv4_key(65)).expect(&rt, "ample memory");
     expect_lengths(&rt, &deeper, 0, 65);
-    Ok(())
 }
 
 // One lookup, 7 that it leads to, and 72 that each of these leads to: 512.
 #[test]
-fn a_translation_makes_512_lookups(rt: HostRuntime) -> Result<(), Fail> {
+fn a_translation_makes_512_lookups(rt: HostRuntime) {
     let second = [OfAction::Resubmit(2); 72];
     let again = OfAction::Resubmit(1);
     let most = [
@@ -130,7 +128,7 @@ fn a_translation_makes_512_lookups(rt: HostRuntime) -> Result<(), Fail> {
         again,
         OfAction::Output(2),
     ];
-    let done = made_of(rt.alloc(), &most, &second, &Key::zero())?;
+    let done = made_of(rt.alloc(), &most, &second, &Key::zero()).expect(&rt, "ample memory");
     expect_lengths(&rt, &done, 1, 8);
     drop(done);
     let more = [
@@ -144,20 +142,24 @@ fn a_translation_makes_512_lookups(rt: HostRuntime) -> Result<(), Fail> {
         again,
         OfAction::Output(2),
     ];
-    let stopped = made_of(rt.alloc(), &more, &second, &Key::zero())?;
+    let stopped = made_of(rt.alloc(), &more, &second, &Key::zero()).expect(&rt, "ample memory");
     expect_lengths(&rt, &stopped, 0, 8);
-    Ok(())
 }
 
 #[test]
-fn a_translation_emits_128_actions(rt: HostRuntime) -> Result<(), Fail> {
-    let most = made_of(rt.alloc(), &[OfAction::Output(2); 128], &[], &Key::zero())?;
+fn a_translation_emits_128_actions(rt: HostRuntime) {
+    let most = made_of(rt.alloc(), &[OfAction::Output(2); 128], &[], &Key::zero()).expect(
+        &rt,
+        "ample memory",
+    );
     expect_lengths(&rt, &most, 128, 1);
     drop(most);
-    let stopped = made_of(rt.alloc(), &[OfAction::Output(2); 129], &[], &Key::zero())?;
+    let stopped = made_of(rt.alloc(), &[OfAction::Output(2); 129], &[], &Key::zero()).expect(
+        &rt,
+        "ample memory",
+    );
     expect_lengths(&rt, &stopped, 0, 1);
-    assert_eq!(rt; stopped.visits.as_slice(), [1].as_slice());
-    Ok(())
+    assert!(rt; stopped.visits.as_slice() == [1].as_slice());
 }
 
 /// Sends a packet that visits a rule to all these ports but the first one.
@@ -194,30 +196,34 @@ fn room_of(made: Plain) -> (SpareLists, (usize, usize)) {
 }
 
 #[test]
-fn lists_that_are_handed_in_are_used_again(rt: HostRuntime) -> Result<(), Fail> {
-    let many = sent_to(SpareLists::new(rt.alloc()), &[9, 8, 7, 6, 5, 4, 3, 2, 1])?;
+fn lists_that_are_handed_in_are_used_again(rt: HostRuntime) {
+    let many = sent_to(SpareLists::new(rt.alloc()), &[9, 8, 7, 6, 5, 4, 3, 2, 1]).expect(
+        &rt,
+        "ample memory",
+    );
     expect_lengths(&rt, &many, 8, 1);
     let (many, room) = room_of(many);
-    let few = sent_to(many, &PORTS)?;
+    let few = sent_to(many, &PORTS).expect(&rt, "ample memory");
     expect_sent_to_2(&rt, &few);
     let (few, room_after) = room_of(few);
     drop(few);
-    assert_eq!(rt; room_after, room);
-    let fresh = sent_to(SpareLists::new(rt.alloc()), &PORTS)?;
+    assert!(rt; room_after == room);
+    let fresh = sent_to(SpareLists::new(rt.alloc()), &PORTS).expect(&rt, "ample memory");
     expect_sent_to_2(&rt, &fresh);
-    Ok(())
 }
 
 // Ports in any order, one of them twice and the first one left out.
 #[test]
-fn a_flood_goes_out_in_rising_order(rt: HostRuntime) -> Result<(), Fail> {
-    let sent = sent_to(SpareLists::new(rt.alloc()), &[65535, 2, 1, 3, 0, 2])?;
+fn a_flood_goes_out_in_rising_order(rt: HostRuntime) {
+    let sent = sent_to(SpareLists::new(rt.alloc()), &[65535, 2, 1, 3, 0, 2]).expect(
+        &rt,
+        "ample memory",
+    );
     let rising = [0, 2, 2, 3, 65535].map(DpAction::Output);
     assert!(rt; sent.actions.as_slice() == rising.as_slice());
     drop(sent);
-    let nowhere = sent_to(SpareLists::new(rt.alloc()), &[1, 1])?;
-    assert_eq!(rt; nowhere.actions.len(), 0);
-    Ok(())
+    let nowhere = sent_to(SpareLists::new(rt.alloc()), &[1, 1]).expect(&rt, "ample memory");
+    assert!(rt; nowhere.actions.len() == 0);
 }
 
 /// The type of a customer's tag, and of a service provider's (IEEE 802.1Q, table 9-1).
@@ -261,7 +267,7 @@ fn expect_done(
 }
 
 #[test]
-fn a_tag_is_pushed_outside_of_another(rt: HostRuntime) -> Result<(), Fail> {
+fn a_tag_is_pushed_outside_of_another(rt: HostRuntime) {
     let actions = [
         OfAction::PushVlan(SERVICE),
         OfAction::SetVid(20),
@@ -272,23 +278,21 @@ fn a_tag_is_pushed_outside_of_another(rt: HostRuntime) -> Result<(), Fail> {
         tci: 0x1014,
     };
     let done = [pushed, DpAction::Output(2)];
-    expect_done(&rt, rt.alloc(), &actions, &one_tag(), &done)?;
-    Ok(())
+    expect_done(&rt, rt.alloc(), &actions, &one_tag(), &done).expect(&rt, "ample memory");
 }
 
 #[test]
-fn a_third_tag_ends_a_translation(rt: HostRuntime) -> Result<(), Fail> {
+fn a_third_tag_ends_a_translation(rt: HostRuntime) {
     let actions = [
         OfAction::Output(2),
         OfAction::PushVlan(CUSTOMER),
         OfAction::Output(2),
     ];
-    expect_done(&rt, rt.alloc(), &actions, &two_tags(), &[])?;
-    Ok(())
+    expect_done(&rt, rt.alloc(), &actions, &two_tags(), &[]).expect(&rt, "ample memory");
 }
 
 #[test]
-fn a_pop_takes_the_outer_tag(rt: HostRuntime) -> Result<(), Fail> {
+fn a_pop_takes_the_outer_tag(rt: HostRuntime) {
     let actions = [
         OfAction::PopVlan,
         OfAction::Output(2),
@@ -297,13 +301,12 @@ fn a_pop_takes_the_outer_tag(rt: HostRuntime) -> Result<(), Fail> {
     ];
     let out = DpAction::Output(2);
     let done = [DpAction::PopVlan, out, DpAction::PopVlan, out];
-    expect_done(&rt, rt.alloc(), &actions, &two_tags(), &done)?;
-    Ok(())
+    expect_done(&rt, rt.alloc(), &actions, &two_tags(), &done).expect(&rt, "ample memory");
 }
 
 // The identifier that is written is that of the inner tag, which keeps its type.
 #[test]
-fn after_a_pop_the_inner_tag_is_written(rt: HostRuntime) -> Result<(), Fail> {
+fn after_a_pop_the_inner_tag_is_written(rt: HostRuntime) {
     let actions = [OfAction::PopVlan, OfAction::SetVid(30), OfAction::Output(2)];
     let pushed = DpAction::PushVlan {
         tpid: CUSTOMER,
@@ -311,6 +314,5 @@ fn after_a_pop_the_inner_tag_is_written(rt: HostRuntime) -> Result<(), Fail> {
     };
     let pop = DpAction::PopVlan;
     let done = [pop, pop, pushed, DpAction::Output(2)];
-    expect_done(&rt, rt.alloc(), &actions, &two_tags(), &done)?;
-    Ok(())
+    expect_done(&rt, rt.alloc(), &actions, &two_tags(), &done).expect(&rt, "ample memory");
 }
