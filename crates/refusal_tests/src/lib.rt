@@ -3,8 +3,8 @@
 //! The contract of `run_switch` says which refusal comes first and what is left then. Shown here is that the definitions give
 //! the status and the text that one expects: of faulty words (`words`) and files (`refusals`), of files that are too great, which
 //! are made while they are read (`great`, `made`), and of calls of the outside that fail in reading and writing, some by a
-//! table (`failing`), and all of a run in turn. What lends a table (`tables`) proves in a time that grows with it, so no
-//! table is long.
+//! table (`failing`), and all of a run in turn. A table is a text, as the essay of `switch_runs` has it, and each test says how
+//! many runs its tables have.
 //!
 //! Nothing is built on this crate.
 #![tactic(auto)]
@@ -17,8 +17,6 @@ mod great;
 mod made;
 #[cfg(test)]
 mod refusals;
-#[cfg(test)]
-mod tables;
 #[cfg(test)]
 mod tests;
 #[cfg(test)]

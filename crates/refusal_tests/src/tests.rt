@@ -1,26 +1,25 @@
 ghost use Rattle.std.specs.Prelude.{◌≡◌, IfOk};
 ghost use Rattle.edge_io.specs.declared.outside.InUse.TheVariants.{Nothing};
 
-use crate::failing::{Unwritten, WEB_READING_CALLS};
+use crate::failing::{UNWRITTEN, UNWRITTEN_OUTLETS, WEB_READING_CALLS};
 use crate::made::MadeShelf;
-use crate::refusals::{FORWARD, Fault, ONE_FRAME, Refused, TraceFault};
-use crate::tables::{
-    faulty_edits, faulty_mirrors, faulty_steps, faulty_traces, files_unwritten, forwarded_run,
-    mirrored_run, outlets_unwritten, refused_runs, web_run,
+use crate::refusals::{
+    EDITS_FAULTS, MIRROR_FAULTS, REFUSED, STEPS_FAULTS, TRACE_FAULTS, WITH_EDITS, WITH_MIRRORS,
+    WITH_STEPS, WITH_TRACE,
 };
+use crate::words::{BESIDE_WORDS, WORDS_REFUSED};
 use edge_io::Shelf;
 use edge_io::memory::{MemoryShelf, MemorySink};
 use std::alloc::{AllocError, Global};
+use std::process::Abort;
 use std::sync::Wait;
-use std::test::Fail;
 use std::thread::Threads;
-use switch_runs::bytes::{bytes_of, text_of};
-use switch_runs::cases::{Bytes, MIRRORS, Outlets, Run, STEPS, WORDS};
-use switch_runs::known;
+use switch_runs::files::{File, begin_with, files_of, only, shelf_of};
+use switch_runs::known::{FORWARDED, MIRRORED_FLOW, WEB};
 use switch_runs::running::{
-    DONE, Ended, File, Inputs, are_files, ends_as_shown, files_of, files_with_outlets, run_over,
-    run_with_failing, shelf_of, status_of,
+    Ended, ends_as_told, first_that_differs, run_over, run_with_failing, status_of,
 };
+use switch_runs::texts::{RunText, Unread};
 
 // The status of a run in which reading failed.
 const READ_FAULT: u8 = 5;
@@ -28,366 +27,174 @@ const READ_FAULT: u8 = 5;
 // The status of a run in which writing failed.
 const WRITE_FAULT: u8 = 6;
 
+// A rule that sends the frames of port 1 to port 2.
+const FORWARD: &str = "in_port=1,actions=2";
+
 // The most bytes of a line.
 const MOST_BYTES: usize = 4_096;
 
 // The most bytes of a mirrors file.
 const MOST_MIRRORS_BYTES: usize = 65_536;
 
-// Whether a run is refused so, and leaves no file.
-fn is_refused_as_shown<R: Threads + Wait + Sync>(
+// Asserts that the runs of a table end as they show, with what the other text says of all, and that it has so many.
+fn assert_shown<R: Threads + Wait + Sync + Abort>(
     rt: &R,
     alloc: Global,
-    run: &Refused<'_>,
-) -> Result<bool, AllocError> {
-    let inputs = Inputs {
-        edits: run.edits,
-        steps: run.steps,
-        mirrors: run.mirrors,
-        traces: run.traces,
-    };
-    let shelf = shelf_of(alloc, &inputs, run.failing_call)?;
-    let ended = run_over(rt, alloc, run.words, shelf, Vec::new(alloc))?;
-    let shown = has_refused(alloc, &ended, run);
-    drop(ended);
-    shown
-}
-
-fn has_refused(alloc: Global, ended: &Ended, run: &Refused<'_>) -> Result<bool, AllocError> {
-    let told = ended.tells(alloc, run.status, run.text)?;
-    Ok(told && ended.leaves(&[]) && ended.has_opened(run.opened))
-}
-
-// The run whose edits have this fault.
-fn with_edits(fault: &Fault) -> Refused<'static> {
-    Refused {
-        shows: fault.shows,
-        words: WORDS,
-        edits: fault.file,
-        steps: "",
-        mirrors: "",
-        traces: ONE_FRAME,
-        failing_call: 0,
-        status: fault.status,
-        text: fault.text,
-        opened: &["edits"],
-    }
-}
-
-// The run whose steps file has this fault.
-fn with_steps(fault: &Fault) -> Refused<'static> {
-    Refused {
-        shows: fault.shows,
-        words: STEPS,
-        edits: FORWARD,
-        steps: fault.file,
-        mirrors: "",
-        traces: ONE_FRAME,
-        failing_call: 0,
-        status: fault.status,
-        text: fault.text,
-        opened: &["edits", "steps"],
-    }
-}
-
-// The run whose mirrors file has this fault.
-fn with_mirrors(fault: &Fault) -> Refused<'static> {
-    Refused {
-        shows: fault.shows,
-        words: MIRRORS,
-        edits: FORWARD,
-        steps: "",
-        mirrors: fault.file,
-        traces: ONE_FRAME,
-        failing_call: 0,
-        status: fault.status,
-        text: fault.text,
-        opened: &["edits", "mirrors"],
-    }
-}
-
-// The run whose trace has this fault.
-fn with_trace(fault: &TraceFault) -> Refused<'static> {
-    Refused {
-        shows: fault.shows,
-        words: WORDS,
-        edits: FORWARD,
-        steps: "",
-        mirrors: "",
-        traces: fault.traces,
-        failing_call: 0,
-        status: 4,
-        text: fault.text,
-        opened: &["edits", "a.pcap"],
-    }
+    table: &str,
+    like: &str,
+    count: usize,
+) {
+    let differs = first_that_differs(rt, alloc, table, like, count);
+    assert!(rt; differs.is_none(), "{}", differs.unwrap_or(""));
 }
 
 #[test]
-fn faulty_files_are_refused(rt: HostRuntime) -> Result<(), Fail> {
-    let alloc = rt.alloc();
-    let edits = faulty_edits().iter().map(with_edits);
-    let steps = faulty_steps().iter().map(with_steps);
-    let mirrors = faulty_mirrors().iter().map(with_mirrors);
-    let traces = faulty_traces().iter().map(with_trace);
-    for run in edits.chain(steps).chain(mirrors).chain(traces) {
-        assert!(rt; is_refused_as_shown(&rt, alloc, &run)?, "{}", run.shows);
-    }
-    Ok(())
+fn words_and_files_are_refused_by_their_first_fault(rt: HostRuntime) {
+    assert_shown(&rt, rt.alloc(), WORDS_REFUSED, BESIDE_WORDS, 14);
+    assert_shown(&rt, rt.alloc(), EDITS_FAULTS, WITH_EDITS, 18);
+    assert_shown(&rt, rt.alloc(), STEPS_FAULTS, WITH_STEPS, 8);
+    assert_shown(&rt, rt.alloc(), MIRROR_FAULTS, WITH_MIRRORS, 10);
+    assert_shown(&rt, rt.alloc(), TRACE_FAULTS, WITH_TRACE, 10);
+    assert_shown(&rt, rt.alloc(), REFUSED, "", 15);
 }
 
-// A trace of one frame that ends after so many bytes.
-fn trace_cut_at(alloc: Global, bytes: usize) -> Result<Vec<u8>, AllocError> {
-    let mut trace = bytes_of(alloc, &Bytes::At(&[1]))?;
-    trace.truncate(bytes);
-    Ok(trace)
-}
-
-fn push_file(
-    alloc: Global,
-    files: &mut Vec<File>,
-    name: &str,
-    bytes: Vec<u8>,
-) -> Result<(), AllocError> {
-    files.push((String::from_str(alloc, name)?, bytes))?;
-    Ok(())
-}
-
-// Adds the files of a run over such a trace.
-fn push_cut_files(alloc: Global, files: &mut Vec<File>, bytes: usize) -> Result<(), AllocError> {
-    push_file(alloc, files, "edits", text_of(alloc, FORWARD)?)?;
-    push_file(alloc, files, "a.pcap", trace_cut_at(alloc, bytes)?)
-}
-
-fn files_cut_at(alloc: Global, bytes: usize) -> Result<Vec<File>, AllocError> {
-    let mut files = Vec::new(alloc);
-    push_cut_files(alloc, &mut files, bytes)?;
-    Ok(files)
-}
-
-// Whether a trace of one frame that ends after so many bytes is refused.
-fn is_refused_cut_at<R: Threads + Wait + Sync>(
+// Whether a trace of one frame is refused without so many bytes at its end.
+fn is_refused_cut<R: Threads + Wait + Sync>(
     rt: &R,
     alloc: Global,
-    bytes: usize,
-) -> Result<bool, AllocError> {
-    let shelf = MemoryShelf::new(alloc, files_cut_at(alloc, bytes)?, Vec::new(alloc));
-    let ended = run_over(rt, alloc, WORDS, shelf, Vec::new(alloc))?;
-    let left = ended.leaves(&[]);
-    let told = ended.tells(alloc, 4, "a.pcap: short record at 24");
-    drop(ended);
-    Ok(told? && left)
+    bytes: u32,
+) -> Result<bool, Unread> {
+    let trace = format!(in alloc; "trace a.pcap 1 -{bytes}")?;
+    let told = "prints a.pcap: short record at 24";
+    let run = format!(in alloc; "shows a record cut short\n{trace}\n{told}")?;
+    ends_as_told(rt, alloc, RunText::new(run.as_str(), WITH_TRACE))
 }
 
 // The header of the file has 24 bytes, and the record 76.
 #[test]
-fn a_record_that_ends_anywhere_is_short(rt: HostRuntime) -> Result<(), Fail> {
-    let alloc = rt.alloc();
-    for bytes in 25..100 {
-        assert!(rt; is_refused_cut_at(&rt, alloc, bytes)?, "{bytes}");
+fn a_record_that_ends_anywhere_is_short(rt: HostRuntime) {
+    for bytes in 1..76 {
+        assert!(rt;
+            is_refused_cut(&rt, rt.alloc(), bytes).unwrap_or(false),
+            "{bytes}"
+        );
     }
-    Ok(())
 }
 
-#[test]
-fn the_first_refusal_is_told(rt: HostRuntime) -> Result<(), Fail> {
-    let alloc = rt.alloc();
-    for run in refused_runs() {
-        assert!(rt; is_refused_as_shown(&rt, alloc, run)?, "{}", run.shows);
-    }
-    Ok(())
-}
+// What a run says before edits of a line of 4,096 bytes.
+const LONGEST_EDITS: &str = "\
+shows a line of 4,096 bytes in edits
+edits ";
 
-// A line that is so many bytes long by spaces at its end.
-fn padded(alloc: Global, line: &str, bytes: usize) -> Result<String, AllocError> {
-    let mut padded = String::from_str(alloc, line)?;
-    for _ in padded.len()..bytes {
+// And before edits of a longer line.
+const LONGER_EDITS: &str = "\
+shows a line of 4,097 bytes in edits
+opened edits
+status 7
+prints limit: line 4096
+edits ";
+
+// And before steps of one.
+const LONGER_STEPS: &str = "\
+shows a line of 4,097 bytes in steps
+status 7
+prints limit: line 4096
+steps ";
+
+// And before mirrors of one.
+const LONGER_MIRRORS: &str = "\
+shows a line of 4,097 bytes in mirrors
+status 7
+prints limit: line 4096
+mirrors ";
+
+// And before mirrors that are too many bytes.
+const TOO_MANY_BYTES: &str = "\
+shows a mirrors file that is too long
+status 7
+prints limit: mirrors-bytes 65536
+mirrors ";
+
+// What comes before a line, and the line, which is so many bytes long by spaces at its end.
+fn padded(alloc: Global, begin: &str, line: &str, bytes: usize) -> Result<String, AllocError> {
+    let mut padded = format!(in alloc; "{begin}{line}")?;
+    for _ in line.len()..bytes {
         padded.push(' ')?;
     }
     Ok(padded)
 }
 
-// A run that is refused for a line in the last of the files that it opens.
-fn with_long_line<'a>(
-    edits: &'a str,
-    steps: &'a str,
-    opened: &'static [&'static str],
-) -> Refused<'a> {
-    Refused {
-        shows: "a line of 4,097 bytes",
-        words: STEPS,
-        edits,
-        steps,
-        mirrors: "",
-        traces: ONE_FRAME,
-        failing_call: 0,
-        status: 7,
-        text: "limit: line 4096",
-        opened,
-    }
-}
-
-// Whether a run whose edits are as long as a line may be ends as shown.
-fn takes_the_longest_line<R: Threads + Wait + Sync>(
+// Whether a run whose last line is so long by spaces ends as it says.
+fn ends_with_line<R: Threads + Wait + Sync>(
     rt: &R,
     alloc: Global,
-) -> Result<bool, AllocError> {
-    let longest = padded(alloc, FORWARD, MOST_BYTES)?;
-    let run = Run {
-        edits: longest.as_str(),
-        ..known::FORWARDED
-    };
-    ends_as_shown(rt, alloc, &run, None)
-}
-
-fn refuses_longer_edits<R: Threads + Wait + Sync>(
-    rt: &R,
-    alloc: Global,
-) -> Result<bool, AllocError> {
-    let edits = padded(alloc, FORWARD, MOST_BYTES + 1)?;
-    let run = with_long_line(edits.as_str(), "", &["edits"]);
-    is_refused_as_shown(rt, alloc, &run)
-}
-
-fn refuses_longer_steps<R: Threads + Wait + Sync>(
-    rt: &R,
-    alloc: Global,
-) -> Result<bool, AllocError> {
-    let steps = padded(alloc, "edit", MOST_BYTES + 1)?;
-    let run = with_long_line(FORWARD, steps.as_str(), &["edits", "steps"]);
-    is_refused_as_shown(rt, alloc, &run)
-}
-
-#[test]
-fn a_line_has_at_most_4096_bytes(rt: HostRuntime) -> Result<(), Fail> {
-    let alloc = rt.alloc();
-    assert!(rt; takes_the_longest_line(&rt, alloc)?);
-    assert!(rt; refuses_longer_edits(&rt, alloc)?);
-    assert!(rt; refuses_longer_steps(&rt, alloc)?);
-    Ok(())
-}
-
-// A run with this mirrors file, which passes a limit.
-fn with_long_mirrors<'a>(mirrors: &'a str, text: &'static str) -> Refused<'a> {
-    Refused {
-        shows: "a mirrors file that is too long",
-        words: MIRRORS,
-        edits: FORWARD,
-        steps: "",
-        mirrors,
-        traces: ONE_FRAME,
-        failing_call: 0,
-        status: 7,
-        text,
-        opened: &["edits", "mirrors"],
-    }
-}
-
-// Whether a mirrors file of a line of so many bytes is refused with this text.
-fn refuses_mirrors<R: Threads + Wait + Sync>(
-    rt: &R,
-    alloc: Global,
+    begin: &str,
+    line: &str,
     bytes: usize,
-    text: &'static str,
-) -> Result<bool, AllocError> {
-    let mirrors = padded(alloc, "select_all", bytes)?;
-    is_refused_as_shown(rt, alloc, &with_long_mirrors(mirrors.as_str(), text))
+    like: &str,
+) -> Result<bool, Unread> {
+    let run = padded(alloc, begin, line, bytes)?;
+    ends_as_told(rt, alloc, RunText::new(run.as_str(), like))
+}
+
+fn assert_ends_with_line<R: Threads + Wait + Sync + Abort>(
+    rt: &R,
+    alloc: Global,
+    begin: &str,
+    line: &str,
+    bytes: usize,
+    like: &str,
+) {
+    let told = ends_with_line(rt, alloc, begin, line, bytes, like);
+    assert!(rt; told.unwrap_or(false), "{}", begin);
+}
+
+// A line has at most 4,096 bytes, and a mirrors file 65,536.
+#[test]
+fn lines_and_mirrors_files_have_their_limits(rt: HostRuntime) {
+    let alloc = rt.alloc();
+    assert_ends_with_line(&rt, alloc, LONGEST_EDITS, FORWARD, MOST_BYTES, FORWARDED);
+    assert_ends_with_line(
+        &rt,
+        alloc,
+        LONGER_EDITS,
+        FORWARD,
+        MOST_BYTES + 1,
+        WITH_STEPS,
+    );
+    assert_ends_with_line(&rt, alloc, LONGER_STEPS, "edit", MOST_BYTES + 1, WITH_STEPS);
+    let line = "select_all";
+    assert_ends_with_line(
+        &rt,
+        alloc,
+        LONGER_MIRRORS,
+        line,
+        MOST_BYTES + 1,
+        WITH_MIRRORS,
+    );
+    assert_ends_with_line(
+        &rt,
+        alloc,
+        TOO_MANY_BYTES,
+        line,
+        MOST_MIRRORS_BYTES,
+        WITH_MIRRORS,
+    );
 }
 
 #[test]
-fn mirrors_have_at_most_65536_bytes_and_4096_in_a_line(rt: HostRuntime) -> Result<(), Fail> {
-    let alloc = rt.alloc();
-    assert!(rt; refuses_mirrors(&rt, alloc, MOST_BYTES + 1, "limit: line 4096")?);
-    assert!(rt; refuses_mirrors(&rt, alloc, MOST_MIRRORS_BYTES, "limit: mirrors-bytes 65536")?);
-    Ok(())
+fn failed_writes_are_told(rt: HostRuntime) {
+    assert_shown(&rt, rt.alloc(), UNWRITTEN, FORWARDED, 6);
+    assert_shown(&rt, rt.alloc(), UNWRITTEN_OUTLETS, MIRRORED_FLOW, 4);
 }
 
-// The shelf of the run `FORWARDED`, whose call of this number fails.
-fn shelf_of_one_frame(alloc: Global, failing_call: u64) -> Result<MemoryShelf, AllocError>
-    ensures { IfOk result (λ shelf. ⟦<MemoryShelf as Shelf>⟧.in_use shelf ≡ Nothing) }
-{
-    shelf_of(alloc, &Inputs::of(forwarded_run()), failing_call)
+// The known runs that are made to fail, lent: where a text is named, all of it is written out for the proof.
+fn web_run() -> RunText<'static> {
+    RunText::new(WEB, "")
 }
 
-// Whether a file in use is the one that is to be in use.
-fn is_file_in_use(
-    alloc: Global,
-    file: Option<(&str, &[u8])>,
-    wanted: Option<(&str, &str)>,
-) -> Result<bool, AllocError> {
-    match (file, wanted) {
-        (Some((name, bytes)), Some((wanted, lines))) => {
-            let text = text_of(alloc, lines)?;
-            Ok(name == wanted && bytes == text.as_slice())
-        }
-        (file, wanted) => Ok(file.is_none() && wanted.is_none()),
-    }
-}
-
-// Whether these are as many of the wanted files.
-fn are_first_files(files: &[File], mut wanted: Vec<File>, count: usize) -> bool {
-    wanted.truncate(count);
-    are_files(files, &wanted)
-}
-
-// Whether a run tells that a call failed in writing, and left what it is to leave of the wanted files, where there was
-// memory for them.
-fn is_cut(
-    alloc: Global,
-    ended: &Ended,
-    unwritten: &Unwritten,
-    wanted: Result<Vec<File>, AllocError>,
-) -> Result<bool, AllocError> {
-    let whole = are_first_files(ended.shelf.made(), wanted?, unwritten.whole);
-    let told = ended.tells(alloc, WRITE_FAULT, unwritten.text)?;
-    Ok(told && whole && is_file_in_use(alloc, ended.shelf.current(), unwritten.in_use)?)
-}
-
-// Whether a call that fails in writing is told, and leaves what it is to leave.
-fn is_cut_as_shown<R: Threads + Wait + Sync>(
-    rt: &R,
-    alloc: Global,
-    unwritten: &Unwritten,
-) -> Result<bool, AllocError> {
-    let shelf = shelf_of_one_frame(alloc, unwritten.failing_call)?;
-    let ended = run_over(rt, alloc, forwarded_run().words, shelf, Vec::new(alloc))?;
-    let cut = is_cut(alloc, &ended, unwritten, files_of(alloc, forwarded_run()));
-    drop(ended);
-    cut
-}
-
-// The same in a run with flows and a mirror.
-fn is_cut_beside<R: Threads + Wait + Sync>(
-    rt: &R,
-    alloc: Global,
-    outlets: &Outlets,
-    unwritten: &Unwritten,
-) -> Result<bool, AllocError> {
-    let run = &outlets.run;
-    let shelf = shelf_of(alloc, &Inputs::beside(outlets), unwritten.failing_call)?;
-    let ended = run_over(rt, alloc, run.words, shelf, Vec::new(alloc))?;
-    let cut = is_cut(alloc, &ended, unwritten, files_with_outlets(alloc, outlets));
-    drop(ended);
-    cut
-}
-
-#[test]
-fn failed_writes_are_told(rt: HostRuntime) -> Result<(), Fail> {
-    let alloc = rt.alloc();
-    for unwritten in files_unwritten() {
-        assert!(rt;
-            is_cut_as_shown(&rt, alloc, unwritten)?,
-            "{}",
-            unwritten.shows
-        );
-    }
-    for unwritten in outlets_unwritten() {
-        assert!(rt;
-            is_cut_beside(&rt, alloc, mirrored_run(), unwritten)?,
-            "{}",
-            unwritten.shows
-        );
-    }
-    Ok(())
+fn forwarded_run() -> RunText<'static> {
+    RunText::new(FORWARDED, "")
 }
 
 // Whether the run `WEB` whose call of this number failed tells the file in use.
@@ -404,11 +211,10 @@ fn tells_file_in_use(
 }
 
 // Whether it tells that, and left the files before it whole.
-fn is_told_and_left(alloc: Global, ended: &Ended, failing_call: u64) -> Result<bool, AllocError> {
+fn is_told_and_left(alloc: Global, ended: &Ended, failing_call: u64) -> Result<bool, Unread> {
     let wanted = files_of(alloc, web_run())?;
-    let told = tells_file_in_use(alloc, ended, failing_call, &wanted);
-    let left = are_first_files(ended.shelf.made(), wanted, ended.shelf.made().len());
-    Ok(told? && left)
+    let told = tells_file_in_use(alloc, ended, failing_call, &wanted)?;
+    Ok(told && begin_with(&wanted, ended.shelf.made()))
 }
 
 // Whether the run `WEB` whose call of this number fails tells the file in use, and leaves those before it whole.
@@ -416,23 +222,20 @@ fn is_told_and_cut<R: Threads + Wait + Sync>(
     rt: &R,
     alloc: Global,
     failing_call: u64,
-) -> Result<bool, AllocError> {
+) -> Result<bool, Unread> {
     let ended = run_with_failing(rt, alloc, web_run(), failing_call)?;
     let told = is_told_and_left(alloc, &ended, failing_call);
     drop(ended);
     told
 }
 
-// How many calls of the shelf the run `WEB` makes, where it tells its summary.
-fn calls_of_web<R: Threads + Wait + Sync>(
-    rt: &R,
-    alloc: Global,
-) -> Result<Option<u64>, AllocError> {
+// How many calls of the shelf the run `WEB` makes, or none where it doesn't tell what it is to.
+fn calls_of_web<R: Threads + Wait + Sync>(rt: &R, alloc: Global) -> Result<u64, Unread> {
     let done = run_with_failing(rt, alloc, web_run(), 0)?;
-    let told = done.tells(alloc, DONE, web_run().summary);
+    let told = done.has_told(alloc, web_run());
     let calls = done.shelf.calls();
     drop(done);
-    Ok(if told? { Some(calls) } else { None })
+    Ok(if told? { calls } else { 0 })
 }
 
 // Whether a run tells that it failed in reading or writing a file.
@@ -468,17 +271,21 @@ fn tells_write_fault(
 }
 
 #[test]
-fn each_call_that_fails_is_told(rt: HostRuntime) -> Result<(), Fail> {
+fn each_call_that_fails_is_told(rt: HostRuntime) {
     let alloc = rt.alloc();
-    let calls = calls_of_web(&rt, alloc)?;
-    assert!(rt; calls.is_some());
-    for calls_before in 0..calls.unwrap_or(0) {
-        assert!(rt;
-            is_told_and_cut(&rt, alloc, calls_before + 1)?,
-            "{calls_before}"
-        );
+    let calls = calls_of_web(&rt, alloc).unwrap_or(0);
+    assert!(rt; calls > 0);
+    for calls_before in 0..calls {
+        let told = is_told_and_cut(&rt, alloc, calls_before + 1);
+        assert!(rt; told.unwrap_or(false), "{calls_before}");
     }
-    Ok(())
+}
+
+// The shelf of the run `FORWARDED`.
+fn shelf_of_one_frame(alloc: Global) -> Result<MemoryShelf, Unread>
+    ensures { IfOk result (λ shelf. ⟦<MemoryShelf as Shelf>⟧.in_use shelf ≡ Nothing) }
+{
+    shelf_of(alloc, forwarded_run(), 0)
 }
 
 // Whether a run whose summary isn't printed ends as one whose writing failed, and leaves all its files and no text.
@@ -486,24 +293,24 @@ fn ends_without_summary<R: Threads + Wait + Sync>(
     rt: &R,
     alloc: Global,
     failing_print: u64,
-) -> Result<bool, AllocError> {
-    let prints = vec![in alloc; failing_print]?;
-    let shelf = shelf_of_one_frame(alloc, 0)?;
-    let ended = run_over(rt, alloc, forwarded_run().words, shelf, prints)?;
+) -> Result<bool, Unread> {
+    let prints = only(alloc, failing_print)?;
+    let shelf = shelf_of_one_frame(alloc)?;
+    let ended = run_over(rt, alloc, forwarded_run().words(), shelf, prints)?;
     let told = ended.tells(alloc, WRITE_FAULT, "");
-    let left = leaves_all(&ended, files_of(alloc, forwarded_run()));
+    let left = leaves_all(alloc, &ended);
     drop(ended);
     Ok(told? && left?)
 }
 
-// Whether a run left all these files, where there was memory for them.
-fn leaves_all(ended: &Ended, files: Result<Vec<File>, AllocError>) -> Result<bool, AllocError> {
-    let files = files?;
+// Whether a run left all files of `FORWARDED`.
+fn leaves_all(alloc: Global, ended: &Ended) -> Result<bool, Unread> {
+    let files = files_of(alloc, forwarded_run())?;
     Ok(ended.leaves(&files))
 }
 
 // How many calls the summary of a run takes.
-fn calls_of_summary<R: Threads + Wait + Sync>(rt: &R, alloc: Global) -> Result<u64, AllocError> {
+fn calls_of_summary<R: Threads + Wait + Sync>(rt: &R, alloc: Global) -> Result<u64, Unread> {
     let done = run_with_failing(rt, alloc, forwarded_run(), 0)?;
     let calls = done.say.calls();
     drop(done);
@@ -512,29 +319,27 @@ fn calls_of_summary<R: Threads + Wait + Sync>(rt: &R, alloc: Global) -> Result<u
 
 // Each call of the sink fails in turn.
 #[test]
-fn a_summary_that_is_not_printed_is_a_failed_write(rt: HostRuntime) -> Result<(), Fail> {
+fn a_summary_that_is_not_printed_is_a_failed_write(rt: HostRuntime) {
     let alloc = rt.alloc();
-    let calls = calls_of_summary(&rt, alloc)?;
+    let calls = calls_of_summary(&rt, alloc).unwrap_or(0);
     assert!(rt; calls > 0);
     for calls_before in 0..calls {
-        assert!(rt; ends_without_summary(&rt, alloc, calls_before + 1)?);
+        let told = ends_without_summary(&rt, alloc, calls_before + 1);
+        assert!(rt; told.unwrap_or(false), "{calls_before}");
     }
-    Ok(())
 }
 
 // A sink that fails at its first call leaves the status of a refusal.
 #[test]
-fn failed_output_leaves_the_status(rt: HostRuntime) -> Result<(), Fail> {
+fn failed_output_leaves_the_status(rt: HostRuntime) {
     let alloc = rt.alloc();
-    let words = ["edits", "out", "1=a.pcap"];
-    let prints = vec![in alloc; 1]?;
+    let prints = only(alloc, 1).expect(&rt, "ample memory");
     let mut shelf = MadeShelf::new(Vec::new(alloc));
     let mut say = MemorySink::new(alloc, prints);
-    let status = status_of(&rt, alloc, &words, &mut shelf, &mut say);
+    let status = status_of(&rt, alloc, "edits out 1=a.pcap", &mut shelf, &mut say);
     drop(shelf);
     let is_silent = say.text().is_empty();
     drop(say);
-    assert_eq!(rt; status?, 4);
+    assert!(rt; status.expect(&rt, "ample memory") == 4);
     assert!(rt; is_silent);
-    Ok(())
 }

@@ -7,8 +7,9 @@
 //! Runs stand in tables, by what they show: what is sent (`sending`), which rules are told (`rules`), what caches decide
 //! (`caching`), how frames are rewritten (`rewrites`), tagged (`tags`) and dropped (`limits`), which fields a megaflow is
 //! about (`matches`), given steps (`given`, `schedules`), flows and mirrors (`outlets`), and what is the same with workers
-//! (`workers`). Each has all its files and its summary. Their texts come from the formats' own page and from the switch's simulation, which shares nothing with the
-//! program. What lends a table (`tables`) proves in a time that grows with it, so no table is long.
+//! (`workers`). Each has all its files and its summary. A table is a text, as the essay of `switch_runs` has it, and each test
+//! says how many runs its tables have. What the texts say comes from the formats' own page and from the switch's simulation,
+//! which shares nothing with the program.
 //!
 //! Nothing is built on this crate.
 #![tactic(auto)]
@@ -31,8 +32,6 @@ mod rules;
 mod schedules;
 #[cfg(test)]
 mod sending;
-#[cfg(test)]
-mod tables;
 #[cfg(test)]
 mod tags;
 #[cfg(test)]
