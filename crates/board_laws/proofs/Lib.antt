@@ -29,4 +29,8 @@ pub mod Balance
 pub mod Looked
 pub mod Stated
 mod Premises
+pub mod Passing
+pub mod ByLastVersions
+pub mod Alike
+mod EditsApart
 pub mod StableSorts

@@ -3,3 +3,4 @@ pub mod Versions
 pub mod Counts
 pub mod Places
 pub mod Boards
+pub mod Runs

@@ -1,4 +1,4 @@
-//! The laws of boards: why a cached answer is the answer of the flow tables.
+//! The laws of boards and of whole runs: why a cached answer is the answer of the flow tables.
 //!
 //! `spec_board` says step by step what a board does. Such definitions can be wrong in ways that nobody sees. Here stand
 //! the facts by which a reader can believe them, for every legal journal, whatever the order of its steps. Each is the
@@ -22,6 +22,23 @@
 //! - A sweep lists live entries by rising numbers (`sweeps_list_live_entries`). Places are looked up in order
 //!   (`places_wait_in_order`), and each that was is decided or pending (`frames_looked_up_are_decided_or_pending`).
 //!
+//! With workers, or with given steps, a run may have many lists of journals: which frame hits which megaflow, and when it
+//! is revalidated, is as threads have it. Of any run in which no block has both edits and frames (`HasEditsApart`), and of
+//! whole journals of it:
+//!
+//! - *Each frame was decided under the last version of its block* (`frames_are_decided_by_last_versions`).
+//! - *There is one answer* (`edits_apart_give_one_answer`): of two lists of journals the datapath actions of each frame are
+//!   the same, and so are the frames that go out at each port and its file, the packets and bytes of each rule, and the
+//!   dump of the rules. This follows wherever both lists decide each frame under the last version of its block
+//!   (`last_versions_give_one_answer`), as a run without workers and given steps does in any case. So such a run can be
+//!   compared with one that has workers.
+//!
+//! # Which definitions this refuses
+//!
+//! A window that reaches beyond the versions of the frame's block; a frame whose actions are those of a megaflow and not
+//! those of its own key; a rule that is credited twice for a frame, or not at all; a dump of rules that shows what was
+//! credited and leaves out what is owed, since when a megaflow is revalidated is as threads have it.
+//!
 //! # How
 //!
 //! Each fact is kept by every step. What a step does to the entries is said once: an entry of the state after the step
@@ -30,6 +47,10 @@
 //! they are one record that every step keeps (`proofs/Kept`); versions are a second one (`proofs/KeptInOrder`). That an entry
 //! is right is wildcard soundness, at a mask that covers the bits that the translation of its own key consults. Decisions
 //! and counts are sums over the steps: a step decides one frame rightly, or none (`proofs/Told`).
+//!
+//! A whole journal decides each place of the trace by one step, and under the last version of its block each is what the run
+//! alone says (`proofs/ByLastVersions`). What a rule is due is a sum over the decisions, which is the same in any order
+//! (`proofs/Passing`); and what it was credited with and is owed is together what it is due.
 //!
 //! # Premises
 //!
@@ -41,15 +62,21 @@
 //!
 //! # What is left to others
 //!
-//! That a program's journal is legal is the contract of the crate that keeps boards. These laws don't see when an entry
-//! was last used, the clock, and which of its two slots a key is put into: worked rows show these.
+//! That a program's journal is legal is the contract of the crate that keeps boards, and that its journals are whole is that
+//! of what makes them. These laws don't see when an entry was last used, the clock, and which of its two slots a key is put
+//! into: worked rows show these. Megaflows, their counts and the journal itself depend on the order of steps, as does what the
+//! summary says of them. Where a block has both edits and frames a frame may be decided under any version of its window: each
+//! answer is then one of those that `spec_board` allows.
 #![tactic(auto)]
 
+mod answers;
 mod counts;
 mod decided;
 mod entries;
+mod last_versions;
 mod versions;
 
+pub use answers::{edits_apart_give_one_answer, last_versions_give_one_answer};
 pub use counts::{
     counts_are_bounded, dues_are_bounded, entries_count_what_they_decided,
     totals_and_debts_are_due, translations_are_short, translations_visit_added_rules,
@@ -63,4 +90,5 @@ pub use entries::{
     frames_of_bytes_have_keys, looks_find_the_covering_entry, slots_name_covering_entries,
     visits_of_entries_are_rules,
 };
+pub use last_versions::frames_are_decided_by_last_versions;
 pub use versions::{sweeps_list_live_entries, versions_stand_in_order};

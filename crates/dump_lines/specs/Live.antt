@@ -10,8 +10,8 @@ use Rattle.spec_tables.specs.Live.{is_live, rule_numbered}
 use Rattle.rule_tables.specs.declared.rule.Rule.{Rule}
 use Rattle.rule_tables.specs.History.{History, applied, newest, rules_of, added_as, history_of}
 use Rattle.rule_tables.specs.Views.{match_view}
-use Rattle.spec_dumps.specs.declared.rule_counts.RuleCounts.{RuleCounts}
-use Rattle.spec_dumps.specs.Rules.{rule_line_with}
+use Rattle.spec_run.specs.declared.rule_counts.RuleCounts.{RuleCounts}
+use Rattle.spec_run.specs.Rules.{rule_line_with}
 
 -- Some edits of sound actions made these rules, in some bundles.
 pub record IsOfEdits (h : History) : Type 0 where

@@ -4,7 +4,7 @@ use Rattle.std.specs.Fmt.{decimal}
 use Rattle.spec_actions.specs.declared.action.DpAction.{DpAction}
 use Rattle.spec_board.specs.State.{Entry}
 use Rattle.spec_flow_text.specs.DpTextPrinted.{dp_actions_printed}
-use Rattle.spec_dumps.specs.Megaflows.{told, and_told, time_text, visits_text, megaflow_match, megaflow_match_text}
+use Rattle.spec_run.specs.Megaflows.{told, and_told, time_text, visits_text, megaflow_match, megaflow_match_text}
 
 -- which megaflow it is, and of which version
 abbrev pub name_text : ℕ → Entry → List ℕ

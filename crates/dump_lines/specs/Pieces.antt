@@ -4,8 +4,8 @@ use Rattle.std.specs.Fmt.{decimal}
 use Rattle.spec_flow_text.specs.NumbersPrinted.{hexadecimal}
 use Rattle.spec_tables.specs.Rules.{Rule}
 use Rattle.spec_flow_text.specs.Printed.{match_printed, actions_printed}
-use Rattle.spec_dumps.specs.declared.rule_counts.RuleCounts.{RuleCounts}
-use Rattle.spec_dumps.specs.Rules.{after_comma, counts_text}
+use Rattle.spec_run.specs.declared.rule_counts.RuleCounts.{RuleCounts}
+use Rattle.spec_run.specs.Rules.{after_comma, counts_text}
 
 -- the actions and the number
 abbrev pub done_text : Rule → List ℕ

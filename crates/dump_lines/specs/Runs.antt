@@ -1,6 +1,6 @@
 -- Visits as they are gone through.
 use Rattle.std.specs.Prelude.{ℕ, ◌+◌, ◌==◌, if◌then◌else◌, List, [], ◌∷◌, ◌++◌}
-use Rattle.spec_dumps.specs.Megaflows.{Visited, once, plus_sign, visited_text}
+use Rattle.spec_run.specs.Megaflows.{Visited, once, plus_sign, visited_text}
 
 abbrev pub once_more : Visited → Visited
 once_more v = record v { times = v.times + 1 }

@@ -9,7 +9,7 @@
 //!
 //! # What is promised
 //!
-//! - The line is the one that `spec_dumps` gives the entry. The entry names its actions by a place among those of a board,
+//! - The line is the one that `spec_run` gives the entry. The entry names its actions by a place among those of a board,
 //!   so they are given beside it.
 //! - It is asked of the actions that their values and masks are within the fields that they are written to, as those of
 //!   every translation are (`action_text`).

@@ -4,7 +4,7 @@
 //!
 //! A dump of rules tells of each rule of the flow tables what it states and how many packets and bytes it has had, after
 //! ovs-ofctl(8) `dump-flows`. A *live* rule is one of the last version, and has a line that can be read again as a line of
-//! edits. A rule that an edit added and that isn't live is *gone*, and has a line that is a comment. `spec_dumps` has the
+//! edits. A rule that an edit added and that isn't live is *gone*, and has a line that is a comment. `spec_run` has the
 //! form of both.
 //!
 //! # What is promised

@@ -5,7 +5,7 @@ use Rattle.std.proofs.lemmas.List.Sums.{sum_by_push, count_by-le-length}
 use Rattle.spec_board.specs.Steps as specs
 use Rattle.board_steps.specs.declared.step.Step.{Step}
 use Rattle.board_steps.specs.StepViews.{step_view, steps_view}
-use Rattle.spec_dumps.specs.Summary.{is_exact, is_mega, is_miss, is_installed, is_present, is_full}
+use Rattle.spec_run.specs.Summary.{is_exact, is_mega, is_miss, is_installed, is_present, is_full}
 use Rattle.flow_dump.specs.declared.step_counts.StepCounts.{StepCounts}
 use Rattle.flow_dump.specs.StepCounts.{counts_of, with_step, plus, AreAtMost}
 

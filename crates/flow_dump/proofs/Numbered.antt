@@ -13,7 +13,7 @@ use Rattle.spec_keys.specs.Keys.{IsKey}
 use Rattle.spec_board.specs.Results.{entry_of, numbers_of, switch_at}
 use Rattle.board_laws.specs.Entries.{IsMade}
 use Rattle.spec_flow_text.specs.Within.{AreWithinFields}
-use Rattle.spec_dumps.specs.Megaflows.{megaflow_line}
+use Rattle.spec_run.specs.Megaflows.{megaflow_line}
 use Rattle.megaflow_table.specs.declared.entry.Entry as flows
 use Rattle.megaflow_table.specs.Entries as table
 use Rattle.port_caches.specs.declared.lists.HeldList.{HeldList}

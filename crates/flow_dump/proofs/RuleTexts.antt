@@ -13,8 +13,8 @@ use Rattle.spec_tables.specs.Edits.{has_sound_actions}
 use Rattle.spec_tables.specs.Live.{is_live}
 use Rattle.spec_case.specs.Run.{Run, edit_count}
 use Rattle.spec_board.specs.Texts.{Journal}
-use Rattle.spec_dumps.specs.declared.rule_counts.RuleCounts.{RuleCounts}
-use Rattle.spec_dumps.specs.Rules.{counts_of, in_order, rule_line, rule_line_with, gone_line, gone_line_with, live_rules, is_gone, gone_rules, rules_text}
+use Rattle.spec_run.specs.declared.rule_counts.RuleCounts.{RuleCounts}
+use Rattle.spec_run.specs.Rules.{counts_of, in_order, rule_line, rule_line_with, gone_line, gone_line_with, live_rules, is_gone, gone_rules, rules_text}
 use Rattle.edge_io.specs.declared.outside.Failed.{Failed}
 use Rattle.edge_io.specs.declared.outside.Failed.TheVariants.{OutOfMemory}
 use Rattle.edge_io.specs.declared.outside.InUse.TheVariants.{Nothing}

@@ -3,7 +3,7 @@ use Rattle.std.specs.Prelude.{ℕ, List}
 use Rattle.std.specs.List.{flat_map}
 use Rattle.spec_case.specs.Run.{Run}
 use Rattle.spec_board.specs.Texts.{Journal, journal_text}
-use Rattle.spec_dumps.specs.Megaflows.{port_megaflows_text}
+use Rattle.spec_run.specs.Megaflows.{port_megaflows_text}
 use Rattle.board_steps.specs.Printable.{IsPrintableJournal}
 use Rattle.flow_dump.specs.declared.boards.OfBoard.{OfBoard}
 use Rattle.flow_dump.specs.declared.boards.OfBoard.TheVariants as what

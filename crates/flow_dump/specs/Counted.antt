@@ -4,8 +4,8 @@ use Rattle.spec_case.specs.Run.{Run, edit_count}
 use Rattle.spec_board.specs.State.{Total}
 use Rattle.spec_board.specs.Counts.{owed_packets, owed_bytes}
 use Rattle.spec_board.specs.Texts.{Journal}
-use Rattle.spec_dumps.specs.declared.rule_counts.RuleCounts.{RuleCounts}
-use Rattle.spec_dumps.specs.Rules.{counts_of, end_of}
+use Rattle.spec_run.specs.declared.rule_counts.RuleCounts.{RuleCounts}
+use Rattle.spec_run.specs.Rules.{counts_of, end_of}
 
 -- These are the counts of the rules of a run, in the order of their numbers, which count from 1.
 pub record AreCounts (run : Run) (journals : List Journal) (counts : List RuleCounts) : Type 0 where

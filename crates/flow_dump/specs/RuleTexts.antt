@@ -2,8 +2,8 @@
 use Rattle.std.specs.Prelude.{ℕ, ◌-◌, if◌then◌else◌, List, [], ◌++◌, slice_index_or}
 use Rattle.std.specs.List.{flat_map, range_with_len}
 use Rattle.rule_tables.specs.History.{History, applied}
-use Rattle.spec_dumps.specs.declared.rule_counts.RuleCounts.{RuleCounts}
-use Rattle.spec_dumps.specs.Rules.{gone_line_with}
+use Rattle.spec_run.specs.declared.rule_counts.RuleCounts.{RuleCounts}
+use Rattle.spec_run.specs.Rules.{gone_line_with}
 use Rattle.dump_lines.specs.declared.rules.places.RulePlace.{RulePlace}
 use Rattle.dump_lines.specs.Live.{live_line, is_gone_in}
 

@@ -2,7 +2,7 @@
 use Rattle.std.specs.Prelude.{ℕ, ◌+◌, ◌≤◌, Bool, if◌then◌else◌, List, count_by}
 use Rattle.spec_board.specs.Steps.{Step}
 use Rattle.spec_board.specs.Texts.{Journal}
-use Rattle.spec_dumps.specs.Summary.{is_exact, is_mega, is_miss, is_installed, is_present, is_full, count_steps}
+use Rattle.spec_run.specs.Summary.{is_exact, is_mega, is_miss, is_installed, is_present, is_full, count_steps}
 use Rattle.flow_dump.specs.declared.step_counts.StepCounts.{StepCounts}
 
 -- the counts, by how many steps pass a test

@@ -4,7 +4,7 @@ use Rattle.std.specs.List.{sum_by}
 use Rattle.spec_board.specs.State.{Total}
 use Rattle.spec_board.specs.Counts.{times_visited}
 use Rattle.megaflow_table.specs.declared.entry.Entry.{Entry}
-use Rattle.spec_dumps.specs.declared.rule_counts.RuleCounts.{RuleCounts}
+use Rattle.spec_run.specs.declared.rule_counts.RuleCounts.{RuleCounts}
 
 abbrev pub sum_view : RuleCounts → Total
 sum_view c = record { packets = c.packets; bytes = c.bytes }

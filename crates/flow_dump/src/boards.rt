@@ -1,7 +1,7 @@
 //! The dumps that are written board by board: journals and megaflows.
 ghost use Rattle.std.specs.Prelude.{◌≡◌, All, OnOk};
 ghost use Rattle.spec_board.specs.Texts.{journals_text};
-ghost use Rattle.spec_dumps.specs.Megaflows.{megaflows_text};
+ghost use Rattle.spec_run.specs.Megaflows.{megaflows_text};
 ghost use Rattle.edge_io.specs.declared.outside.InUse.TheVariants.{Nothing, Created};
 ghost use Rattle.edge_io.specs.Written.{WritesAll, WritesFile};
 ghost use Rattle.board_steps.specs.Printable.{IsPrintableJournal};

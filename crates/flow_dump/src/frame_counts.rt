@@ -3,7 +3,7 @@ ghost use Rattle.std.specs.Prelude.{◌≡◌, ◌≤◌, ◌^◌, ℕ, List, le
 ghost use Rattle.spec_xlate.specs.Translation.{action_limit};
 ghost use Rattle.spec_exec.specs.Sent.{sent};
 ghost use Rattle.spec_run.specs.Journals.{IsWhole};
-ghost use Rattle.spec_dumps.specs.Summary.{pieces_of, sent_by, dropped_by, sent_count, dropped_count};
+ghost use Rattle.spec_run.specs.Summary.{pieces_of, sent_by, dropped_by, sent_count, dropped_count};
 ghost use Rattle.run_case.specs.Places.{HasPlace};
 ghost use Rattle.pmd_board.specs.BoardView.{journal_view};
 

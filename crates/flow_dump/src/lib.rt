@@ -9,7 +9,7 @@
 //! A dump of rules is a file with a line for each rule that is live in the last version, with its packets and bytes, and
 //! then one for each rule that is gone. A dump of megaflows has a line for each megaflow that stands at the end, by port
 //! and number. `write_rules` and `write_megaflows` write them, and `say_summary` says the *summary* of a run to a sink:
-//! how many frames came in, how they were decided, and how often they were sent. The forms are those of `spec_dumps`.
+//! how many frames came in, how they were decided, and how often they were sent. The forms are those of `spec_run`.
 //!
 //! # What is promised
 //!

@@ -2,7 +2,7 @@ ghost use Rattle.std.specs.Prelude.{◌≡◌, Some, IsSome};
 ghost use Rattle.std.specs.Option.{option_map};
 ghost use Rattle.spec_board.specs.Results.{entry_of};
 ghost use Rattle.spec_flow_text.specs.Within.{AreWithinFields};
-ghost use Rattle.spec_dumps.specs.Megaflows.{megaflow_line, port_megaflows_text};
+ghost use Rattle.spec_run.specs.Megaflows.{megaflow_line, port_megaflows_text};
 ghost use Rattle.edge_io.specs.declared.outside.InUse.TheVariants.{Created};
 ghost use Rattle.edge_io.specs.Written.{WritesAll};
 ghost use Rattle.pmd_board.specs.BoardView.{journal_view, state_of};

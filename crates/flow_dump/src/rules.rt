@@ -1,7 +1,7 @@
 ghost use Rattle.std.specs.Prelude.{◌≡◌, ◌≤◌, All, IsTrue, length};
 ghost use Rattle.std.specs.List.{flat_map, list_all, range_with_len};
 ghost use Rattle.spec_tables.specs.Edits.{has_sound_actions};
-ghost use Rattle.spec_dumps.specs.Rules.{rules_text};
+ghost use Rattle.spec_run.specs.Rules.{rules_text};
 ghost use Rattle.edge_io.specs.declared.outside.InUse.TheVariants.{Nothing, Created};
 ghost use Rattle.edge_io.specs.Written.{WritesAll, WritesFile};
 ghost use Rattle.rule_tables.specs.History.{applied, history_of};
@@ -14,7 +14,7 @@ use edge_io::{Failed, Shelf, write_all, write_file};
 use rule_tables::VersionedRules;
 use run_boards::Finished;
 use run_case::{Case, RunData};
-use spec_dumps::RuleCounts;
+use spec_run::RuleCounts;
 use std::alloc::Global;
 
 // Writes the line of a rule that is live.

@@ -1,14 +1,14 @@
 //! The summary of a run.
 ghost use Rattle.std.specs.Prelude.{◌≡◌, ◌++◌, ℕ, take, IsTrue, IfOk, OnOk, OnErr, string_bytes};
 ghost use Rattle.edge_io.specs.Counts.{HasCause, with_fault};
-ghost use Rattle.spec_dumps.specs.Summary as summary;
+ghost use Rattle.spec_run.specs.Summary as summary;
 
 use crate::frame_counts::count_all_frames;
 use crate::step_counts::count_all_steps;
 use edge_io::{Failed, Sink, say_all};
 use run_boards::Finished;
 use run_case::{Case, RunData};
-use spec_dumps::Ran;
+use spec_run::Ran;
 use std::alloc::{AllocError, Global};
 use std::fmt::Write;
 

@@ -8,7 +8,7 @@
 //!
 //! # What is promised
 //!
-//! `count_rules` gives for each rule that a run may have, by its number, exactly the counts that `spec_dumps` defines
+//! `count_rules` gives for each rule that a run may have, by its number, exactly the counts that `spec_run` defines
 //! (`AreCounts`). Nothing wraps. The only error is out of memory.
 //!
 //! # How

@@ -14,7 +14,7 @@ use crate::schedule::{boards_after, scheduled_boards, take_given};
 use run_boards::{Boards, Finished};
 use run_case::{Case, RunData};
 use spec_case::RunStep;
-use spec_dumps::Ran;
+use spec_run::Ran;
 use std::alloc::{AllocError, Global};
 use step_runner::finish;
 use table_versions::{RunTables, Tables};

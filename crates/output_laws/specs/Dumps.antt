@@ -8,7 +8,7 @@ use Rattle.spec_board.specs.Texts.{Journal}
 use Rattle.spec_flow_text.specs.Actions.{is_respellable}
 use Rattle.spec_input.specs.Lines.{most_line_bytes, lines_of}
 use Rattle.spec_input.specs.Script.{Script, most_edits}
-use Rattle.spec_dumps.specs.Rules.{counts_of, in_order, live_rules, rules_text}
+use Rattle.spec_run.specs.Rules.{counts_of, in_order, live_rules, rules_text}
 use Rattle.output_laws.specs.Lines.{added, WasRead, AreCounts}
 
 -- The edits of a run were read, its live rules have actions that can be spelled again, and no line of its dump and no number of

@@ -6,9 +6,9 @@ use Rattle.spec_tables.specs.Rules.{Rule}
 use Rattle.spec_case.specs.Run.{Run}
 use Rattle.spec_board.specs.Texts.{Journal}
 use Rattle.spec_input.specs.Mirrors.{Mirror}
-use Rattle.spec_dumps.specs.Summary.{frame_count, sent_count, dropped_count}
-use Rattle.spec_dumps.specs.declared.rule_counts.RuleCounts.{RuleCounts}
-use Rattle.spec_dumps.specs.Rules.{packets_of, bytes_of, counts_of, in_order, rule_line_with, gone_line_with, live_rules, gone_rules, rules_text}
+use Rattle.spec_run.specs.Summary.{frame_count, sent_count, dropped_count}
+use Rattle.spec_run.specs.declared.rule_counts.RuleCounts.{RuleCounts}
+use Rattle.spec_run.specs.Rules.{packets_of, bytes_of, counts_of, in_order, rule_line_with, gone_line_with, live_rules, gone_rules, rules_text}
 use Rattle.spec_netflow.specs.Flows.{packets, flows_of, of_class, packet_sum, octet_sum}
 use Rattle.spec_run.specs.Journals.{HasEditsApart, AreWhole, actions_for}
 use Rattle.spec_run.specs.Mirrored.{copies, mirror_file}

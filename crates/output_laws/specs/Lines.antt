@@ -11,8 +11,8 @@ use Rattle.spec_flow_text.specs.Items.{greatest_cookie, last_priority}
 use Rattle.spec_flow_text.specs.Actions.{is_respellable}
 use Rattle.spec_flow_text.specs.Lines.{edit_in}
 use Rattle.spec_flow_text.specs.Printed.{match_printed, actions_printed}
-use Rattle.spec_dumps.specs.declared.rule_counts.RuleCounts.{RuleCounts}
-use Rattle.spec_dumps.specs.Rules.{after_comma, counts_text}
+use Rattle.spec_run.specs.declared.rule_counts.RuleCounts.{RuleCounts}
+use Rattle.spec_run.specs.Rules.{after_comma, counts_text}
 use Rattle.text_laws.specs.Spelled.{are_spellable}
 use Rattle.text_laws.specs.SpelledMatches.{IsSpellable}
 

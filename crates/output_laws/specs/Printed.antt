@@ -3,8 +3,8 @@ use Rattle.std.specs.Prelude.{◌≡◌, ℕ, List, ◌++◌, Option, None, Ok}
 use Rattle.spec_base.specs.Files.{lookup_or_empty}
 use Rattle.spec_case.specs.Run.{Run}
 use Rattle.spec_board.specs.Texts.{Journal}
-use Rattle.spec_dumps.specs.declared.ran.Ran.{Ran}
-use Rattle.spec_dumps.specs.Summary.{summary}
+use Rattle.spec_run.specs.declared.ran.Ran.{Ran}
+use Rattle.spec_run.specs.Summary.{summary}
 use Rattle.spec_run.specs.Verdict.{MirroredRun, run_in, made_list, made_sources}
 use Rattle.spec_run.specs.Journals.{AreWhole}
 use Rattle.output_laws.specs.Sums.{AddUp, summary_with, plain_sent, plain_dropped}

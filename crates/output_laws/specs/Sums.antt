@@ -6,8 +6,8 @@ use Rattle.spec_case.specs.Blocks.{hi, block_of}
 use Rattle.spec_board.specs.Results.{key_at, translated}
 use Rattle.spec_board.specs.Texts.{Journal}
 use Rattle.spec_exec.specs.Sent.{Piece, sent}
-use Rattle.spec_dumps.specs.declared.ran.Ran.{Ran}
-use Rattle.spec_dumps.specs.Summary.{is_exact, is_mega, is_miss, is_installed, is_present, is_full, count_steps, sent_count, dropped_count, frame_count, megaflow_count, count, counts_line, run_line, looks_line, settles_line, given_line, summary}
+use Rattle.spec_run.specs.declared.ran.Ran.{Ran}
+use Rattle.spec_run.specs.Summary.{is_exact, is_mega, is_miss, is_installed, is_present, is_full, count_steps, sent_count, dropped_count, frame_count, megaflow_count, count, counts_line, run_line, looks_line, settles_line, given_line, summary}
 
 -- Each frame was looked up once, and each that was missed was settled once.
 pub record AddUp (run : Run) (journals : List Journal) : Type 0 where

@@ -2,7 +2,7 @@
 //! it in parts.
 //!
 //! Each law is the contract of a function that does nothing. Those of `endings` follow from the contract of `switch_app`,
-//! that of `captures` from the reading of `pcap_files`, and all others from the definitions alone.
+//! that of `captures` from lemmas of `pcap_files`, and all others from the definitions alone.
 //!
 //! # The parts
 //!

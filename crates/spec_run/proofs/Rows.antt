@@ -49,7 +49,7 @@ use Rattle.spec_board.specs.Schedules.{finish, finish_board, least_block}
 use Rattle.spec_board.specs.GivenSteps.{with_given_steps}
 use Rattle.spec_case.specs.declared.run_step.RunStep.{RunStep}
 use Rattle.spec_case.specs.declared.run_step.RunStep.TheVariants as step
-use Rattle.spec_dumps.specs.declared.ran.Ran.{Ran}
+use Rattle.spec_run.specs.declared.ran.Ran.{Ran}
 use Rattle.spec_input.specs.Steps as steps_file
 use Rattle.spec_input.specs.Steps.{number_in, port_in, step_in, with_words, steps_of}
 use Rattle.spec_input.specs.Mirrors as mirrors_file

@@ -2,6 +2,9 @@ pub mod Limits
 pub mod Verdict
 pub mod Journals
 pub mod Mirrored
+pub mod Rules
+pub mod Megaflows
+pub mod Summary
 pub mod Outputs
 pub mod CutShort
 pub mod Statuses

@@ -14,10 +14,10 @@ use Rattle.spec_board.specs.Texts.{Journal, journals_text}
 use Rattle.spec_input.specs.Words.{Input, Files as Named, Made}
 use Rattle.spec_netflow.specs.Datagrams.{netflow_file}
 use Rattle.spec_input.specs.Mirrors.{Mirror}
-use Rattle.spec_dumps.specs.declared.ran.Ran.{Ran}
-use Rattle.spec_dumps.specs.Rules.{rules_text}
-use Rattle.spec_dumps.specs.Megaflows.{megaflows_text}
-use Rattle.spec_dumps.specs.Summary.{summary}
+use Rattle.spec_run.specs.declared.ran.Ran.{Ran}
+use Rattle.spec_run.specs.Rules.{rules_text}
+use Rattle.spec_run.specs.Megaflows.{megaflows_text}
+use Rattle.spec_run.specs.Summary.{summary}
 use Rattle.spec_exec.specs.Sent.{Piece, sent}
 use Rattle.spec_run.specs.Journals.{AreJournals, actions_for}
 use Rattle.spec_run.specs.Mirrored.{mirror_files}

@@ -30,7 +30,7 @@ use Rattle.spec_flow_text.specs.Actions.{up_to_end, items, is_closed, argument_o
 use Rattle.spec_flow_text.specs.Lines.{edit_from, edit_in}
 use Rattle.spec_flow_text.specs.Printed.{value_in_text, shorthand_of, shown, match_printed, actions_printed}
 use Rattle.spec_flow_text.specs.DpTextPrinted.{dp_actions_printed}
-use Rattle.spec_dumps.specs.Megaflows.{megaflow_match_text}
+use Rattle.spec_run.specs.Megaflows.{megaflow_match_text}
 use Rattle.spec_input.specs.Lines.{with_lines}
 use Rattle.spec_input.specs.Script.{with_line, script_of, with_edit, with_sync, with_begin, with_commit, word_alone, sync_time, time_of, seconds_with_fraction, seconds_of, fraction_of}
 use Rattle.spec_run.specs.Verdict.{Files, script_in}

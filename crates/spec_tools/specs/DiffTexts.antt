@@ -26,7 +26,7 @@ use Rattle.spec_board.specs.Results.{are_same_actions}
 use Rattle.spec_board.specs.Texts.{line_of}
 use Rattle.spec_flow_text.specs.DpTextPrinted.{dp_actions_printed}
 use Rattle.spec_flow_text.specs.Printed.{actions_printed}
-use Rattle.spec_dumps.specs.Megaflows.{megaflow_match_text}
+use Rattle.spec_run.specs.Megaflows.{megaflow_match_text}
 use Rattle.spec_tools.specs.Classes.{Deed}
 use Rattle.spec_tools.specs.Classes.Deed.{Datapath, Flow}
 use Rattle.spec_tools.specs.Lines.{Said, Line}

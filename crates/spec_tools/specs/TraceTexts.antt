@@ -26,7 +26,7 @@ use Rattle.spec_xlate.specs.Consulted.{whole, consulted}
 use Rattle.spec_flow_text.specs.Printed.{match_printed, actions_printed}
 use Rattle.spec_flow_text.specs.DpTextPrinted.{dp_actions_printed}
 use Rattle.spec_board.specs.Texts.{line_of}
-use Rattle.spec_dumps.specs.Megaflows.{megaflow_match_text}
+use Rattle.spec_run.specs.Megaflows.{megaflow_match_text}
 use Rattle.spec_tools.specs.declared.lookup.Lookup.{Lookup}
 use Rattle.spec_tools.specs.Paths.{path_of, last_of}
 

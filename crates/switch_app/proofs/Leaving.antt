@@ -4,7 +4,7 @@ use Rattle.std.specs.Prelude.{◌⊎◌, IsTrue, Result, Ok, Err}
 use Rattle.std.proofs.lemmas.List.{append-nil}
 use Rattle.spec_base.specs.Files.{File}
 use Rattle.spec_board.specs.Texts.{Journal}
-use Rattle.spec_dumps.specs.Summary.{summary}
+use Rattle.spec_run.specs.Summary.{summary}
 use Rattle.spec_run.specs.Verdict.{Refusal as Refused, Accepted, command_in, verdict, files_opened}
 use Rattle.spec_run.specs.Journals.{AreJournals}
 use Rattle.spec_run.specs.Outputs.{Decided, outlets_of, output_of, has_steps, ran_of}

@@ -7,7 +7,7 @@ use Rattle.spec_case.specs.Run.{Run}
 use Rattle.spec_board.specs.Texts.{Journal}
 use Rattle.spec_run.specs.Journals.{AreWhole, AreJournals}
 use Rattle.spec_run.specs.Outputs.{has_steps, ran_of}
-use Rattle.run_laws.proofs.Alike.{all_by_last}
+use Rattle.board_laws.proofs.Alike.{all_by_last}
 use Rattle.command_words.specs.declared.reading.Input.{Input}
 use Rattle.command_words.specs.declared.reading.Input.TheVariants.{Files, Made}
 use Rattle.command_words.specs.CommandViews.{text_view, input_view, IfSteps}

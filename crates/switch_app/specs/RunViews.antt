@@ -3,8 +3,8 @@ use Rattle.std.specs.Prelude.{◌≡◌, ℕ, ◌⊎◌, Bool, true, false, List
 use Rattle.spec_base.specs.Files.{File}
 use Rattle.spec_case.specs.Run.{Run}
 use Rattle.spec_board.specs.Texts.{Journal}
-use Rattle.spec_dumps.specs.declared.ran.Ran.{Ran}
-use Rattle.spec_dumps.specs.Summary.{summary}
+use Rattle.spec_run.specs.declared.ran.Ran.{Ran}
+use Rattle.spec_run.specs.Summary.{summary}
 use Rattle.spec_run.specs.Verdict.{Usage, command_in, files_opened, verdict}
 use Rattle.spec_run.specs.Journals.{AreJournals}
 use Rattle.spec_run.specs.Outputs.{outlets_of, output_of, has_steps, ran_of}

@@ -2,7 +2,7 @@ ghost use Rattle.std.specs.Prelude.{◌≡◌, ◌≢◌, ◌≤◌, ◌⊎◌, 
 ghost use Rattle.std.specs.List.{list_all};
 ghost use Rattle.spec_tables.specs.Edits.{has_sound_actions};
 ghost use Rattle.spec_input.specs.Steps.{most_steps};
-ghost use Rattle.spec_dumps.specs.Summary.{summary};
+ghost use Rattle.spec_run.specs.Summary.{summary};
 ghost use Rattle.spec_run.specs.Verdict.{command_in, verdict};
 ghost use Rattle.spec_run.specs.Journals.{AreJournals};
 ghost use Rattle.spec_run.specs.Outputs.{outlets_of, output_of, has_steps, ran_of};
@@ -27,7 +27,7 @@ use edge_io::{Gate, Shelf, Sink};
 use run_boards::Finished;
 use run_case::{Case, RunData};
 use spec_case::RunStep;
-use spec_dumps::Ran;
+use spec_run::Ran;
 use std::alloc::{AllocError, Global};
 use std::marker::Brand;
 use std::sync::Wait;

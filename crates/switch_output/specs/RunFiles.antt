@@ -4,8 +4,8 @@ use Rattle.spec_base.specs.Files.{File}
 use Rattle.spec_pcap.specs.Pcap.{file_of}
 use Rattle.spec_case.specs.Run.{Run, is_nanos}
 use Rattle.spec_board.specs.Texts.{Journal, journals_text}
-use Rattle.spec_dumps.specs.Rules.{rules_text}
-use Rattle.spec_dumps.specs.Megaflows.{megaflows_text}
+use Rattle.spec_run.specs.Rules.{rules_text}
+use Rattle.spec_run.specs.Megaflows.{megaflows_text}
 use Rattle.spec_netflow.specs.Datagrams.{netflow_bytes}
 use Rattle.spec_run.specs.Journals.{actions_for}
 use Rattle.spec_run.specs.Mirrored.{mirror_file_name, copies}

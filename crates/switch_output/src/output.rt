@@ -2,7 +2,7 @@ ghost use Rattle.std.specs.Prelude.{◌≡◌, None, IsTrue, IfErr};
 ghost use Rattle.std.specs.List.{list_all};
 ghost use Rattle.spec_tables.specs.Edits.{has_sound_actions};
 ghost use Rattle.spec_run.specs.Outputs.{output_of};
-ghost use Rattle.spec_dumps.specs.Summary.{summary};
+ghost use Rattle.spec_run.specs.Summary.{summary};
 ghost use Rattle.rule_tables.specs.History.{history_of};
 ghost use Rattle.edge_io.specs.declared.outside.InUse.TheVariants.{Nothing};
 ghost use Rattle.switch_output.specs.OutletViews.{outlets_in};
@@ -16,7 +16,7 @@ use flow_dump::say_summary;
 use rule_tables::VersionedRules;
 use run_boards::Finished;
 use run_case::{Case, RunData};
-use spec_dumps::Ran;
+use spec_run::Ran;
 use std::alloc::Global;
 
 /// Tells what became of a run: its files are written, where it has outlets, and then its summary is printed, with what is

@@ -2,9 +2,9 @@
 //! one that made it.
 //!
 //! `spec_tables` tells bundles by how many edits stand through each of them, and says of such a list whether each bundle
-//! has an edit and all together have so many (`AreBundles`). `spec_xlate` says by recursions what a translation does and which bits it consults. Recursions can be wrong in ways
-//! that nobody sees. Here stand the facts by which a reader can believe them, each as the contract of a function that
-//! does nothing: to call one is to have its facts.
+//! has an edit and all together have so many (`AreBundles`). `spec_xlate` says by recursions what a translation does and
+//! which bits it consults. Recursions can be wrong in ways that nobody sees. Here stand the facts by which a reader can
+//! believe them, each as the contract of a function that does nothing: to call one is to have its facts.
 //!
 //! # What is promised
 //!

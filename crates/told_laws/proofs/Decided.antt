@@ -15,7 +15,7 @@ use Rattle.spec_board.specs.Texts.{Journal}
 use Rattle.spec_run.specs.Journals.{IsWhole, AreWhole, IsByLastVersion, steps_in, actions_in, actions_for}
 use Rattle.spec_tools.specs.Classes.{done}
 use Rattle.board_laws.proofs.ListLaws.{find-some}
-use Rattle.run_laws.proofs.LastVersions.{decisions_within}
+use Rattle.board_laws.proofs.ByLastVersions.{decisions_within}
 use Rattle.told_laws.specs.Runs.{last_switch, AreByAllEdits}
 
 -- The place is one of the port's trace.

@@ -2,7 +2,7 @@
 ghost use Rattle.std.specs.Prelude.{◌≡◌, ◌++◌, List, ℕ, All};
 ghost use Rattle.std.specs.List.{flat_map};
 ghost use Rattle.spec_board.specs.Texts.{line_of};
-ghost use Rattle.spec_dumps.specs.Megaflows.{megaflow_match_text};
+ghost use Rattle.spec_run.specs.Megaflows.{megaflow_match_text};
 ghost use Rattle.text_numbers.specs.Added.{Adds};
 ghost use Rattle.table_diff.specs.Cubes.{cube_view};
 ghost use Rattle.table_diff.specs.Deeds.{deed_view, CanPrint};

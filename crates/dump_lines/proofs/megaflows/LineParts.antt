@@ -4,7 +4,7 @@ use Rattle.std.specs.Prelude.{codes}
 use Rattle.std.specs.Fmt.{decimal}
 use Rattle.spec_board.specs.State.{Entry}
 use Rattle.spec_flow_text.specs.DpTextPrinted.{dp_actions_printed}
-use Rattle.spec_dumps.specs.Megaflows.{told, and_told, time_text, visits_text, megaflow_match, megaflow_match_text, megaflow_line}
+use Rattle.spec_run.specs.Megaflows.{told, and_told, time_text, visits_text, megaflow_match, megaflow_match_text, megaflow_line}
 use Rattle.dump_lines.specs.Parts.{entry_text, actions_text}
 
 regrouped : (a b c d e f g h i j k n : List ℕ)

@@ -3,7 +3,7 @@ use Rattle.std.proofs.Common.{◌≡◌, ℕ, suc, ◌+◌, ◌-◌, ◌<◌, �
 use Rattle.std.specs.List.{join_with_byte}
 use Rattle.std.proofs.lemmas.List.{take_all, drop_more, drop_all}
 use Rattle.spec_flow_text.specs.Characters.{hyphen}
-use Rattle.spec_dumps.specs.Megaflows.{Visited, once, visited_before, together, plus_sign, visited_text, joined_visits, visits_text}
+use Rattle.spec_run.specs.Megaflows.{Visited, once, visited_before, together, plus_sign, visited_text, joined_visits, visits_text}
 use Rattle.dump_lines.specs.Runs.{once_more, runs_text}
 
 -- so many visits of a rule before others

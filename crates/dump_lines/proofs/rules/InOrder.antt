@@ -7,7 +7,7 @@ use Rattle.std.specs.Cmp.{IsStrictWeakOrder}
 use Rattle.std.specs.List.Sorted.{IsSorted, IsStable}
 use Rattle.spec_base.specs.Sorting.{insert_by, sort_by}
 use Rattle.spec_tables.specs.Rules.{Rule}
-use Rattle.spec_dumps.specs.Rules as dump
+use Rattle.spec_run.specs.Rules as dump
 use Rattle.board_laws.proofs.StableSorts.{sorted_stably}
 use Rattle.dump_lines.specs.declared.rules.places.RulePlace.{RulePlace}
 use Rattle.dump_lines.specs.Places.{place_of}

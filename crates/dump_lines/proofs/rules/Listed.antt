@@ -11,7 +11,7 @@ use Rattle.spec_tables.specs.Edits.{Edit, after_edits, has_sound_actions}
 use Rattle.spec_tables.specs.Bundles.{AreBundles}
 use Rattle.spec_tables.specs.Live.{is_live, rule_numbered}
 use Rattle.spec_base.proofs.SortLaws.{All-sort_by}
-use Rattle.spec_dumps.specs.Rules.{comes_before, in_order}
+use Rattle.spec_run.specs.Rules.{comes_before, in_order}
 use Rattle.rule_tables.specs.History.{History, applied, history_of}
 use Rattle.rule_tables.proofs.Histories.{applied-edit_history}
 use Rattle.pipe_model.specs.Runnable.{IsAmong}

@@ -2,7 +2,7 @@ ghost use Rattle.std.specs.Prelude.{◌≡◌, ◌++◌, [], ◌∷◌, codes, O
 ghost use Rattle.std.specs.Fmt.{decimal};
 ghost use Rattle.spec_flow_text.specs.DpTextPrinted.{dp_actions_printed};
 ghost use Rattle.spec_flow_text.specs.Within.{AreWithinFields};
-ghost use Rattle.spec_dumps.specs.Megaflows.{told, and_told, time_text, visits_text, megaflow_match, megaflow_match_text, megaflow_line};
+ghost use Rattle.spec_run.specs.Megaflows.{told, and_told, time_text, visits_text, megaflow_match, megaflow_match_text, megaflow_line};
 ghost use Rattle.text_numbers.specs.Added.{Adds};
 ghost use Rattle.dump_lines.specs.Views.{entry_with};
 ghost use Rattle.dump_lines.specs.Parts.{name_text, counts_text, decided_text, entry_text, actions_text};

@@ -1,7 +1,7 @@
 ghost use Rattle.std.specs.Prelude.{◌≡◌, ◌++◌, ◌∷◌, false, IfOk, OnOk, OnErr, string_bytes};
 ghost use Rattle.std.specs.List.{flat_map};
 ghost use Rattle.spec_flow_text.specs.Printed as printed;
-ghost use Rattle.spec_dumps.specs.Megaflows.{stated, megaflow_match_text};
+ghost use Rattle.spec_run.specs.Megaflows.{stated, megaflow_match_text};
 ghost use Rattle.text_numbers.specs.Added.{Adds};
 ghost use Rattle.field_text.specs.Views.{bits_view, FitsWidth};
 ghost use Rattle.match_text.specs.Shown.{lead, items_text, begun_after};

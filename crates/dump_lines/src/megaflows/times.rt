@@ -1,6 +1,6 @@
 ghost use Rattle.std.specs.Prelude.{◌≡◌, ◌<◌, ◌≤◌, ◌-◌, ◌/◌, ◌%◌, ◌^◌, ◌++◌, [], ◌∷◌, map, OnOk, OnErr, string_bytes};
 ghost use Rattle.std.specs.Char.{digit_char};
-ghost use Rattle.spec_dumps.specs.Megaflows.{nanoseconds_text, time_text};
+ghost use Rattle.spec_run.specs.Megaflows.{nanoseconds_text, time_text};
 ghost use Rattle.text_numbers.specs.Added.{Adds};
 
 use std::alloc::AllocError;

@@ -1,5 +1,5 @@
 ghost use Rattle.std.specs.Prelude.{◌≡◌, ◌++◌, [], ◌∷◌, OnOk, OnErr, string_bytes};
-ghost use Rattle.spec_dumps.specs.Megaflows.{once, plus_sign, visited_text, visits_text};
+ghost use Rattle.spec_run.specs.Megaflows.{once, plus_sign, visited_text, visits_text};
 ghost use Rattle.text_numbers.specs.Added.{Adds};
 ghost use Rattle.dump_lines.specs.Runs.{runs_text};
 

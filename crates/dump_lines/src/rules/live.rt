@@ -1,7 +1,7 @@
 ghost use Rattle.std.specs.Prelude.{◌≡◌, All, IsTrue, IfOk, OnOk, Some, map};
 ghost use Rattle.std.specs.Option.{option_map};
 ghost use Rattle.spec_tables.specs.Live.{is_live, rule_numbered};
-ghost use Rattle.spec_dumps.specs.Rules.{in_order};
+ghost use Rattle.spec_run.specs.Rules.{in_order};
 ghost use Rattle.text_numbers.specs.Added.{Adds};
 ghost use Rattle.dump_lines.specs.Live.{IsLiveIn, IsOfEdits, live_in, is_gone_in, live_line};
 ghost use Rattle.dump_lines.specs.Places.{place_of};
@@ -10,7 +10,7 @@ ghost use Rattle.dump_lines.specs.Order.{places_in_order};
 use crate::rules::places::RulePlace;
 use crate::rules::printing::push_rule;
 use rule_tables::VersionedRules;
-use spec_dumps::RuleCounts;
+use spec_run::RuleCounts;
 use std::alloc::{AllocError, Global};
 use std::cmp::Reverse;
 

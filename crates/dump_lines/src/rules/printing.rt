@@ -4,14 +4,14 @@ ghost use Rattle.spec_actions.specs.Sound.{AreSound};
 ghost use Rattle.spec_flow_text.specs.Printed.{match_printed};
 ghost use Rattle.rule_tables.specs.Views.{match_view};
 ghost use Rattle.text_numbers.specs.Added.{Adds};
-ghost use Rattle.spec_dumps.specs.Rules.{after_comma, counts_text, rule_line_with, gone_line_with};
+ghost use Rattle.spec_run.specs.Rules.{after_comma, counts_text, rule_line_with, gone_line_with};
 ghost use Rattle.dump_lines.specs.Live.{live_view};
 ghost use Rattle.dump_lines.specs.Pieces.{done_text, stated_text, counted_text, rule_text, gone_text};
 
 use action_text::print_actions;
 use match_text::print_match;
 use rule_tables::{Match, OfAction, Rule};
-use spec_dumps::RuleCounts;
+use spec_run::RuleCounts;
 use std::alloc::AllocError;
 use text_numbers::{print_decimal, print_hexadecimal, print_word};
 

@@ -7,7 +7,7 @@ use Rattle.std.proofs.Math.ListN.{get_or-map}
 use Rattle.std.proofs.lemmas.List.Sums.{sum_by-cons}
 use Rattle.spec_board.specs.State.{Total}
 use Rattle.spec_board.specs.Effects.{credited}
-use Rattle.spec_dumps.specs.declared.rule_counts.RuleCounts.{RuleCounts}
+use Rattle.spec_run.specs.declared.rule_counts.RuleCounts.{RuleCounts}
 use Rattle.port_caches.specs.Sums.{nothing, total_of, IsRule}
 use Rattle.port_caches.proofs.stats.Credits.{same_total, with_more, total_of-rule, total_of-set, credited-set}
 use Rattle.flow_dump.specs.Sums.{Fits, sum_view, sums_view, with_total}

@@ -18,8 +18,8 @@ use Rattle.megaflow_table.specs.declared.entry.Entry.{Entry}
 use Rattle.port_caches.specs.declared.lists.HeldList.{HeldList}
 use Rattle.port_caches.specs.Views.{entry_view}
 use Rattle.pmd_board.specs.BoardView.{BoardView, journal_view, journals_view, state_of}
-use Rattle.spec_dumps.specs.declared.rule_counts.RuleCounts.{RuleCounts}
-use Rattle.spec_dumps.specs.Rules.{counts_of}
+use Rattle.spec_run.specs.declared.rule_counts.RuleCounts.{RuleCounts}
+use Rattle.spec_run.specs.Rules.{counts_of}
 use Rattle.port_caches.specs.Sums.{total_of, IsRule}
 use Rattle.flow_dump.specs.Sums.{Fits, sum_view, sums_view, with_total, with_owed, owed_packets, owed_bytes}
 use Rattle.flow_dump.specs.Counted.{AreCounts, IsBoundedAt, HasRoom, counts_at}

@@ -10,7 +10,7 @@ use Rattle.spec_board.specs.Effects.{credited}
 use Rattle.megaflow_table.specs.declared.entry.Entry.{Entry}
 use Rattle.megaflow_table.specs.Entries.{entry_of, numbers_of, AreRising}
 use Rattle.std.proofs.lemmas.List.{get_or-map, length-map}
-use Rattle.spec_dumps.specs.declared.rule_counts.RuleCounts.{RuleCounts}
+use Rattle.spec_run.specs.declared.rule_counts.RuleCounts.{RuleCounts}
 use Rattle.port_caches.specs.Sums.{IsRule}
 use Rattle.flow_dump.specs.Sums.{Fits, sum_view, sums_view, with_owed, owed_packets, owed_bytes}
 use Rattle.port_caches.proofs.stats.Credits.{same_total}

@@ -9,7 +9,7 @@ use crate::sums::sums::{add_owed, add_totals};
 use board_laws::{counts_are_bounded, visits_of_entries_are_rules};
 use pmd_board::Board;
 use run_case::{Case, RunData};
-use spec_dumps::RuleCounts;
+use spec_run::RuleCounts;
 use std::alloc::{AllocError, Global};
 
 // Adds what a board counted of each rule.

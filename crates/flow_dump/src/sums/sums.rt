@@ -5,7 +5,7 @@ ghost use Rattle.flow_dump.specs.Sums.{Fits, sums_view, with_total, owed_packets
 
 use megaflow_table::Megaflows;
 use port_caches::stats::Totals;
-use spec_dumps::RuleCounts;
+use spec_run::RuleCounts;
 
 // Adds what each rule was credited with.
 pub(crate) fn add_totals(counts: &mut [RuleCounts], totals: &Totals)

@@ -14,7 +14,7 @@ use Rattle.spec_run.specs.Journals.{IsWhole, AreWhole, steps_in, actions_in, act
 use Rattle.table_laws.proofs.MemberLaws.{Among, All-Among, Among_in-map}
 use Rattle.board_laws.specs.Entries.{AreOfBytes}
 use Rattle.board_laws.proofs.ListLaws.{find-some}
-use Rattle.run_laws.proofs.LastVersions.{decisions_within}
+use Rattle.board_laws.proofs.ByLastVersions.{decisions_within}
 use Rattle.output_laws.specs.Widths.{HasWidths}
 use Rattle.output_laws.proofs.exports.Outputs.{first_small}
 

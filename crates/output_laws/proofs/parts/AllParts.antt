@@ -11,9 +11,9 @@ use Rattle.spec_pcap.specs.Pcap.{Frame, header_length, header, record_of, file_o
 use Rattle.spec_case.specs.Run.{Run, is_nanos}
 use Rattle.spec_board.specs.Texts.{Journal}
 use Rattle.spec_tables.specs.Rules.{Rule}
-use Rattle.spec_dumps.specs.declared.rule_counts.RuleCounts.{RuleCounts}
-use Rattle.spec_dumps.specs.Rules.{packets_of, bytes_of, counts_of, in_order, rule_line_with, gone_line_with, live_rules, gone_rules}
-use Rattle.spec_dumps.specs.Summary.{sent_count, dropped_count, frame_count}
+use Rattle.spec_run.specs.declared.rule_counts.RuleCounts.{RuleCounts}
+use Rattle.spec_run.specs.Rules.{packets_of, bytes_of, counts_of, in_order, rule_line_with, gone_line_with, live_rules, gone_rules}
+use Rattle.spec_run.specs.Summary.{sent_count, dropped_count, frame_count}
 use Rattle.spec_xlate.specs.Translation.{Translation}
 use Rattle.spec_run.specs.Journals.{HasEditsApart, AreWhole}
 use Rattle.spec_input.specs.Mirrors.{Mirror}

@@ -12,7 +12,7 @@ use Rattle.spec_board.specs.Results.{key_at, translated}
 use Rattle.spec_board.specs.Decisions.{Decision, decision_of}
 use Rattle.spec_board.specs.Texts.{Journal}
 use Rattle.spec_run.specs.Journals.{HasEditsApart, IsWhole, AreWhole, steps_in, actions_in, actions_for}
-use Rattle.run_laws.proofs.LastVersions.{by_last_version}
+use Rattle.board_laws.proofs.ByLastVersions.{by_last_version}
 use Rattle.output_laws.proofs.parts.Apart.{by_last}
 
 -- a port with a frame is among the ports

@@ -9,10 +9,10 @@ use Rattle.spec_xlate.specs.Translation.{Translation}
 use Rattle.spec_case.specs.Run.{Run, frame_at, frames_of}
 use Rattle.spec_board.specs.Decisions.{Decision, decision_of}
 use Rattle.spec_exec.specs.Sent.{Piece, sent}
-use Rattle.spec_dumps.specs.Summary.{places_of, decided, pieces_of, sent_by, dropped_by, sent_count, dropped_count, frame_count}
+use Rattle.spec_run.specs.Summary.{places_of, decided, pieces_of, sent_by, dropped_by, sent_count, dropped_count, frame_count}
 use Rattle.spec_board.specs.Counts.{times_visited, owed_packets, owed_bytes}
 use Rattle.spec_board.specs.Texts.{Journal}
-use Rattle.spec_dumps.specs.Rules.{end_of, packets_of, bytes_of}
+use Rattle.spec_run.specs.Rules.{end_of, packets_of, bytes_of}
 use Rattle.spec_run.specs.Journals.{HasEditsApart, IsWhole, AreWhole, actions_in}
 use Rattle.output_laws.specs.Parts.{before, since}
 use Rattle.output_laws.proofs.parts.Frames.{count_before, length-before, length-since, frame_at-before, frame_at-since}

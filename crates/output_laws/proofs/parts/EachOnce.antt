@@ -20,7 +20,7 @@ use Rattle.spec_run.specs.Journals.{HasEditsApart, IsWhole}
 use Rattle.board_laws.proofs.Journals.{after_step}
 use Rattle.board_laws.proofs.PlaceLaws.{at_there}
 use Rattle.board_laws.proofs.Places.{all_places}
-use Rattle.run_laws.proofs.LastVersions.{by_last_version}
+use Rattle.board_laws.proofs.ByLastVersions.{by_last_version}
 use Rattle.output_laws.proofs.parts.Apart.{by_last}
 
 -- ---- sums

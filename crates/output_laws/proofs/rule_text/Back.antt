@@ -18,8 +18,8 @@ use Rattle.spec_flow_text.specs.Matches.{MatchText, uncommented, read_match}
 use Rattle.spec_flow_text.specs.Actions.{read_actions}
 use Rattle.spec_flow_text.specs.Printed.{shown, match_printed, actions_printed}
 use Rattle.spec_flow_text.specs.Lines.{edit_words, first_word, end_of, edit_from, edit_in}
-use Rattle.spec_dumps.specs.declared.rule_counts.RuleCounts.{RuleCounts}
-use Rattle.spec_dumps.specs.Rules.{after_comma, counts_text}
+use Rattle.spec_run.specs.declared.rule_counts.RuleCounts.{RuleCounts}
+use Rattle.spec_run.specs.Rules.{after_comma, counts_text}
 use Rattle.text_laws.proofs.CommentLaws.{match_of_text, read_match-text, edit-comment}
 use Rattle.text_laws.proofs.PlainValues.{IsPlain, value_plain, decimal_plain}
 use Rattle.text_laws.proofs.ValuesBack.{ReadValues}

@@ -8,7 +8,7 @@ use Rattle.spec_tables.specs.declared.edit_word.EditWord.TheVariants.{Add, Modif
 use Rattle.spec_tables.specs.Rules.{Rule, is_same_match}
 use Rattle.spec_tables.specs.Edits.{Edit, rule_of, with_actions, without, modified, edited, after_edit, after_edits, is_named_by, is_reached_by}
 use Rattle.spec_base.specs.Sorting.{insert_by, sort_by}
-use Rattle.spec_dumps.specs.Rules.{comes_before, in_order}
+use Rattle.spec_run.specs.Rules.{comes_before, in_order}
 use Rattle.table_laws.proofs.MemberLaws.{Among, Among-append, Among-filter, Among-insert_by, Among-sort_by}
 use Rattle.table_laws.proofs.KeyLaws.{same_refl, same-eq}
 use Rattle.board_laws.proofs.ListLaws.{Among-map}

@@ -13,9 +13,9 @@ use Rattle.spec_case.specs.Run.{Run, last_version}
 use Rattle.spec_flow_text.specs.Characters.{number_sign}
 use Rattle.spec_board.specs.Texts.{Journal, line_of}
 use Rattle.spec_flow_text.specs.Lines.{edit_in}
-use Rattle.spec_dumps.specs.declared.rule_counts.RuleCounts.{RuleCounts}
+use Rattle.spec_run.specs.declared.rule_counts.RuleCounts.{RuleCounts}
 use Rattle.spec_base.proofs.SortLaws.{length-sort_by}
-use Rattle.spec_dumps.specs.Rules.{counts_of, counts_text, comes_before, in_order, live_rules, gone_rules, rules_text}
+use Rattle.spec_run.specs.Rules.{counts_of, counts_text, comes_before, in_order, live_rules, gone_rules, rules_text}
 use Rattle.spec_input.specs.Lines.{most_line_bytes, with_lines, lines_of}
 use Rattle.spec_input.specs.Script.{nothing_read, most_edits, with_line, script_of}
 use Rattle.table_laws.proofs.MemberLaws.{Among, All-Among, All_from-Among, Among-append_left, Among-append_right}

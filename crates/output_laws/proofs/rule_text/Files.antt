@@ -15,7 +15,7 @@ use Rattle.spec_flow_text.specs.Items.{is_white}
 use Rattle.spec_flow_text.specs.Matches.{uncommented}
 use Rattle.spec_flow_text.specs.Lines.{first_word, edit_in}
 use Rattle.spec_board.specs.Texts.{line_of}
-use Rattle.spec_dumps.specs.declared.rule_counts.RuleCounts.{RuleCounts}
+use Rattle.spec_run.specs.declared.rule_counts.RuleCounts.{RuleCounts}
 use Rattle.spec_input.specs.Lines.{most_line_bytes, with_lines, lines_of, with_next}
 use Rattle.spec_input.specs.Script.{Reading, nothing_read, most_edits, with_bundle, with_edit, with_line, script_of}
 use Rattle.output_laws.specs.Lines.{rule_text, added}

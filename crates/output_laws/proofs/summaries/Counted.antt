@@ -17,7 +17,7 @@ use Rattle.spec_board.specs.Refusals.{settle_fault}
 use Rattle.spec_board.specs.Effects.{effect, decided_as}
 use Rattle.spec_board.specs.Journals.{Legal, opened, after}
 use Rattle.spec_board.specs.Texts.{Journal}
-use Rattle.spec_dumps.specs.Summary.{is_exact, is_mega, is_miss, is_installed, is_present, is_full}
+use Rattle.spec_run.specs.Summary.{is_exact, is_mega, is_miss, is_installed, is_present, is_full}
 use Rattle.spec_run.specs.Journals.{IsWhole, AreWhole}
 use Rattle.board_laws.specs.Places.{ArePlaces}
 use Rattle.board_laws.proofs.Journals.{AreLegal, after_all}

@@ -3,8 +3,8 @@ use Rattle.std.proofs.Common.{◌≡◌, List, ◌++◌, refl}
 use Rattle.std.specs.Prelude.{Option, codes}
 use Rattle.spec_case.specs.Run.{Run}
 use Rattle.spec_board.specs.Texts.{Journal}
-use Rattle.spec_dumps.specs.declared.ran.Ran.{Ran}
-use Rattle.spec_dumps.specs.Summary.{sent_count, dropped_count, summary}
+use Rattle.spec_run.specs.declared.ran.Ran.{Ran}
+use Rattle.spec_run.specs.Summary.{sent_count, dropped_count, summary}
 use Rattle.output_laws.specs.Sums.{summary_with}
 use Rattle.output_laws.specs.Made.{last_sync}
 

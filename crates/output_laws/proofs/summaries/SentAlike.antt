@@ -9,9 +9,9 @@ use Rattle.spec_case.specs.Run.{Run, frame_at}
 use Rattle.spec_board.specs.Decisions.{Decision, decision_of}
 use Rattle.spec_board.specs.Texts.{Journal}
 use Rattle.spec_exec.specs.Sent.{sent}
-use Rattle.spec_dumps.specs.Summary.{places_of, decided, pieces_of, sent_by, dropped_by, sent_count, dropped_count}
+use Rattle.spec_run.specs.Summary.{places_of, decided, pieces_of, sent_by, dropped_by, sent_count, dropped_count}
 use Rattle.spec_run.specs.Journals.{IsWhole, AreWhole, IsByLastVersion, actions_in}
-use Rattle.run_laws.proofs.LastVersions.{AreByLast, of_journal, same_actions}
+use Rattle.board_laws.proofs.ByLastVersions.{AreByLast, of_journal, same_actions}
 use Rattle.output_laws.specs.Sums.{SendAlike, summary_with}
 
 decided_is : (o : Option Decision) → decided o ≡ actions_in o

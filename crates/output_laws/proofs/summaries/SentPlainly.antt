@@ -11,7 +11,7 @@ use Rattle.spec_board.specs.Results.{key_at, translated}
 use Rattle.spec_board.specs.Decisions.{Decision, decision_of}
 use Rattle.spec_board.specs.Texts.{Journal}
 use Rattle.spec_exec.specs.Sent.{Piece, sent}
-use Rattle.spec_dumps.specs.Summary.{decided, pieces_of, sent_by, dropped_by, dropped_count}
+use Rattle.spec_run.specs.Summary.{decided, pieces_of, sent_by, dropped_by, dropped_count}
 use Rattle.spec_run.specs.Journals.{IsWhole, AreWhole, IsByLastVersion}
 use Rattle.output_laws.specs.Sums.{summary_with, plain_pieces, plain_sent_by, plain_dropped_by, plain_sent, SendPlainly}
 

@@ -3,7 +3,7 @@ ghost use Rattle.spec_tables.specs.Bundles.{version};
 ghost use Rattle.spec_case.specs.Run.{Run};
 ghost use Rattle.spec_board.specs.Texts.{Journal};
 ghost use Rattle.spec_input.specs.Script.{script_of};
-ghost use Rattle.spec_dumps.specs.Rules.{rules_text};
+ghost use Rattle.spec_run.specs.Rules.{rules_text};
 ghost use Rattle.output_laws.specs.Dumps.{IsReadableDump, dumped_rules, dumped_edits, renumbered};
 
 use crate::rule_text::lines::printed_rules_read_back;

@@ -4,8 +4,8 @@ ghost use Rattle.spec_tables.specs.Edits.{Edit, rule_of, after_edits};
 ghost use Rattle.spec_flow_text.specs.Lines.{edit_in};
 ghost use Rattle.spec_input.specs.Script.{Script, script_of};
 ghost use Rattle.spec_board.specs.Texts.{line_of};
-ghost use Rattle.spec_dumps.specs.declared.rule_counts.RuleCounts.{RuleCounts};
-ghost use Rattle.spec_dumps.specs.Rules.{rule_line_with};
+ghost use Rattle.spec_run.specs.declared.rule_counts.RuleCounts.{RuleCounts};
+ghost use Rattle.spec_run.specs.Rules.{rule_line_with};
 ghost use Rattle.output_laws.specs.Lines.{rule_text, added, IsWritable, WasRead, ReadsBack, AreCounts};
 
 use text_laws::round_trips::{read_actions_can_be_spelled, read_match_can_be_spelled};

@@ -11,7 +11,7 @@ use run_boards::Finished;
 use run_case::{Case, RunData};
 use run_tables::ClassifierTables;
 use spec_case::RunStep;
-use spec_dumps::Ran;
+use spec_run::Ran;
 use std::alloc::{AllocError, Global};
 use std::sync::Wait;
 use std::thread::Threads;

@@ -1,7 +1,7 @@
 use Rattle.std.proofs.Common.{All, arith}
 use Rattle.spec_case.specs.Run.{Run}
 use Rattle.spec_run.specs.Journals.{IsWhole}
-use Rattle.spec_dumps.specs.Summary.{sent_by, dropped_by}
+use Rattle.spec_run.specs.Summary.{sent_by, dropped_by}
 use Rattle.pmd_board.specs.BoardView.{journal_view, journals_view}
 use Rattle.flow_dump.proofs.JournalSums.{sum-more, of_each}
 use Rattle.flow_dump.proofs.frame_counts.count_all_frames.Goals as goal

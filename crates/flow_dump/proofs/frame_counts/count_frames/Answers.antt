@@ -1,7 +1,7 @@
 use Rattle.std.proofs.Common.{ℕ, ◌+◌, length, refl, sym, ◌∙◌, arith}
 use Rattle.spec_case.specs.Run.{Run}
 use Rattle.spec_board.specs.Texts.{Journal}
-use Rattle.spec_dumps.specs.Summary.{pieces_of}
+use Rattle.spec_run.specs.Summary.{pieces_of}
 use Rattle.pmd_board.specs.BoardView.{journal_view}
 use Rattle.flow_dump.proofs.JournalSums.{places-more, dropped-yes, dropped-no}
 use Rattle.flow_dump.proofs.frame_counts.count_frames.Goals as goal

@@ -2,7 +2,7 @@ use Rattle.std.proofs.Common.{◌≡◌, ◌*◌, ◌≤◌, length}
 use Rattle.std.specs.Prelude.{◌==◌, count_by}
 use Rattle.std.specs.List.{sum_by, range_with_len}
 use Rattle.spec_xlate.specs.Translation.{action_limit}
-use Rattle.spec_dumps.specs.Summary.{pieces_of}
+use Rattle.spec_run.specs.Summary.{pieces_of}
 use Rattle.pmd_board.specs.BoardView.{journal_view}
 use Rattle.flow_dump.proofs.frame_counts.count_frames.Given as goal
 

@@ -2,7 +2,7 @@ use Rattle.std.proofs.Common.{ℕ, List, [], Option, subst, sym, ap, ◌∙◌}
 use Rattle.std.specs.Option.{option_map_or}
 use Rattle.edge_io.specs.Written.{WritesAll}
 use Rattle.spec_board.specs.State.{Entry}
-use Rattle.spec_dumps.specs.Megaflows.{megaflow_line}
+use Rattle.spec_run.specs.Megaflows.{megaflow_line}
 use Rattle.pmd_board.specs.BoardView.{state_of}
 use Rattle.dump_lines.specs.Views.{entry_with}
 use Rattle.flow_dump.proofs.Numbered.{entry_with-is, none-is}

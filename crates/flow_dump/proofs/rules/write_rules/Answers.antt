@@ -4,7 +4,7 @@ use Rattle.std.proofs.lemmas.Result.{err_from_is_err_and}
 use Rattle.spec_board.specs.Texts.{Journal}
 use Rattle.edge_io.specs.Written.{WritesFile}
 use Rattle.rule_tables.specs.History.{applied}
-use Rattle.spec_dumps.specs.declared.rule_counts.RuleCounts.{RuleCounts}
+use Rattle.spec_run.specs.declared.rule_counts.RuleCounts.{RuleCounts}
 use Rattle.dump_lines.specs.declared.rules.places.RulePlace.{RulePlace}
 use Rattle.dump_lines.specs.Live.{IsLiveIn, IsOfEdits}
 use Rattle.flow_dump.specs.Counted.{AreCounts}

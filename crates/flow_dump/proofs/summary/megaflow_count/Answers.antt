@@ -2,8 +2,8 @@ use Rattle.std.proofs.Common.{◌≡◌, length, ap, sym, ◌∙◌, arith}
 use Rattle.std.proofs.lemmas.List.{take_all, length-map}
 use Rattle.spec_case.specs.Run.{Run}
 use Rattle.spec_board.specs.Texts.{Journal}
-use Rattle.spec_dumps.specs.Rules.{end_of}
-use Rattle.spec_dumps.specs.Summary.{megaflow_count}
+use Rattle.spec_run.specs.Rules.{end_of}
+use Rattle.spec_run.specs.Summary.{megaflow_count}
 use Rattle.port_caches.specs.Views.{entry_view}
 use Rattle.pmd_board.specs.BoardView.{journal_view, journals_view}
 use Rattle.flow_dump.proofs.JournalSums.{sum-more}

@@ -1,5 +1,5 @@
 use Rattle.std.proofs.Common.{◌≡◌, ◌*◌, ◌^◌, ◌≤◌, take}
-use Rattle.spec_dumps.specs.Summary.{megaflow_count}
+use Rattle.spec_run.specs.Summary.{megaflow_count}
 use Rattle.pmd_board.specs.BoardView.{journals_view}
 use Rattle.flow_dump.proofs.summary.megaflow_count.Given as goal
 

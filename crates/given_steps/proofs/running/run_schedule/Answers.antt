@@ -4,7 +4,7 @@ use Rattle.spec_case.specs.Run.{Run}
 use Rattle.spec_board.specs.Schedules as schedules
 use Rattle.pmd_board.specs.BoardView.{BoardView}
 use Rattle.run_boards.specs.Scheduled.{schedule_of}
-use Rattle.run_laws.proofs.Alike.{all_by_last}
+use Rattle.board_laws.proofs.Alike.{all_by_last}
 use Rattle.given_steps.proofs.WholeRuns.{as_scheduled, unmet_is, left_new}
 use Rattle.given_steps.proofs.running.run_schedule.Goals as goal
 

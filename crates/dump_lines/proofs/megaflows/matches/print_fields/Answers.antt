@@ -2,7 +2,7 @@ use Rattle.std.proofs.Common.{◌≡◌, ◌++◌, ap, subst, get_or, string_byt
 use Rattle.spec_keys.specs.declared.field_id.FieldId.TheVariants.{InPort}
 use Rattle.spec_flow_text.specs.Values.{Bits}
 use Rattle.spec_flow_text.specs.Printed.{own_name, shown_bits}
-use Rattle.spec_dumps.specs.Megaflows.{stated}
+use Rattle.spec_run.specs.Megaflows.{stated}
 use Rattle.match_text.specs.Shown.{items_text, begun_after}
 use Rattle.match_text.proofs.ItemTexts.{one_more, none_left, begins_before}
 use Rattle.dump_lines.specs.Views.{match_of}

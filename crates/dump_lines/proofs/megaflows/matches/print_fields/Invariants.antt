@@ -1,6 +1,6 @@
 use Rattle.std.proofs.Common.{◌≡◌, ◌++◌, false, drop, string_bytes}
 use Rattle.std.specs.List.{flat_map}
-use Rattle.spec_dumps.specs.Megaflows.{stated}
+use Rattle.spec_run.specs.Megaflows.{stated}
 use Rattle.text_numbers.specs.Added.{IsPrefix}
 use Rattle.match_text.specs.Shown.{items_text}
 use Rattle.dump_lines.specs.Views.{match_of}

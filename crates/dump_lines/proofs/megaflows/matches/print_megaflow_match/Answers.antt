@@ -3,7 +3,7 @@ use Rattle.std.specs.List.{flat_map}
 use Rattle.spec_keys.specs.declared.field_id.FieldId.{FieldId}
 use Rattle.spec_keys.specs.Fields.{fields}
 use Rattle.spec_tables.specs.Rules.{Match}
-use Rattle.spec_dumps.specs.Megaflows.{stated, megaflow_match_text}
+use Rattle.spec_run.specs.Megaflows.{stated, megaflow_match_text}
 use Rattle.text_numbers.proofs.Adding.{same_text}
 use Rattle.match_text.specs.Shown.{items_text}
 use Rattle.match_text.proofs.ItemTexts.{joined}

@@ -1,6 +1,6 @@
 use Rattle.std.proofs.Common.{◌≡◌, ◌+◌, get_or, string_bytes, arith}
 use Rattle.match_text.proofs.ItemTexts.{begins_before}
-use Rattle.spec_dumps.specs.Megaflows.{once}
+use Rattle.spec_run.specs.Megaflows.{once}
 use Rattle.dump_lines.specs.Runs.{runs_text}
 use Rattle.dump_lines.proofs.megaflows.Ends.{ends}
 use Rattle.dump_lines.proofs.megaflows.RunTexts.{visits_of, same_run, next_run, last_run}

@@ -1,5 +1,5 @@
 use Rattle.std.proofs.Common.{◌≡◌, ◌+◌, ◌≤◌, ◌++◌, drop, string_bytes}
-use Rattle.spec_dumps.specs.Megaflows.{once}
+use Rattle.spec_run.specs.Megaflows.{once}
 use Rattle.text_numbers.specs.Added.{IsPrefix}
 use Rattle.dump_lines.specs.Runs.{runs_text}
 use Rattle.dump_lines.proofs.megaflows.RunTexts.{visits_of}

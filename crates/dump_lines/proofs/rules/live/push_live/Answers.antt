@@ -1,6 +1,6 @@
 use Rattle.std.proofs.Common.{◌∙◌, ℕ, List, [], refl, sym, ap, subst}
 use Rattle.std.specs.Option.{option_map_or}
-use Rattle.spec_dumps.specs.Rules.{rule_line_with}
+use Rattle.spec_run.specs.Rules.{rule_line_with}
 use Rattle.text_numbers.specs.Added.{Adds}
 use Rattle.dump_lines.proofs.rules.Added.{live_as, live_is, live_is_sound}
 use Rattle.dump_lines.proofs.rules.live.push_live.Goals as goal

@@ -1,5 +1,5 @@
 use Rattle.std.proofs.Common.{rules, ◌≡◌, replicate, List, ap, ◌∙◌}
-use Rattle.spec_dumps.specs.declared.rule_counts.RuleCounts.{RuleCounts}
+use Rattle.spec_run.specs.declared.rule_counts.RuleCounts.{RuleCounts}
 use Rattle.port_caches.specs.Sums.{total_of}
 use Rattle.flow_dump.specs.Sums.{sums_view}
 use Rattle.flow_dump.proofs.sums.Adding.{total_of-replicate}

@@ -3,7 +3,7 @@ use Rattle.std.specs.Prelude.{slice_index, slice_index_or, All}
 use Rattle.std.proofs.lemmas.List.{length-map}
 use Rattle.spec_board.specs.State.{Total}
 use Rattle.spec_board.specs.Effects.{credited}
-use Rattle.spec_dumps.specs.declared.rule_counts.RuleCounts.{RuleCounts}
+use Rattle.spec_run.specs.declared.rule_counts.RuleCounts.{RuleCounts}
 use Rattle.port_caches.specs.Sums.{total_of, IsRule}
 use Rattle.flow_dump.specs.Sums.{Fits, sum_view, sums_view}
 use Rattle.port_caches.proofs.stats.Credits.{drop-visits, with_more}

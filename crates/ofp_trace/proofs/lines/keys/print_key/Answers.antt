@@ -1,5 +1,5 @@
 use Rattle.std.proofs.Common.{ℕ, List, subst}
-use Rattle.spec_dumps.specs.Megaflows.{megaflow_match_text}
+use Rattle.spec_run.specs.Megaflows.{megaflow_match_text}
 use Rattle.ovs_fields.specs.Packed.{numbers}
 use Rattle.text_numbers.specs.Added.{Adds}
 use Rattle.ofp_trace.proofs.lines.keys.print_key.Goals as goal

@@ -5,7 +5,7 @@ use Rattle.spec_tables.specs.Rules.{Rule}
 use Rattle.spec_tables.specs.Bundles.{edits_through}
 use Rattle.spec_case.specs.Run.{last_version}
 use Rattle.spec_flow_text.specs.Actions.{is_respellable}
-use Rattle.spec_dumps.specs.Rules.{comes_before, counts_of, live_rules}
+use Rattle.spec_run.specs.Rules.{comes_before, counts_of, live_rules}
 use Rattle.table_laws.proofs.MemberLaws.{Among, All-Among, Among-sort_by}
 use Rattle.text_laws.proofs.PlainValues.{ValueTexts}
 use Rattle.text_laws.proofs.ValuesBack.{ReadValues}

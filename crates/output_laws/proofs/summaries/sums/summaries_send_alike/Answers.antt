@@ -1,4 +1,4 @@
-use Rattle.run_laws.proofs.Alike.{all_by_last}
+use Rattle.board_laws.proofs.Alike.{all_by_last}
 use Rattle.output_laws.proofs.summaries.SentAlike.{send_alike}
 use Rattle.output_laws.proofs.summaries.sums.summaries_send_alike.Goals as goal
 

@@ -18,7 +18,7 @@ use Rattle.spec_board.specs.State.{State}
 use Rattle.spec_board.specs.Journals.{after}
 use Rattle.spec_board.specs.Counts.{owed_packets, owed_bytes}
 use Rattle.spec_board.specs.Texts.{Journal, line_of}
-use Rattle.spec_dumps.specs.declared.rule_counts.RuleCounts.{RuleCounts}
+use Rattle.spec_run.specs.declared.rule_counts.RuleCounts.{RuleCounts}
 
 -- ---- counts
 

@@ -11,9 +11,9 @@ use Rattle.spec_board.specs.Steps.{Step, Look, Settle, Present, Full, Installed}
 use Rattle.spec_board.specs.Decisions.{Decision, decision_of}
 use Rattle.spec_board.specs.Texts.{Journal, line_of}
 use Rattle.spec_exec.specs.Sent.{Piece, sent}
-use Rattle.spec_dumps.specs.declared.ran.Ran.{Ran}
-use Rattle.spec_dumps.specs.Rules.{end_of}
-use Rattle.spec_dumps.specs.Megaflows.{told}
+use Rattle.spec_run.specs.declared.ran.Ran.{Ran}
+use Rattle.spec_run.specs.Rules.{end_of}
+use Rattle.spec_run.specs.Megaflows.{told}
 
 -- ---- steps
 

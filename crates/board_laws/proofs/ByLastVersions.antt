@@ -19,7 +19,7 @@ use Rattle.table_laws.proofs.MemberLaws.{Among, Among-append}
 use Rattle.board_laws.proofs.Journals.{after_step}
 use Rattle.board_laws.proofs.PlaceLaws.{at_there}
 use Rattle.board_laws.proofs.Places.{all_places}
-use Rattle.run_laws.proofs.ListLaws.{count_append, found_counts, only_found, none_counts, none_found, found_passes, count_mapped, sum_through, times, same_sums}
+use Rattle.board_laws.proofs.Passing.{count_append, found_counts, only_found, none_counts, none_found, found_passes, count_mapped, sum_through, times, same_sums}
 
 -- ---- which places are decided
 

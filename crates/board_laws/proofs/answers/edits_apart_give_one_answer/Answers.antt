@@ -1,5 +1,5 @@
-use Rattle.run_laws.proofs.Alike.{all_by_last, actions_are, frames_are, port_files_are, counts_are, rules_files_are}
-use Rattle.run_laws.proofs.answers.edits_apart_give_one_answer.Goals as goal
+use Rattle.board_laws.proofs.Alike.{all_by_last, actions_are, frames_are, port_files_are, counts_are, rules_files_are}
+use Rattle.board_laws.proofs.answers.edits_apart_give_one_answer.Goals as goal
 
 pub returns-clause-actions : goal.returns-clause-actions
 returns-clause-actions c run a b apart whole_a whole_b port place =

@@ -17,10 +17,10 @@ use Rattle.spec_exec.specs.Sent.{sent}
 use Rattle.spec_board.proofs.Shown.{shown, run_of, flow_limit, edit, add, in_port_1, dl_dst, sync, frame}
 use Rattle.spec_board.proofs.Runs.{replaced, two_blocks}
 use Rattle.spec_base.specs.Sorting.{insert_by, sort_by}
-use Rattle.spec_dumps.specs.Rules.{rules_text}
-use Rattle.spec_dumps.specs.Megaflows.{time_text, together, visits_text, megaflow_match_text, megaflows_text}
-use Rattle.spec_dumps.specs.declared.ran.Ran.{Ran}
-use Rattle.spec_dumps.specs.Summary.{summary}
+use Rattle.spec_run.specs.Rules.{rules_text}
+use Rattle.spec_run.specs.Megaflows.{time_text, together, visits_text, megaflow_match_text, megaflows_text}
+use Rattle.spec_run.specs.declared.ran.Ran.{Ran}
+use Rattle.spec_run.specs.Summary.{summary}
 
 -- a rule that sends what comes in at port 1 to port 2
 abbrev to_port_2 : Run

@@ -1,5 +1,5 @@
-use Rattle.run_laws.proofs.Alike.{actions_are, frames_are, port_files_are, counts_are, rules_files_are}
-use Rattle.run_laws.proofs.answers.last_versions_give_one_answer.Goals as goal
+use Rattle.board_laws.proofs.Alike.{actions_are, frames_are, port_files_are, counts_are, rules_files_are}
+use Rattle.board_laws.proofs.answers.last_versions_give_one_answer.Goals as goal
 
 pub returns-clause-actions : goal.returns-clause-actions
 returns-clause-actions c = actions_are

@@ -15,11 +15,11 @@ use Rattle.spec_board.specs.Steps.{Step}
 use Rattle.spec_board.specs.Counts.{owed_packets, owed_bytes}
 use Rattle.spec_board.specs.Decisions.{decision_of, due_packets, due_bytes}
 use Rattle.spec_board.specs.Texts.{Journal}
-use Rattle.spec_dumps.specs.declared.rule_counts.RuleCounts.{RuleCounts}
-use Rattle.spec_dumps.specs.Rules.{end_of, packets_of, bytes_of, counts_of, in_order, live_rules, rule_line_with, gone_line_with, gone_rules, rules_text}
+use Rattle.spec_run.specs.declared.rule_counts.RuleCounts.{RuleCounts}
+use Rattle.spec_run.specs.Rules.{end_of, packets_of, bytes_of, counts_of, in_order, live_rules, rule_line_with, gone_line_with, gone_rules, rules_text}
 use Rattle.spec_run.specs.Journals.{HasEditsApart, IsWhole, AreWhole, IsByLastVersion, steps_in, actions_in, actions_for}
 use Rattle.spec_run.specs.Outputs.{frames_by, frames_out, port_file_name, port_file, rules_file}
-use Rattle.run_laws.proofs.LastVersions.{AreByLast, of_journal, by_last_version, same_actions, same_packets, same_bytes}
+use Rattle.board_laws.proofs.ByLastVersions.{AreByLast, of_journal, by_last_version, same_actions, same_packets, same_bytes}
 
 all_head : {X : Type 0} (P : X → Type 0) (x : X) (xs : List X) → All P (x ∷ xs) → P x
 all_head P x xs all = all 0 x (omega arith)

@@ -1,8 +1,8 @@
 ghost use Rattle.std.specs.Prelude.{◌≡◌, ℕ, List};
-ghost use Rattle.spec_dumps.specs.Rules.{counts_of};
+ghost use Rattle.spec_run.specs.Rules.{counts_of};
 ghost use Rattle.spec_run.specs.Journals.{actions_for};
 ghost use Rattle.spec_run.specs.Outputs.{frames_out, port_file, rules_file};
-ghost use Rattle.run_laws.specs.Journals.{OfLastVersions, OfEditsApart};
+ghost use Rattle.board_laws.specs.Runs.{OfLastVersions, OfEditsApart};
 
 /// Where two lists of whole journals decide each frame under the last version of its block, they decide the same actions
 /// for it, send the same frames out at each port, and come to the same packets and bytes of each rule. So the files of

@@ -13,7 +13,7 @@ use Rattle.spec_flow_text.specs.DpTextPrinted.{dp_actions_printed}
 use Rattle.spec_case.specs.Run.{Run}
 use Rattle.spec_board.specs.State.{Entry}
 use Rattle.spec_board.specs.Texts.{Journal, line_of}
-use Rattle.spec_dumps.specs.Rules.{end_of}
+use Rattle.spec_run.specs.Rules.{end_of}
 
 -- ---- the time of use
 

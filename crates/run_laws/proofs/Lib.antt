@@ -1,4 +1,0 @@
-mod ListLaws
-pub mod LastVersions
-pub mod Alike
-mod Rows
