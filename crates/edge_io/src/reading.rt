@@ -40,6 +40,13 @@ impl From<AllocError> for ReadFault {
     }
 }
 
+// Room for what is read at once. Its contract leaves out the bytes: a proof that sees so many writes them all out.
+fn new_piece(alloc: Global) -> Result<Vec<u8>, AllocError>
+    ensures { IfOk result (λ piece. 0 < vec_len piece) }
+{
+    vec![in alloc; 0; PIECE]
+}
+
 // Reads to the end of the opened file, a piece at a time, or until there are more bytes than `max`.
 fn read_rest<S: Shelf>(
     alloc: Global,
@@ -143,7 +150,7 @@ pub fn read_all<S: Shelf>(
         S.counts_at_last shelf.new ≡ S.counts shelf.old }
     ensures cause { ReadCause (S.counts shelf.old) (S.counts shelf.new) result }
 {
-    let mut piece = vec![in alloc; 0; PIECE]?;
+    let mut piece = new_piece(alloc)?;
     shelf.open_file(name)?;
     read_opened(alloc, shelf, &mut piece, max)
 }

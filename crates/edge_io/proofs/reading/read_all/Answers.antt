@@ -1,4 +1,4 @@
-use Rattle.std.proofs.Common.{refl, lit<, arith}
+use Rattle.std.proofs.Common.{refl, arith}
 use Rattle.edge_io.specs.declared.outside.Failed.TheVariants as failed
 use Rattle.edge_io.proofs.Refusals as refusals
 use Rattle.edge_io.proofs.Whole as whole
@@ -91,9 +91,8 @@ returns-clause-only_read g c = λ t.
     (g.S.Shelf.told c.read_opened.new.shelf) c.args.name.now c.read_opened.result
     (c.in_ok-open_file.ensures.told t).ok (c.read_opened.ensures.told t)
 
--- named, since a search writes the whole piece out
 pub read_opened-requires-clause-room : goal.read_opened-requires-clause-room
-read_opened-requires-clause-room g c = rw c.deref_mut.ensures.len (rw c.in_ok-piece.ensures.len (lit< tt))
+read_opened-requires-clause-room g c = rw c.deref_mut.ensures.len c.in_ok-piece.ensures
 
 pub open_file-requires : goal.open_file-requires
 open_file-requires g c = c.requires
