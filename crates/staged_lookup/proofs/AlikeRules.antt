@@ -1,7 +1,7 @@
 -- A subtable that has some rules has others too that differ from them in tables, cookies and actions alone.
-use Rattle.std.proofs.Common.{◌≡◌, ℕ, ◌+◌, Bool, true, false, ◌==◌, if◌then◌else◌, nat_eq, List, [], ◌∷◌, map, length, refl, sym, ap, ap₂, ◌∙◌, subst, arith}
+use Rattle.std.proofs.Common.{◌≡◌, ℕ, ◌+◌, ◌<◌, ◌^◌, Bool, true, false, ◌==◌, if◌then◌else◌, List, [], ◌∷◌, map, length, refl, sym, ap, ap₂, ◌∙◌, subst, arith}
 use Rattle.std.specs.List.{count_by}
-use Rattle.indexmap.specs.IndexMap.{get}
+use Rattle.std.proofs.lemmas.List.{length-map}
 use Rattle.spec_keys.specs.Keys.{masked, same}
 use Rattle.spec_tables.specs.Rules.{Rule}
 use Rattle.table_laws.proofs.MemberLaws.{Among, Among_in-map}
@@ -11,7 +11,7 @@ use Rattle.staged_lookup.specs.declared.stage.Stage.{Stage}
 use Rattle.staged_lookup.specs.declared.subtable.Subtable.{Subtable}
 use Rattle.staged_lookup.specs.Ranks.{rank_of}
 use Rattle.staged_lookup.specs.Stages.{IsStage}
-use Rattle.staged_lookup.specs.Subtables.{ranks_with, IsOfMask, AreKept, Keys, IsSubtableOf}
+use Rattle.staged_lookup.specs.Subtables.{ranks_with, IsOfMask, IsSubtableOf}
 use Rattle.staged_lookup.proofs.Members.{among_map, count-cons}
 use Rattle.staged_lookup.proofs.RankLaws.{ranks-cons}
 
@@ -45,28 +45,20 @@ module _ {X : Type 0} (f g : X → Rule) (number : (x : X) → (f x).number ≡ 
     counted = λ tested key. is.counted tested key ∙ count_alike (λ (r : Rule). same key (masked r.matching.key part)) (λ x. ap (λ m. same key (masked m.key part)) (matching x)) xs;
   }
 
-  kept_alike : (keys : Keys) (xs : List X) → AreKept keys (map f xs) → AreKept keys (map g xs)
-  kept_alike keys xs is = record {
-    there = λ r m.
-        let a = among_map g r xs m in
-        let t = is.there (f a.0) (Among_in-map f a.0 xs a.1) in
-        (t.0, ap (get nat_eq keys) (ap (λ (y : Rule). y.number) a.2 ∙ sym (number a.0)) ∙ t.1, t.2 ∙ ap (λ m. m.key) (matching a.0) ∙ sym (ap (λ (y : Rule). y.matching.key) a.2));
-    only = λ n k e.
-        let h = is.only n k e in
-        let a = among_map f h.0 xs h.1 in
-        (g a.0, Among_in-map g a.0 xs a.1, sym (number a.0) ∙ sym (ap (λ (y : Rule). y.number) a.2) ∙ h.2);
-  }
-
   pub subtable_alike : (s : Subtable) (xs : List X) → IsSubtableOf s (map f xs) → IsSubtableOf s (map g xs)
   subtable_alike s xs is = record {
     of_mask = λ r m. of r (among_map g r xs m);
     masks = is.masks;
     distinct = λ n. let c = count_alike (λ (r : Rule). r.number == n) (λ x. ap (λ k. k == n) (number x)) xs in let d = is.distinct n in omega (arith, c, d);
+    narrow = λ r m.
+        let a = among_map g r xs m in
+        let n = is.narrow (f a.0) (Among_in-map f a.0 xs a.1) in
+        subst (λ (k : ℕ). k < 2 ^ 32) (number a.0 ∙ sym (ap (λ (y : Rule). y.number) a.2)) n;
     ranked = λ key. is.ranked key ∙ ranks_alike key xs;
     metadata = stage_alike s.metadata _ _ _ xs is.metadata;
     ethernet = stage_alike s.ethernet _ _ _ xs is.ethernet;
     network = stage_alike s.network _ _ _ xs is.network;
-    kept = kept_alike s.keys xs is.kept;
+    count = is.count ∙ length-map xs f ∙ sym (length-map xs g);
   }
     where
       of : (r : Rule) → (x : X) × Among x xs × (r ≡ g x) → IsOfMask (bits s.mask) r

@@ -1,7 +1,7 @@
 pub mod AlikeRules
 pub mod Crossing
-pub mod KeyLaws
 pub mod Members
+pub mod OtherRules
 pub mod ProbeLaws
 pub mod RankLaws
 pub mod Removed

@@ -11,9 +11,9 @@ AreDistinct rs = (n : ℕ) → count_by (λ r. r.number == n) rs ≤ 1
 abbrev pub without : ℕ → List Rule → List Rule
 without number rs = filter (λ r. not (r.number == number)) rs
 
--- one of the rules has this number
-abbrev pub HasNumber : ℕ → List Rule → Type 0
-HasNumber number rs = (r : Rule) × Among r rs × (r.number ≡ number)
+-- one of the rules has this number and this key
+abbrev pub HasNumberAt : ℕ → List ℕ → List Rule → Type 0
+HasNumberAt number key rs = (r : Rule) × Among r rs × (r.number ≡ number) × (r.matching.key ≡ key)
 
 -- none of them has it
 abbrev pub HasNoNumber : ℕ → List Rule → Type 0

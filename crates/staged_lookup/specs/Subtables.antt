@@ -1,23 +1,19 @@
 -- A subtable, and the rules of its mask.
-use Rattle.std.specs.Prelude.{◌≡◌, ℕ, ◌<◌, ◌==◌, ◌&&◌, Bool, true, false, nat_le, if◌then◌else◌, List, [], ◌∷◌, ◌++◌, length, map, filter, Option, Some, None, nat_eq}
+use Rattle.std.specs.Prelude.{◌≡◌, ℕ, ◌<◌, ◌^◌, ◌==◌, ◌&&◌, Bool, true, false, nat_le, if◌then◌else◌, List, [], ◌∷◌, ◌++◌, length, map, filter, Option, Some, None}
 use Rattle.std.specs.Option.{option_map}
-use Rattle.std.specs.declared.hash.FoldHasher.{FoldHasher}
-use Rattle.std.specs.declared.hash.BuildHasherDefault.{BuildHasherDefault}
-use Rattle.indexmap.specs.IndexMap.{IndexMap, get}
 use Rattle.spec_keys.specs.Fields.{field_count}
 use Rattle.spec_keys.specs.Keys.{none, masked, same}
 use Rattle.spec_keys.specs.Stages.{staged, metadata_stage, ethernet_stage, network_stage}
 use Rattle.spec_tables.specs.Rules.{Rule, winner}
 use Rattle.table_laws.specs.Members.{Among}
-use Rattle.ovs_fields.specs.Packed.{numbers, bits}
+use Rattle.ovs_fields.specs.Packed.{bits}
 use Rattle.rule_tables.specs.declared.matching.Match.{Match}
 use Rattle.rule_tables.specs.Views.{match_view}
 use Rattle.masked_map.specs.Maps.{mask_of}
 use Rattle.staged_lookup.specs.declared.probe.Probe.{Probe}
 use Rattle.staged_lookup.specs.declared.probe.Probe.TheVariants.{Ended, Best}
 use Rattle.staged_lookup.specs.declared.rank.Rank.{Rank}
-use Rattle.ovs_fields.specs.declared.key.Key.{Key}
-use Rattle.staged_lookup.specs.Numbered.{AreDistinct, HasNumber, HasNoNumber}
+use Rattle.staged_lookup.specs.Numbered.{AreDistinct, HasNumberAt, HasNoNumber}
 use Rattle.staged_lookup.specs.declared.subtable.Subtable.{Subtable}
 use Rattle.staged_lookup.specs.Counts.{ranks_at}
 use Rattle.staged_lookup.specs.Ranks.{rank_of}
@@ -37,29 +33,21 @@ pub record IsOfMask (mask : List ℕ) (r : Rule) : Type 0 where
 abbrev pub has_priority : List ℕ → ℕ → Rule → Bool
 has_priority key priority r = same key r.matching.key && (r.priority == priority)
 
--- the keys of rules by their numbers
-abbrev pub Keys : Type 0
-Keys = IndexMap ℕ Key (BuildHasherDefault FoldHasher)
-
--- each rule's key stands at its number, and nothing at a number that no rule has
-pub record AreKept (keys : Keys) (rs : List Rule) : Type 0 where
-  pub there : (r : Rule) → Among r rs → (k : Key) × (get nat_eq keys r.number ≡ Some k) × (numbers k ≡ r.matching.key)
-  pub only : (n : ℕ) (k : Key) → get nat_eq keys n ≡ Some k → HasNumber n rs
-
--- the subtable has these rules, which are all of its mask, and no two of one number
+-- the subtable has these rules, which are all of its mask, and no two of one number, which has 32 bits
 pub record IsSubtableOf (s : Subtable) (rs : List Rule) : Type 0 where
   pub of_mask : (r : Rule) → Among r rs → IsOfMask (bits s.mask) r
   pub masks : mask_of s.buckets ≡ bits s.mask
   pub distinct : AreDistinct rs
+  pub narrow : (r : Rule) → Among r rs → r.number < 2 ^ 32
   pub ranked : (key : List ℕ) → ranks_at s.buckets key ≡ ranks_with key rs
   pub metadata : IsStage s.metadata none (staged metadata_stage (bits s.mask)) (bits s.mask) rs
   pub ethernet : IsStage s.ethernet (staged metadata_stage (bits s.mask)) (staged ethernet_stage (bits s.mask)) (bits s.mask) rs
   pub network : IsStage s.network (staged ethernet_stage (bits s.mask)) (staged network_stage (bits s.mask)) (bits s.mask) rs
-  pub kept : AreKept s.keys rs
+  pub count : s.rules ≡ length rs
 
--- one of its rules has this number
-abbrev pub HasRule : ℕ → Subtable → Type 0
-HasRule number s = (rs : List Rule) × IsSubtableOf s rs × HasNumber number rs
+-- one of its rules has this number and this key
+abbrev pub HasRule : ℕ → List ℕ → Subtable → Type 0
+HasRule number key s = (rs : List Rule) × IsSubtableOf s rs × HasNumberAt number key rs
 
 -- none of its rules has it
 abbrev pub HasNoRule : ℕ → Subtable → Type 0

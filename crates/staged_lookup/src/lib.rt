@@ -15,7 +15,7 @@
 //!
 //! - `new` has none. It takes no memory.
 //! - `insert` adds a rule of the mask, whose number no other has. Where it lacks memory it has the same rules.
-//! - `remove` takes the rule of a number out, which is there. It takes no memory.
+//! - `remove` takes the rule of a number and a key out, which is there. It takes no memory.
 //! - `probe` answers `Ended` with the first stage on which no rule agrees with the key, or `Best` with the number and
 //!   priority of the rule that wins of those that the key matches. So it is `Ended` exactly where none matches. It takes no
 //!   memory. `probe_early` and `probe_late` do the same in two steps, for a lookup that has prefixes to test between the
@@ -37,14 +37,14 @@
 //!
 //! The rules with a key stand in one bucket, of their *ranks*: the priority and the number, which decide who wins.
 //! Rules of one mask and one key differ in their priorities alone, so most buckets have one rank, which stands in the
-//! map itself; more stand in a list of their own. Another map has the rules' keys by their numbers, for removals.
+//! map itself; more stand in a list of their own. No match is kept beside: whoever removes a rule has its key.
 //!
 //! # What it costs
 //!
 //! A probe takes a hash and a probe of a map for each stage that it tests, and one more for the rules themselves. Of
 //! rules with one key it compares the ranks one by one; else none of it grows by the rules. An insertion and a removal
-//! take two of each map by keys, and one of that by numbers. An insertion takes memory where a map grows, and for the
-//! second rule of a key; a removal takes none.
+//! take two of each map by keys. An insertion takes memory where a map grows, and for the second rule of a key; a removal
+//! takes none.
 //!
 //! # What is left to others
 //!

@@ -1,5 +1,4 @@
-ghost use Rattle.std.specs.Prelude.{◌≡◌, ◌==◌, ◌<◌, [], ℕ, nat_eq, List, IsTrue, IsNone, OnOk, OnErr, IfSome, Some, None, if◌then◌else◌};
-ghost use Rattle.indexmap.specs.IndexMap.{spare, get};
+ghost use Rattle.std.specs.Prelude.{◌≡◌, ◌==◌, [], ℕ, List, IsTrue, IsNone, OnOk, OnErr, IfSome, None};
 ghost use Rattle.staged_lookup.specs.declared.probe.Probe.TheVariants as probes;
 ghost use Rattle.std.specs.List.{find};
 ghost use Rattle.std.specs.Option.{option_map};
@@ -15,7 +14,6 @@ use crate::buckets::{Buckets, add_rank, take_rank};
 use crate::probe::{ETHERNET, METADATA, NETWORK, PORTS, Probe};
 use crate::rank::{Rank, best_of};
 use crate::stage::{Stage, Step};
-use indexmap::IndexMap;
 use masked_map::{MaskUnion, MaskedMap, PacketKey};
 use ovs_fields::{Key, Mask, ethernet_part, metadata_part, network_part};
 use rule_tables::Match;
@@ -31,8 +29,8 @@ pub struct Subtable {
     pub(crate) metadata: Stage,
     pub(crate) ethernet: Stage,
     pub(crate) network: Stage,
-    /// The keys of the rules by their numbers.
-    pub(crate) keys: IndexMap<u32, Key>,
+    /// How many rules there are.
+    pub(crate) rules: usize,
 }
 
 impl Subtable {
@@ -53,7 +51,7 @@ impl Subtable {
             metadata: Stage::new(alloc, &Mask::none(), &metadata, mask),
             ethernet: Stage::new(alloc, &metadata, &ethernet, mask),
             network: Stage::new(alloc, &ethernet, &network, mask),
-            keys: IndexMap::new(alloc),
+            rules: 0,
         }
     }
 
@@ -66,11 +64,9 @@ impl Subtable {
         ensures ok { OnOk result (AddsRule number priority matching.now self.old self.new) }
         ensures err { OnErr result (KeepsRules self.old self.new) }
     {
-        let _ = self.keys.len();
         self.metadata.reserve()?;
         self.ethernet.reserve()?;
         self.network.reserve()?;
-        self.keys.reserve(1)?;
         add_rank(
             self.alloc,
             &mut self.buckets,
@@ -80,24 +76,22 @@ impl Subtable {
         self.metadata.add(&matching.key);
         self.ethernet.add(&matching.key);
         self.network.add(&matching.key);
-        keep_key(&mut self.keys, number, matching.key);
+        self.rules += 1;
         Ok(())
     }
 
-    /// Takes the rule of a number out, which is there. It takes no memory.
-    pub fn remove(&mut self, number: u32)
-        requires { HasRule number self.old }
+    /// Takes the rule of a number out, which is there and has this key. It takes no memory.
+    pub fn remove(&mut self, number: u32, key: &Key)
+        requires { HasRule number (numbers key.now) self.old }
         ensures mask { self.new.mask ≡ self.old.mask }
         ensures removed { (rs : List Rule)
             → IsSubtableOf self.old rs → IsSubtableOf self.new (without number rs) }
     {
-        let Some(key) = self.keys.swap_remove(&number) else {
-            unreachable!()
-        };
-        take_rank(&mut self.buckets, &key, number);
-        self.metadata.take(&key);
-        self.ethernet.take(&key);
-        self.network.take(&key);
+        take_rank(&mut self.buckets, key, number);
+        self.metadata.take(key);
+        self.ethernet.take(key);
+        self.network.take(key);
+        self.rules -= 1;
     }
 
     /// The first stage on which no rule agrees with a key, or the rule that wins of those that it matches. It takes no
@@ -126,7 +120,7 @@ impl Subtable {
             → (rs : List Rule) → IsSubtableOf self.now rs
             → PassesTo network_stage (bits self.now.mask) (numbers key.now.key.now) rs }
     {
-        if self.keys.is_empty() {
+        if self.rules == 0 {
             return Some(Probe::Ended { stage: METADATA });
         }
         match self.metadata.step(key) {
@@ -196,7 +190,7 @@ impl Subtable {
     pub fn is_empty(&self) -> bool
         ensures { IsTrue result → (rs : List Rule) → IsSubtableOf self.now rs → rs ≡ [] }
     {
-        self.keys.is_empty()
+        self.rules == 0
     }
 
     /// The best rank of the rules that a key matches.
@@ -210,17 +204,6 @@ impl Subtable {
             None => None,
         }
     }
-}
-
-/// Keeps the key of a rule by its number, for which there is room.
-fn keep_key(keys: &mut IndexMap<u32, Key>, number: u32, key: Key)
-    requires { 0 < spare keys.old }
-    ensures { (n : ℕ)
-        → get nat_eq keys.new n ≡ (if number == n then Some key else get nat_eq keys.old n) }
-{
-    let Ok(_) = keys.insert(number, key) else {
-        unreachable!()
-    };
 }
 
 /// The number of the first rank of a priority.

@@ -1,5 +1,5 @@
 -- A subtable, and the rules of its mask.
-use Rattle.std.specs.Prelude.{List}
+use Rattle.std.specs.Prelude.{ℕ, List}
 use Rattle.spec_tables.specs.Rules.{Rule}
 use Rattle.ovs_fields.specs.Packed.{bits}
 use Rattle.staged_lookup.specs.declared.rank.Rank.{Rank}
@@ -13,7 +13,7 @@ pub record IsSubtableOf (s : Subtable) (rs : List Rule) : Type 0 where
   pub staged : lookup.IsSubtableOf s.staged rs
   pub indexed : AreIndexes s.indexes (bits s.staged.mask) rs
 
--- it has a rule of this rank
-pub record Holds (s : Subtable) (rank : Rank) : Type 0 where
-  pub staged : HasRule rank.number s.staged
+-- it has a rule of this rank and this key
+pub record Holds (s : Subtable) (rank : Rank) (key : List ℕ) : Type 0 where
+  pub staged : HasRule rank.number key s.staged
   pub indexed : HavePriority rank.priority s.indexes

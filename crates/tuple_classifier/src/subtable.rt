@@ -1,7 +1,7 @@
 ghost use Rattle.std.specs.Prelude.{◌≡◌, [], List, IsTrue, OnOk, OnErr};
 ghost use Rattle.spec_keys.specs.Keys.{same};
 ghost use Rattle.spec_tables.specs.Rules.{Rule};
-ghost use Rattle.ovs_fields.specs.Packed.{bits};
+ghost use Rattle.ovs_fields.specs.Packed.{numbers, bits};
 ghost use Rattle.staged_lookup.specs.Numbered.{without};
 ghost use Rattle.staged_lookup.specs.Ranks.{rank_of};
 ghost use Rattle.staged_lookup.specs.Subtables.{HasNoRule};
@@ -10,7 +10,7 @@ ghost use Rattle.tuple_classifier.specs.Updates.{KeepsRules, AddsRule};
 
 use crate::indexes::Indexes;
 use indexmap::IndexMap;
-use ovs_fields::Mask;
+use ovs_fields::{Key, Mask};
 use rule_tables::Match;
 use staged_lookup::Rank;
 use std::alloc::{AllocError, Global};
@@ -55,14 +55,14 @@ impl Subtable {
         Ok(())
     }
 
-    /// Takes a rule of the mask out. It takes no memory.
-    pub(crate) fn take(&mut self, rank: Rank)
-        requires { Holds self.old rank }
+    /// Takes a rule of the mask out, which has this key. It takes no memory.
+    pub(crate) fn take(&mut self, key: &Key, rank: Rank)
+        requires { Holds self.old rank (numbers key.now) }
         ensures mask { self.new.staged.mask ≡ self.old.staged.mask }
         ensures taken { (rs : List Rule) (r : Rule) → IsSubtableOf self.old rs
             → Among r rs → rank_of r ≡ rank → IsSubtableOf self.new (without r.number rs) }
     {
-        self.staged.remove(rank.number);
+        self.staged.remove(rank.number, key);
         self.indexes.take(rank.priority);
     }
 

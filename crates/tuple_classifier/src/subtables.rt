@@ -2,7 +2,7 @@ ghost use Rattle.std.specs.Prelude.{◌≡◌, ◌<◌, [], ◌∷◌, ◌++◌,
 ghost use Rattle.indexmap.specs.IndexMap.{values, index_map_len, get_by};
 ghost use Rattle.spec_keys.specs.Keys.{same};
 ghost use Rattle.spec_tables.specs.Rules.{Rule};
-ghost use Rattle.ovs_fields.specs.Packed.{bits};
+ghost use Rattle.ovs_fields.specs.Packed.{numbers, bits};
 ghost use Rattle.staged_lookup.specs.Subtables.{HasNoRule};
 ghost use Rattle.tuple_classifier.specs.Order.{IsFallingBut};
 ghost use Rattle.tuple_classifier.specs.Parts.{AreSubtablesOf, IsSubtableOfOne, HasMaskAt, LacksMask, IsEmptyAt};
@@ -14,7 +14,7 @@ ghost use Rattle.tuple_classifier.specs.declared.subtable.Subtable.{Subtable};
 use crate::order::{enter, leave, settle};
 use crate::subtable::{ByMask, Subtable};
 use indexmap::IndexMap;
-use ovs_fields::Mask;
+use ovs_fields::{Key, Mask};
 use rule_tables::Match;
 use staged_lookup::Rank;
 use std::alloc::{AllocError, Global};
@@ -113,22 +113,24 @@ impl Subtables {
     /// Takes a rule out, and its mask with the last rule. It takes no memory.
     pub(crate) fn take(&mut self, matching: &Match, rank: Rank)
         requires { (i : ℕ) (s : Subtable) → slice_get (by_place self.old) i ≡ Some s
-            → same (bits s.staged.mask) (bits matching.now.mask) ≡ true → Holds s rank }
+            → same (bits s.staged.mask) (bits matching.now.mask) ≡ true
+            → Holds s rank (numbers matching.now.key) }
         ensures { TakesRule matching.now rank (AreKeptOf self.old) (AreKeptOf self.new) }
     {
         if let Some(place) = place_of_mask(&self.by_mask, &matching.mask) {
-            self.take_at(place, rank);
+            self.take_at(place, &matching.key, rank);
         }
     }
 
     /// Takes a rule of the mask of the subtable at a place out, and the subtable with its last rule.
-    fn take_at(&mut self, place: usize, rank: Rank)
+    fn take_at(&mut self, place: usize, key: &Key, rank: Rank)
         requires within { place < index_map_len self.old.by_mask }
-        requires holds { (s : Subtable) → slice_get (by_place self.old) place ≡ Some s → Holds s rank }
+        requires holds { (s : Subtable) → slice_get (by_place self.old) place ≡ Some s
+            → Holds s rank (numbers key.now) }
         ensures { TakesRuleAt place rank self.old self.new }
     {
         let before = self.by_mask[place].indexes.greatest();
-        self.by_mask[place].take(rank);
+        self.by_mask[place].take(key, rank);
         if self.by_mask[place].is_empty() {
             self.drop_at(place);
         } else {

@@ -10,4 +10,4 @@ insert-requires-clause-mask g c = same_from_equal _ _ c.requires.mask
 pub remove-requires : goal.remove-requires
 remove-requires g c =
     let r : Rule = record { number = 7; table = 0; priority = 100; cookie = 0; matching = match_view c.args.matching.now; actions = [] } in
-    (r ∷ [], c.in_ok-insert.ensures.ok [] r c.requires.empty refl refl refl, (r, inl refl, refl))
+    (r ∷ [], c.in_ok-insert.ensures.ok [] r c.requires.empty refl refl refl, (r, inl refl, refl, refl))

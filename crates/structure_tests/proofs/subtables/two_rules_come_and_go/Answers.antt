@@ -28,11 +28,11 @@ pub remove-requires : goal.remove-requires
 remove-requires g c =
     let m = match_view c.args.matching.now in
     let one = c.in_ok-insert.ensures.ok [] (rule 7 100 m) c.requires.empty refl refl refl in
-    (rule 7 100 m ∷ rule 8 200 m ∷ [], c.in_ok-insert-2.ensures.ok (rule 7 100 m ∷ []) (rule 8 200 m) one refl refl refl, (rule 8 200 m, inr (inl refl), refl))
+    (rule 7 100 m ∷ rule 8 200 m ∷ [], c.in_ok-insert-2.ensures.ok (rule 7 100 m ∷ []) (rule 8 200 m) one refl refl refl, (rule 8 200 m, inr (inl refl), refl, refl))
 
 pub remove-requires-2 : goal.remove-requires-2
 remove-requires-2 g c =
     let m = match_view c.args.matching.now in
     let one = c.in_ok-insert.ensures.ok [] (rule 7 100 m) c.requires.empty refl refl refl in
     let two = c.in_ok-insert-2.ensures.ok (rule 7 100 m ∷ []) (rule 8 200 m) one refl refl refl in
-    (rule 7 100 m ∷ [], c.remove.ensures.removed (rule 7 100 m ∷ rule 8 200 m ∷ []) two, (rule 7 100 m, inl refl, refl))
+    (rule 7 100 m ∷ [], c.remove.ensures.removed (rule 7 100 m ∷ rule 8 200 m ∷ []) two, (rule 7 100 m, inl refl, refl, refl))
