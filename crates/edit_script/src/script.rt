@@ -138,7 +138,8 @@ fn with_bundle(alloc: Global, mut kept: Kept) -> Result<Kept, FileFault>
     }
     let through = kept.said.edits.len() as u32;
     kept.said.bundles.push(through)?;
-    let bundle = mem::replace(&mut kept.pending, Vec::new(alloc));
+    // Most bundles are one edit, so that the next one gets no more room than this takes.
+    let bundle = mem::replace(&mut kept.pending, Vec::with_capacity(alloc, 1)?);
     apply_bundle(&mut kept.rules, bundle)?;
     Ok(kept)
 }
